@@ -1,0 +1,34 @@
+#!/usr/bin/env bash
+# Instructions that one call of the players takes, with 12 and with 1,200 players, and the second as a ratio of the
+# first. It counts with valgrind's callgrind: the difference between no call and many. Of `add` it is the mean over all
+# players of a new table, each of which goes before those that are there.
+# usage: bench/players.sh [TIMES]
+set -euo pipefail
+top=$(cd "$(dirname "${BASH_SOURCE[0]}")/.." && pwd)
+times=${1:-500}
+program=$top/crates/bench_players/out/bench_players
+if [ ! -x "$program" ]; then
+  echo "players.sh: proving and building the program first" >&2
+  (cd "$top/crates/bench_players" && rt run -- 12 get 0) >&2
+fi
+
+# The instructions of a whole run.
+instructions() {
+  valgrind --tool=callgrind --callgrind-out-file=/dev/null "$program" "$@" 2>&1 >/dev/null | sed -n 's/.*Collected : //p'
+}
+
+# The instructions of one call with so many players.
+per_call() {
+  local turns=$times
+  if [ "$2" = add ]; then turns=4; fi
+  local each=$(( ($(instructions "$1" "$2" "$turns") - $(instructions "$1" "$2" 0)) / turns ))
+  if [ "$2" = add ]; then each=$((each / $1)); fi
+  echo "$each"
+}
+
+printf '%-12s %12s %12s %8s\n' call '12 players' '1200 players' ratio
+for call in get at set_price set_club add; do
+  few=$(per_call 12 "$call")
+  many=$(per_call 1200 "$call")
+  printf '%-12s %12d %12d %8.2f\n' "$call" "$few" "$many" "$(awk "BEGIN { print $many / $few }")"
+done

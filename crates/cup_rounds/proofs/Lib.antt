@@ -1,0 +1,3 @@
+pub mod CupTests
+pub mod RoundCases
+pub mod WinnerLemmas

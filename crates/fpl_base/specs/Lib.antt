@@ -1,0 +1,5 @@
+pub mod Causes
+pub mod Doors
+pub mod Letters
+pub mod RuleNumbers
+pub mod Texts

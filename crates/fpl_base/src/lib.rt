@@ -1,0 +1,32 @@
+//! The types that every crate of the season host shares, and the traits of what is outside of it.
+#![tactic(auto)]
+
+mod amounts;
+mod forms;
+mod ids;
+mod kinds;
+mod memory;
+mod number;
+mod outside;
+mod real;
+mod records;
+mod rule;
+mod steps;
+mod text;
+
+pub use amounts::{Gw, Moment, Tenths};
+pub use forms::{FaultySink, FaultySource, MemorySource, Plan, Quiet, QuietSink};
+pub use ids::{ClubId, CupId, EntryId, FixtureId, LeagueId, PlayerId};
+pub use kinds::{Caller, Chip, Position, Profile};
+pub use memory::{Memory, Refused};
+pub use number::read_number;
+pub use outside::{Clock, Doors, Failed, Keeper, Shelf, Sink, Source};
+pub use real::{Reading, Writing};
+pub use records::{Bytes, Op, RecordKey};
+pub use rule::Rule;
+pub use steps::Steps;
+
+#[cfg(test)]
+mod tests;
+
+pub use text::{Code, Key, Name, Text};

@@ -1,0 +1,87 @@
+// What is outside of the program: each by what it tells, if it tells it, and by a count of its faults.
+ghost use Rattle.std.specs.Prelude.{◌≡◌, ◌<◌, ℕ, List, Option, length, IfSome, IfOk, OnOk, OnErr};
+ghost use Rattle.std.specs.Io.{ReadsAtMost};
+ghost use Rattle.std.specs.Io.KnownBytes.{Appends, ReadConsumes};
+ghost use Rattle.fpl_base.specs.Causes.{HasCause, AppendsFront};
+ghost use Rattle.fpl_base.specs.Doors.{Ended, Opens, GivesBack};
+
+/// A call to the outside failed.
+#[derive(Clone, Copy, Debug, PartialEq, Eq)]
+pub struct Failed;
+
+/// Where bytes come from.
+pub trait Source {
+    /// The bytes that are left, if it tells them.
+    ghost left: { Self → Option (List ℕ) };
+
+    /// How often it failed, up to the last value of a `u64`.
+    ghost faults: { Self → ℕ };
+
+    /// Reads into the front of `into`. `Ok(0)` for a place that is not empty is the end of the input, and a failed
+    /// read takes nothing.
+    fn read(&mut self, into: &mut [u8]) -> Result<usize, Failed>
+        ensures bound { ReadsAtMost result into.new }
+        ensures bytes { ReadConsumes (left self.old) (left self.new) result into.new }
+        ensures cause { HasCause (faults self.old) (faults self.new) result };
+}
+
+/// Where bytes go.
+pub trait Sink {
+    /// The bytes that were taken, if it tells them.
+    ghost taken: { Self → Option (List ℕ) };
+
+    /// How often it failed, up to the last value of a `u64`.
+    ghost faults: { Self → ℕ };
+
+    /// Takes all of the bytes at `Ok`, and a front of them where it failed.
+    fn write(&mut self, bytes: &[u8]) -> Result<(), Failed>
+        ensures ok { OnOk result (Appends (taken self.old) (taken self.new) bytes.now) }
+        ensures failed { OnErr result (AppendsFront (taken self.old) (taken self.new) bytes.now) }
+        ensures cause { HasCause (faults self.old) (faults self.new) result };
+}
+
+/// What tells the moment.
+pub trait Clock {}
+
+/// What keeps the records.
+pub trait Keeper {
+    /// How often it failed, up to the last value of a `u64`.
+    ghost faults: { Self → ℕ };
+}
+
+/// What takes connections.
+pub trait Doors {
+    type In: Source;
+
+    type Out: Sink;
+
+    /// The connections still to come, each as the bytes of its source, if it tells them.
+    ghost coming: { Self → Option (List (List ℕ)) };
+
+    /// The connections that were given back, if it tells them.
+    ghost given_back: { Self → Option (List Ended) };
+
+    /// How often it failed, up to the last value of a `u64`.
+    ghost faults: { Self → ℕ };
+
+    /// The next connection. Its counts of faults are 0.
+    fn next(&mut self) -> Result<(Self::In, Self::Out), Failed>
+        requires { IfSome (coming self.old) (λ all. 0 < length all) }
+        ensures opened { IfOk result (λ ends. Opens (coming self.old) (coming self.new) (Self.In.left ends.0) (Self.Out.taken ends.1)) }
+        ensures counts { IfOk result (λ ends. (Self.In.faults ends.0 ≡ 0) × (Self.Out.faults ends.1 ≡ 0)) }
+        ensures kept { OnErr result (coming self.new ≡ coming self.old) }
+        ensures back { given_back self.new ≡ given_back self.old }
+        ensures cause { HasCause (faults self.old) (faults self.new) result };
+
+    /// Gives a connection back that has ended.
+    fn give_back(&mut self, source: Self::In, sink: Self::Out)
+        ensures back { GivesBack (given_back self.old) (given_back self.new) (record { left = Self.In.left source; taken = Self.Out.taken sink; read_faults = Self.In.faults source; write_faults = Self.Out.faults sink }) }
+        ensures coming { coming self.new ≡ coming self.old }
+        ensures faults { faults self.new ≡ faults self.old };
+}
+
+/// What holds files.
+pub trait Shelf {
+    /// How often it failed, up to the last value of a `u64`.
+    ghost faults: { Self → ℕ };
+}

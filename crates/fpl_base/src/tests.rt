@@ -1,0 +1,138 @@
+use crate::{
+    Bytes, ClubId, Code, FaultySink, FaultySource, Gw, Key, MemorySource, Moment, Name, Plan,
+    PlayerId, Position, QuietSink, Reading, Sink, Source, Tenths, Text, Writing, read_number,
+};
+use std::alloc::Global;
+use std::test::Fail;
+
+#[test]
+fn numbers_have_their_ranges(rt: HostRuntime) {
+    assert!(rt; ClubId::new(0).is_none() && ClubId::new(255).is_some());
+    assert!(rt; PlayerId::new(0).is_none() && PlayerId::new(999_999).is_some());
+    assert!(rt; PlayerId::new(1_000_000).is_none());
+    assert!(rt; Gw::new(38).is_some() && Gw::new(39).is_none());
+    assert!(rt; Tenths::new(10_000_000).is_some() && Tenths::new(10_000_001).is_none());
+    assert!(rt; Moment::new(253_402_300_799).is_some());
+    assert!(rt; Moment::new(253_402_300_800).is_none());
+}
+
+#[test]
+fn numbers_are_read(rt: HostRuntime) {
+    for (text, greatest, wanted) in [
+        ("0", 9, Some(0)),
+        ("9", 9, Some(9)),
+        ("10", 9, None),
+        ("007", 9, None),
+        ("+7", 9, None),
+        ("-7", 9, None),
+        ("", 9, None),
+        ("7x", 99, None),
+        ("18446744073709551615", u64::MAX, Some(u64::MAX)),
+        ("18446744073709551616", u64::MAX, None),
+    ] {
+        assert_eq!(rt; read_number(text.as_bytes(), greatest), wanted);
+    }
+}
+
+fn is_name(alloc: Global, bytes: &[u8]) -> Result<bool, Fail> {
+    match Name::new(alloc, bytes)? {
+        Some(name) => Ok(name.bytes() == bytes),
+        None => Ok(false),
+    }
+}
+
+fn is_key(alloc: Global, bytes: &[u8]) -> Result<bool, Fail> {
+    match Key::new(alloc, bytes)? {
+        Some(key) => Ok(key.bytes() == bytes),
+        None => Ok(false),
+    }
+}
+
+fn is_code(alloc: Global, bytes: &[u8]) -> Result<bool, Fail> {
+    match Code::new(alloc, bytes)? {
+        Some(code) => Ok(code.bytes() == bytes),
+        None => Ok(false),
+    }
+}
+
+#[test]
+fn texts_are_read(rt: HostRuntime) -> Result<(), Fail> {
+    let alloc = rt.alloc();
+    assert!(rt; is_name(alloc, b"Arsenal")?);
+    assert!(rt; is_name(alloc, "Bj\u{f6}rn".as_bytes())?);
+    assert!(rt; is_name(alloc, &[b'n'; 64])?);
+    assert!(rt; !is_name(alloc, &[b'n'; 65])?);
+    assert!(rt; !is_name(alloc, b"")?);
+    assert!(rt; !is_name(alloc, b"a\nb")?);
+    assert!(rt; !is_name(alloc, &[b'a', 127])?);
+    assert!(rt; !is_name(alloc, &[b'a', 255])?);
+    assert!(rt; is_key(alloc, b"operator1")?);
+    assert!(rt; !is_key(alloc, b"operato")?);
+    assert!(rt; !is_key(alloc, b"Operator1")?);
+    assert!(rt; is_code(alloc, b"all1")?);
+    assert!(rt; !is_code(alloc, b"all")?);
+    assert!(rt; Text::new(alloc, "score")?.text() == "score");
+    Ok(())
+}
+
+#[test]
+fn positions_have_letters(rt: HostRuntime) {
+    for position in [
+        Position::Keeper,
+        Position::Defender,
+        Position::Midfielder,
+        Position::Forward,
+    ] {
+        assert_eq!(rt;
+            Position::from_letter(position.letter().as_bytes()),
+            Some(position)
+        );
+    }
+    assert_eq!(rt; Position::from_letter(b"K"), None);
+}
+
+#[test]
+fn lists_of_bytes_grow(rt: HostRuntime) -> Result<(), Fail> {
+    let mut bytes = Bytes::new(rt.alloc());
+    bytes.push(7)?;
+    bytes.push(9)?;
+    assert!(rt; bytes.as_slice() == [7, 9].as_slice());
+    assert!(rt; bytes.copy()?.as_slice() == [7, 9].as_slice());
+    Ok(())
+}
+
+// What a source of three pieces gives, call by call.
+fn counts<S: Source>(source: &mut S) -> [Option<usize>; 4] {
+    let mut place = [0; 8];
+    let first = source.read(&mut place).ok();
+    let second = source.read(&mut place).ok();
+    let third = source.read(&mut place).ok();
+    [first, second, third, source.read(&mut place).ok()]
+}
+
+#[test]
+fn sources_give_their_bytes(rt: HostRuntime) -> Result<(), Fail> {
+    let alloc = rt.alloc();
+    let mut quiet = MemorySource::new(b"abcde", 2);
+    assert_eq!(rt; counts(&mut quiet), [Some(2), Some(2), Some(1), Some(0)]);
+    let mut faulty = FaultySource::new(b"abcde", 4, Plan::new(vec![in alloc; 2]?));
+    assert_eq!(rt; counts(&mut faulty), [Some(4), None, Some(1), Some(0)]);
+    let mut reading = Reading::new(b"abcde".as_slice());
+    assert_eq!(rt; counts(&mut reading), [Some(5), Some(0), Some(0), Some(0)]);
+    Ok(())
+}
+
+#[test]
+fn sinks_take_bytes(rt: HostRuntime) -> Result<(), Fail> {
+    let alloc = rt.alloc();
+    let mut sink = FaultySink::new(alloc, 5, Plan::new(vec![in alloc; 2]?))?;
+    assert!(rt; sink.write(b"ab").is_ok());
+    assert!(rt; sink.write(b"cd").is_err());
+    assert!(rt; sink.write(b"efgh").is_err());
+    assert!(rt; sink.bytes() == b"abefg".as_slice());
+    assert!(rt; QuietSink.write(b"ab").is_ok());
+    let mut all = Vec::new(alloc);
+    let mut writing = Writing::new(&mut all);
+    assert!(rt; writing.write(b"ab").is_ok());
+    Ok(())
+}

@@ -1,0 +1,10 @@
+ghost use Rattle.fpl_host.specs.Laws.{OneScoreDue};
+
+use score_sheet::input_scores_once;
+
+/// For the bytes of a match one status and one text are due.
+pub fn one_score_is_due()
+    ensures { OneScoreDue }
+{
+    input_scores_once();
+}

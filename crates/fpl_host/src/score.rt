@@ -1,0 +1,78 @@
+// The command that scores one match.
+ghost use Rattle.std.specs.Prelude.{◌≡◌, ◌≤◌, ◌<◌, ◌⊎◌, ℕ, List, IfOk, OnErr, IfSome, length, string_bytes};
+ghost use Rattle.std.specs.Io.KnownBytes.{IsAtEnd};
+ghost use Rattle.fpl_base.specs.Causes.{Rose};
+ghost use Rattle.fpl_host.specs.Run.{IsScoreDue, row_text};
+ghost use Rattle.score_sheet.specs.Sheets.{HasWrongRow};
+
+use crate::input::{InputFault, read_all};
+use crate::status::{DONE, TOO_LONG, WRONG_ROW};
+use fpl_base::{Memory, Source};
+use score_sheet::{SheetFault, score_sheet};
+use std::alloc::{AllocError, Global};
+
+/// What is due to the output, and the status behind it.
+#[derive(Drop)]
+pub struct Due {
+    pub status: u8,
+    pub text: String,
+}
+
+/// Why nothing is due.
+#[derive(Clone, Copy, Debug, PartialEq, Eq)]
+pub enum Halt {
+    Read,
+    Memory,
+}
+
+impl From<Memory> for Halt {
+    ghost use Rattle.std.specs.Prelude.{◌≡◌};
+    ghost use Rattle.fpl_host.specs.declared.score.Halt.TheVariants as halt;
+
+    ghost from_gives = { λ _ e. e ≡ halt.Memory };
+
+    fn from(_: Memory) -> Self {
+        Halt::Memory
+    }
+}
+
+/// What is due for the match whose rows are the input.
+pub fn score_due<S: Source>(alloc: Global, input: &mut S) -> Result<Due, Halt>
+    ensures due { IfOk result (λ due. IfSome (S.left input.old) (λ bytes. IsScoreDue bytes due.status (string_bytes due.text))) }
+    ensures end { IfOk result (λ due. due.status ≡ 0 → IsAtEnd (S.left input.new)) }
+    ensures statuses { IfOk result (λ due. (due.status ≡ 0) ⊎ (due.status ≡ 11) ⊎ (due.status ≡ 10)) }
+    ensures read { result ≡ Err Halt.Read → Rose (S.faults input.old) (S.faults input.new) }
+    ensures later { S.faults input.old ≤ S.faults input.new }
+{
+    match read_all(alloc, input) {
+        Ok(bytes) => Ok(sheet_due(alloc, bytes.as_slice())?),
+        Err(InputFault::Read) => Err(Halt::Read),
+        Err(InputFault::Long) => Ok(Due {
+            status: TOO_LONG,
+            text: String::new(alloc),
+        }),
+        Err(InputFault::Memory) => Err(Halt::Memory),
+    }
+}
+
+// What is due for these bytes, which are not too many.
+fn sheet_due(alloc: Global, bytes: &[u8]) -> Result<Due, Memory>
+    requires { length bytes.now ≤ 65536 }
+    ensures due { IfOk result (λ due. IsScoreDue bytes.now due.status (string_bytes due.text)) }
+    ensures statuses { IfOk result (λ due. (due.status ≡ 0) ⊎ (due.status ≡ 11)) }
+{
+    match score_sheet(alloc, bytes) {
+        Ok(text) => Ok(Due { status: DONE, text }),
+        Err(SheetFault::Row(place)) => Ok(Due {
+            status: WRONG_ROW,
+            text: row_line(alloc, place)?,
+        }),
+        Err(SheetFault::Memory) => Err(Memory),
+    }
+}
+
+fn row_line(alloc: Global, place: usize) -> Result<String, AllocError>
+    ensures { IfOk result (λ text. string_bytes text ≡ row_text place) }
+{
+    format!(in alloc; "row {place}\n")
+}

@@ -1,0 +1,8 @@
+pub mod LinesLemmas
+pub mod FieldsLemmas
+pub mod StreamLemmas
+pub mod PartsLemmas
+pub mod StoredLemmas
+pub mod HeldLemmas
+pub mod ResponsesLemmas
+pub mod PiecesLemmas

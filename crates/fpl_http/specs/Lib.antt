@@ -1,0 +1,11 @@
+pub mod Head
+pub mod Fields
+pub mod Lines
+pub mod Stream
+pub mod Parts
+pub mod Stored
+pub mod Held
+pub mod Seen
+pub mod Responses
+pub mod Laws
+pub mod Pieces

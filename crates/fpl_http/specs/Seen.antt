@@ -1,0 +1,14 @@
+-- what a message that borrows its bytes says
+use Rattle.std.specs.Prelude.{option_map}
+use Rattle.fpl_http.specs.declared.decoder.Message.{Message}
+use Rattle.fpl_http.specs.Stream.{Request}
+
+-- the bytes of its parts
+abbrev pub request_seen : Message → Request
+request_seen m = record {
+  method = m.method.now;
+  target = m.target.now;
+  key = option_map (λ k. k.now) m.key;
+  body = m.body.now;
+  closes = m.closes;
+}

@@ -1,0 +1,20 @@
+//! The messages of a byte stream as HTTP/1.1, however it is cut, and the bytes of a response.
+#![tactic(auto)]
+
+mod buffer;
+mod decoder;
+mod fields;
+mod head;
+mod laws;
+mod length;
+mod lines;
+mod pieces;
+mod responses;
+
+pub use decoder::{Decoder, Message, Next};
+pub use laws::{fronts_stay, two_readings_are_one};
+pub use pieces::{OwnedMessage, StreamEnd, Transcript, read_pieces};
+pub use responses::{memory_response, response};
+
+#[cfg(test)]
+mod tests;

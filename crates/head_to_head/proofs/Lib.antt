@@ -1,0 +1,4 @@
+pub mod DrawLemmas
+pub mod MatchLemmas
+pub mod RoundLemmas
+pub mod StandingLemmas

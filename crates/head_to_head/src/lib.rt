@@ -1,0 +1,18 @@
+//! Head-to-head leagues: the draw, who meets whom, and the table.
+#![tactic(auto)]
+
+mod draw;
+mod head_table;
+mod laws;
+mod matches;
+mod rounds;
+
+pub use draw::check_order;
+pub use head_table::table;
+pub use laws::{each_meets_one, meet_once, points_by_results};
+pub use matches::{average, result};
+pub use rounds::opponent;
+pub use rule_book::{HeadRanked, HeadScore, Opponent};
+
+#[cfg(test)]
+mod tests;

@@ -1,0 +1,15 @@
+//! What a player's line in a match is worth: its points, its number in the bonus points system, and the bonus of the
+//! match. No call takes memory.
+#![tactic(auto)]
+
+mod bonus_points;
+mod figures;
+mod points;
+mod ranking;
+
+pub use bonus_points::bps;
+pub use points::line_points;
+pub use ranking::bonus;
+
+#[cfg(test)]
+mod tests;

@@ -1,0 +1,7 @@
+pub mod Entries
+pub mod Lined
+pub mod Batched
+pub mod Firsts
+pub mod Keys
+pub mod Absent
+pub mod Changed

@@ -1,0 +1,6 @@
+use Rattle.std.proofs.Common.{◌≡◌, ◌+◌, ◌*◌, ◌≤◌, length, take, drop}
+use Rattle.manager_book.specs.Calls.{cost_of}
+use Rattle.manager_book.proofs.register.cost_of.Given as goal
+
+abbrev pub invariant-picks : goal.invariant-picks
+invariant-picks l = (l.sum + cost_of (drop l.pick-index l.picks) ≡ cost_of l.picks) × (l.sum ≤ 10000000 * l.pick-index)

@@ -1,0 +1,58 @@
+-- The entries of a season, in the order of issue.
+use Rattle.std.specs.Prelude.{◌≡◌, ◌≢◌, ◌≤◌, ◌+◌, ◌-◌, ℕ, not, List, [], ◌∷◌, length, map, Option, Some, None, is_some, slice_get, slice_index_or, if◌then◌else◌, nat_lt}
+use Rattle.std.specs.Option.{option_map}
+use Rattle.std.specs.Str.{bytes_eq}
+use Rattle.fpl_base.specs.declared.kinds.Profile.{Profile}
+use Rattle.fpl_base.specs.declared.rule.Rule.{Rule}
+use Rattle.fpl_base.specs.declared.rule.Rule.TheVariants as rule
+use Rattle.rule_book.specs.Refusals.{first_broken, unless}
+use Rattle.season_ledger.specs.declared.row.Row.{Row}
+use Rattle.manager_book.specs.declared.manager.Manager.{Manager}
+
+-- by which rules the season is played, and the managers: entry 1 is the first
+pub record Managers : Type 0 where
+  pub profile : Profile
+  pub managers : List Manager
+
+-- so many entries are in a season at most
+abbrev pub most_entries : ℕ
+most_entries = 2048
+
+-- what there is of an entry that was not issued
+abbrev pub nobody : Manager
+nobody = record { key = []; name = []; season = [] }
+
+-- the manager of an entry
+abbrev pub manager_in : List Manager → ℕ → Manager
+manager_in managers e = slice_index_or managers (e - 1) nobody
+
+-- the rows of an entry: none where it was not issued
+abbrev pub season_of : Managers → ℕ → List Row
+season_of book e = (manager_in book.managers e).season
+
+-- the key and the name of an entry
+abbrev pub key_of : Managers → ℕ → Option (List ℕ)
+key_of book e = option_map (λ m. m.key) (slice_get book.managers (e - 1))
+
+abbrev pub name_of : Managers → ℕ → Option (List ℕ)
+name_of book e = option_map (λ m. m.name) (slice_get book.managers (e - 1))
+
+-- the number of the first manager with a key, counted from n on
+abbrev pub number_from : ℕ → List Manager → List ℕ → Option ℕ
+number_from n [] key = None
+number_from n (m ∷ managers) key = if bytes_eq key m.key then Some n else number_from (n + 1) managers key
+
+-- the entry with a key
+abbrev pub entry_with : Managers → List ℕ → Option ℕ
+entry_with book key = number_from 1 book.managers key
+
+-- other entries stay, and so do all keys and names and the profile
+pub record IsSameBut (e : ℕ) (old new : Managers) : Type 0 where
+  pub profile : new.profile ≡ old.profile
+  pub keys : map {B = List ℕ × List ℕ} (λ m. (m.key, m.name)) new.managers ≡ map {B = List ℕ × List ℕ} (λ m. (m.key, m.name)) old.managers
+  pub others : (d : ℕ) → 1 ≤ d → d ≢ e → season_of new d ≡ season_of old d
+
+-- why a new entry is refused: there is no room, or an entry has its key
+abbrev pub issue_refusal : Managers → List ℕ → Option Rule
+issue_refusal book key =
+    first_broken (unless (nat_lt (length book.managers) most_entries) rule.EntriesFull ∷ unless (not (is_some (entry_with book key))) rule.KeyThere ∷ [])

@@ -1,0 +1,62 @@
+// A batch of transfers.
+ghost use Rattle.std.specs.Prelude.{◌≡◌, ◌≤◌, ◌<◌, ◌+◌, ◌++◌, ℕ, List, Some, length, map, OnErr, IfOk};
+ghost use Rattle.fpl_base.specs.declared.kinds.Position.{Position};
+ghost use Rattle.rule_book.specs.Batch.{AreIncomersThere, HavePositions, sales_of, IsTeamAfter};
+ghost use Rattle.rule_book.specs.History.{Event, in_gameweek};
+ghost use Rattle.rule_book.specs.History.Deed.{Swap as Swapped};
+ghost use Rattle.rule_book.specs.Refusals.{IsJudgedOrOut};
+ghost use Rattle.season_ledger.specs.Rows.{AllUpTo, used_by};
+ghost use Rattle.season_ledger.specs.Stands.{StandsFor};
+ghost use Rattle.manager_book.specs.Calls.{team_at, limit_by, transfer_broken, Moves};
+
+use crate::chips::{is_first, waives};
+use fpl_base::{Gw, Refused, Rule};
+use player_prices::Players;
+use rule_book::Swap;
+use season_ledger::Entry;
+use transfer_book::{Sales, apply};
+
+// How many transfers the gameweek may have.
+fn limit(season: &Entry, g: Gw) -> u16
+    ensures { result ≡ limit_by season.now g }
+{
+    if is_first(season, g) {
+        return 1000;
+    }
+    if waives(season.chip(g)) { 1000 } else { 20 }
+}
+
+/// Makes a batch of transfers. It answers how many the gameweek had before, and the sales.
+pub fn transfer(
+    season: &mut Entry,
+    g: Gw,
+    players: &Players,
+    swaps: &[Swap],
+) -> Result<(u32, Sales), Refused>
+    requires later { AllUpTo g season.old }
+    requires early { g ≤ 38 }
+    requires some { 0 < length swaps.now }
+    requires few { length swaps.now ≤ 15 }
+    requires there { AreIncomersThere players.now swaps.now }
+    ensures judged { IsJudgedOrOut (transfer_broken season.old players.now swaps.now g) result }
+    ensures before { IfOk result (λ done. done.0 ≡ used_by season.old g) }
+    ensures moves { IfOk result (λ done. Moves g players.now swaps.now done.1 season.old season.new) }
+    ensures history { (position : ℕ → Position) (h : List Event) → HavePositions position players.now → StandsFor position season.old h → IfOk result (λ done. StandsFor position season.new (h ++ in_gameweek g (map Swapped done.1))) }
+    ensures err { OnErr result (season.new ≡ season.old) }
+{
+    let Some(standing) = season.standing(g) else {
+        return Err(Refused::Rule(Rule::NotRegistered));
+    };
+    let made = season.made(g);
+    if made + swaps.len() as u16 > limit(season, g) {
+        return Err(Refused::Rule(Rule::TransferLimit));
+    }
+    let (after, sales) = match apply(&standing.team, swaps, players) {
+        Ok(done) => done,
+        Err(rule) => return Err(Refused::Rule(rule)),
+    };
+    match season.transfer(g, sales.as_slice(), &after) {
+        Ok(()) => Ok((u32::from(made), sales)),
+        Err(_) => Err(Refused::Memory),
+    }
+}

@@ -1,0 +1,446 @@
+//! The entries of a season.
+ghost use Rattle.std.specs.Prelude.{◌≡◌, ◌≢◌, ◌<◌, ◌≤◌, ◌+◌, ◌++◌, ◌∷◌, ℕ, List, [], None, Some, length, OnOk, OnErr, IfOk, option_copied, slice_get, ◌-◌, map, All, IsSome, IsNone, IsTrue, ◌↔◌, IfSome};
+ghost use Rattle.fpl_base.specs.declared.kinds.Chip.TheVariants.{None as NoChip};
+ghost use Rattle.fpl_base.specs.declared.kinds.Position.{Position};
+ghost use Rattle.rule_book.specs.Batch.{HavePositions, AreIncomersThere};
+ghost use Rattle.rule_book.specs.Players.{player_of};
+ghost use Rattle.rule_book.specs.EntryRecords.{AreEntryRecords, HasRecords};
+ghost use Rattle.rule_book.specs.History.{Event, in_gameweek};
+ghost use Rattle.rule_book.specs.History.Deed.{First, Swap as Swapped, Lineup, Play, Cancel};
+ghost use Rattle.rule_book.specs.HistoryRules.{FirstTold, IsHistory};
+ghost use Rattle.rule_book.specs.HistoryTeam.{TeamTold, TeamBalances, holdings};
+ghost use Rattle.rule_book.specs.HistoryTransfers.{FreeTold, cost_at, counted_through};
+ghost use Rattle.rule_book.specs.Refusals.{IsJudged, IsJudgedOrOut};
+ghost use Rattle.season_ledger.specs.Rows.{AllUpTo, used_by, first_in, free_in, cost_by, counted_by, rows_of_records};
+ghost use Rattle.season_ledger.specs.Stands.{StandsFor};
+ghost use Rattle.manager_book.specs.Calls.{in_next, slot_of, team_at, picks_from, register_broken, transfer_broken, Moves, lineup_broken, play_broken, cancel_broken};
+ghost use Rattle.manager_book.specs.Managers.{Managers, IsSameBut, season_of, key_of, name_of, entry_with, issue_refusal};
+
+use crate::batch::transfer;
+use crate::chips::{cancel, play};
+use crate::lineup::line_up;
+use crate::manager::Manager;
+use crate::register::register;
+use fpl_base::{Chip, EntryId, Gw, Key, Memory, Name, PlayerId, Profile, Refused, Rule, Steps};
+use player_prices::Players;
+use rule_book::{Sale, Swap, Team};
+use season_ledger::Entry;
+use std::alloc::Global;
+use std::collections::BTreeMap;
+use std::marker::Model;
+use std::sync::ledger::Ledger;
+use transfer_book::Sales;
+
+// So many entries are in a season at most.
+const MOST_ENTRIES: usize = 2048;
+
+/// The entries of a season, numbered from 1 in the order of issue, at most 2,048. An entry is registered once its first
+/// squad was accepted.
+#[derive(Drop)]
+pub struct ManagerBook {
+    alloc: Global,
+    profile: Profile,
+    managers: Vec<Manager>,
+    numbers: BTreeMap<Vec<u8>, u32>,
+}
+
+impl Model for ManagerBook {
+    ghost use Rattle.manager_book.specs.Managers.{Managers};
+    ghost use Rattle.manager_book.specs.Indexed.{IsIndexed};
+
+    ghost Value = { Managers };
+
+    ghost view = { λ b. record { profile = b.profile; managers = b.managers.items } };
+
+    ghost invariant = { λ b. IsIndexed b.numbers b.managers.items };
+}
+
+fn copied(alloc: Global, bytes: &[u8]) -> Result<Vec<u8>, Memory>
+    ensures { IfOk result (λ v. v.items ≡ bytes.now) }
+{
+    let mut copy = Vec::new(alloc);
+    if copy.extend_from_slice(bytes).is_err() {
+        return Err(Memory);
+    }
+    Ok(copy)
+}
+
+impl ManagerBook {
+    /// A season without entries, played by the rules of a profile.
+    pub fn new(alloc: Global, profile: Profile) -> Self
+        ensures { result ≡ record { profile = profile; managers = [] } }
+    {
+        ManagerBook {
+            alloc,
+            profile,
+            managers: Vec::new(alloc),
+            numbers: BTreeMap::new(alloc),
+        }
+    }
+
+    /// How many entries there are.
+    pub fn entries(&self) -> u32
+        ensures count { result ≡ length self.now.managers }
+        ensures most { result ≤ 2048 }
+    {
+        self.managers.len() as u32
+    }
+
+    /// The entry with a key, if one has it.
+    pub fn entry_of(&self, key: &Key) -> Option<EntryId>
+        ensures { result ≡ entry_with self.now key.now }
+    {
+        match self.numbers.get(key.bytes()) {
+            Some(number) => EntryId::new(*number),
+            None => None,
+        }
+    }
+
+    // The manager of an entry.
+    fn manager(&self, e: EntryId) -> Option<&Manager>
+        ensures { option_copied result ≡ slice_get self.now.managers (e - 1) }
+    {
+        self.managers.get(e.get() as usize - 1)
+    }
+
+    /// The key of an entry; None where it was not issued.
+    pub fn key(&self, e: EntryId) -> Option<&Key>
+        ensures { option_copied result ≡ key_of self.now e }
+    {
+        match self.manager(e) {
+            Some(manager) => Some(&manager.key),
+            None => None,
+        }
+    }
+
+    /// The name of an entry's manager; None where it was not issued.
+    pub fn name(&self, e: EntryId) -> Option<&Name>
+        ensures { option_copied result ≡ name_of self.now e }
+    {
+        match self.manager(e) {
+            Some(manager) => Some(&manager.name),
+            None => None,
+        }
+    }
+
+    // The season of an entry; None where it was not issued.
+    fn season(&self, e: EntryId) -> Option<&Entry>
+        ensures there { IfSome result (λ season. season.now ≡ season_of self.now e) }
+        ensures none { IsNone result → season_of self.now e ≡ [] }
+    {
+        match self.manager(e) {
+            Some(manager) => Some(&manager.season),
+            None => None,
+        }
+    }
+
+    // An entry's team in a gameweek.
+    fn team_in(&self, e: EntryId, g: Gw) -> Option<Team>
+        ensures rows { result ≡ team_at (season_of self.now e) g }
+        ensures history { (position : ℕ → Position) (h : List Event) → StandsFor position (season_of self.now e) h → TeamTold position h g result }
+        ensures laws { (position : ℕ → Position) (h : List Event) → StandsFor position (season_of self.now e) h → TeamBalances h g result }
+    {
+        match self.season(e) {
+            Some(season) => season.team(g),
+            None => None,
+        }
+    }
+
+    // An entry's free transfers in a gameweek.
+    fn free_in(&self, e: EntryId, g: Gw) -> Option<u8>
+        ensures rows { result ≡ free_in self.now.profile (season_of self.now e) g }
+        ensures history { (position : ℕ → Position) (h : List Event) → StandsFor position (season_of self.now e) h → FreeTold self.now.profile h g result }
+    {
+        let profile = self.profile;
+        match self.season(e) {
+            Some(season) => season.free(profile, g),
+            None => None,
+        }
+    }
+
+    // The points that an entry's transfers of a gameweek cost.
+    fn cost_in(&self, e: EntryId, g: Gw) -> u32
+        ensures rows { result ≡ cost_by self.now.profile (season_of self.now e) g }
+        ensures history { (position : ℕ → Position) (h : List Event) → StandsFor position (season_of self.now e) h → result ≡ cost_at self.now.profile h g }
+    {
+        let profile = self.profile;
+        match self.season(e) {
+            Some(season) => season.cost(profile, g),
+            None => 0,
+        }
+    }
+
+    // An entry's transfers that a table counts.
+    fn counted_in(&self, e: EntryId, through: u8) -> u32
+        ensures rows { result ≡ counted_by (season_of self.now e) through }
+        ensures history { (position : ℕ → Position) (h : List Event) → StandsFor position (season_of self.now e) h → result ≡ counted_through h through }
+    {
+        match self.season(e) {
+            Some(season) => season.counted(through),
+            None => 0,
+        }
+    }
+
+    /// Whether nothing was done for an entry in a later gameweek. A call with `next` needs it.
+    pub fn is_up_to(&self, e: EntryId, g: Gw) -> bool
+        ensures { IsTrue result ↔ AllUpTo g (season_of self.now e) }
+    {
+        match self.season(e) {
+            Some(season) => season.is_up_to(g),
+            None => true,
+        }
+    }
+
+    /// An entry's first gameweek; None where it is not registered.
+    pub fn first(&self, e: EntryId) -> Option<Gw>
+        ensures rows { result ≡ first_in (season_of self.now e) }
+        ensures history { (position : ℕ → Position) (h : List Event) → StandsFor position (season_of self.now e) h → FirstTold h result }
+    {
+        match self.season(e) {
+            Some(season) => season.first(),
+            None => None,
+        }
+    }
+
+    /// An entry's team in a gameweek; None where it is not registered and before its first gameweek. It is a counted
+    /// read.
+    pub fn team_at<L: Ledger>(&self, e: EntryId, g: Gw, steps: &mut Steps<L>) -> Option<Team>
+        ensures counted { steps.new ≡ steps.old + 1 }
+        ensures rows { result ≡ team_at (season_of self.now e) g }
+        ensures history { (position : ℕ → Position) (h : List Event) → StandsFor position (season_of self.now e) h → TeamTold position h g result }
+        ensures laws { (position : ℕ → Position) (h : List Event) → StandsFor position (season_of self.now e) h → TeamBalances h g result }
+    {
+        steps.tick();
+        self.team_in(e, g)
+    }
+
+    /// An entry's free transfers in a gameweek; None where it is not registered and up to its first gameweek. It is a
+    /// counted read.
+    pub fn free<L: Ledger>(&self, e: EntryId, g: Gw, steps: &mut Steps<L>) -> Option<u8>
+        ensures counted { steps.new ≡ steps.old + 1 }
+        ensures rows { result ≡ free_in self.now.profile (season_of self.now e) g }
+        ensures history { (position : ℕ → Position) (h : List Event) → StandsFor position (season_of self.now e) h → FreeTold self.now.profile h g result }
+    {
+        steps.tick();
+        self.free_in(e, g)
+    }
+
+    /// The points that an entry's transfers of a gameweek cost: 0 where it is not registered and up to its first
+    /// gameweek. It is a counted read.
+    pub fn cost<L: Ledger>(&self, e: EntryId, g: Gw, steps: &mut Steps<L>) -> u32
+        ensures counted { steps.new ≡ steps.old + 1 }
+        ensures rows { result ≡ cost_by self.now.profile (season_of self.now e) g }
+        ensures history { (position : ℕ → Position) (h : List Event) → StandsFor position (season_of self.now e) h → result ≡ cost_at self.now.profile h g }
+    {
+        steps.tick();
+        self.cost_in(e, g)
+    }
+
+    /// An entry's transfers of gameweeks 1 to `through`, without those of its first gameweek and those under a wildcard
+    /// or a free hit. It is a counted read.
+    pub fn counted_transfers<L: Ledger>(&self, e: EntryId, through: u8, steps: &mut Steps<L>) -> u32
+        ensures counted { steps.new ≡ steps.old + 1 }
+        ensures rows { result ≡ counted_by (season_of self.now e) through }
+        ensures history { (position : ℕ → Position) (h : List Event) → StandsFor position (season_of self.now e) h → result ≡ counted_through h through }
+    {
+        steps.tick();
+        self.counted_in(e, through)
+    }
+
+    /// Registers an entry by its first squad, each player bought at his present price, out of 100.0 million.
+    ///
+    /// The first of these that holds refuses it: `SeasonOver`, every gameweek is locked; `Registered`; `PlayerGone`;
+    /// then what `check_squad` answers; `OverBudget`; then what `check_lineup` answers, a captain or vice-captain who
+    /// is not among the fifteen being `Captain`.
+    pub fn register(
+        &mut self,
+        e: EntryId,
+        next: Option<Gw>,
+        players: &Players,
+        squad: &[PlayerId; 15],
+        captain: PlayerId,
+        vice: PlayerId,
+    ) -> Result<(), Refused>
+        requires issued { e ≤ length self.old.managers }
+        requires there { All (λ id. IsSome (player_of players.now id)) squad.now }
+        ensures judged { IsJudgedOrOut (in_next next (λ _. register_broken (season_of self.old e) players.now squad.now (slot_of squad.now captain) (slot_of squad.now vice))) result }
+        ensures history { (position : ℕ → Position) (h : List Event) (g : ℕ) → HavePositions position players.now → StandsFor position (season_of self.old e) h → next ≡ Some g → OnOk result (StandsFor position (season_of self.new e) (h ++ in_gameweek g (First (holdings (picks_from players.now squad.now)) (slot_of squad.now captain) (slot_of squad.now vice) ∷ []))) }
+        ensures others { IsSameBut e self.old self.new }
+        ensures err { OnErr result (self.new ≡ self.old) }
+    {
+        let Some(g) = next else {
+            return Err(Refused::Rule(Rule::SeasonOver));
+        };
+        let manager = &mut self.managers[e.get() as usize - 1];
+        register(&mut manager.season, g, players, squad, captain, vice)
+    }
+
+    /// Makes a batch of 1 to 15 transfers. It answers how many transfers the gameweek had before, and the sales.
+    ///
+    /// The first of these that holds refuses it: `SeasonOver`; `NotRegistered`; `TransferLimit`, the gameweek would have
+    /// more than 20 transfers, or more than 1,000 in the first gameweek and under a wildcard or a free hit; then what
+    /// `apply` answers.
+    pub fn transfer(
+        &mut self,
+        e: EntryId,
+        next: Option<Gw>,
+        players: &Players,
+        swaps: &[Swap],
+    ) -> Result<(u32, Sales), Refused>
+        requires issued { e ≤ length self.old.managers }
+        requires later { IfSome next (λ g. AllUpTo g (season_of self.old e)) }
+        requires some { 0 < length swaps.now }
+        requires few { length swaps.now ≤ 15 }
+        requires there { AreIncomersThere players.now swaps.now }
+        ensures judged { IsJudgedOrOut (in_next next (transfer_broken (season_of self.old e) players.now swaps.now)) result }
+        ensures before { (g : ℕ) → next ≡ Some g → IfOk result (λ done. done.0 ≡ used_by (season_of self.old e) g) }
+        ensures moves { (g : ℕ) → next ≡ Some g → IfOk result (λ done. Moves g players.now swaps.now done.1 (season_of self.old e) (season_of self.new e)) }
+        ensures history { (position : ℕ → Position) (h : List Event) (g : ℕ) → HavePositions position players.now → StandsFor position (season_of self.old e) h → next ≡ Some g → IfOk result (λ done. StandsFor position (season_of self.new e) (h ++ in_gameweek g (map Swapped done.1))) }
+        ensures others { IsSameBut e self.old self.new }
+        ensures err { OnErr result (self.new ≡ self.old) }
+    {
+        let Some(g) = next else {
+            return Err(Refused::Rule(Rule::SeasonOver));
+        };
+        let manager = &mut self.managers[e.get() as usize - 1];
+        transfer(&mut manager.season, g, players, swaps)
+    }
+
+    /// Puts an entry's fifteen into another order, with other armbands.
+    ///
+    /// The first of these that holds refuses it: `SeasonOver`; `NotRegistered`; `NotHeld`, the first of the players whom
+    /// the team does not have; `Twice`, the first who repeats an earlier one; then what `check_lineup` answers, a
+    /// captain or vice-captain who is not among the fifteen being `Captain`.
+    pub fn lineup(
+        &mut self,
+        e: EntryId,
+        next: Option<Gw>,
+        order: &[PlayerId; 15],
+        captain: PlayerId,
+        vice: PlayerId,
+    ) -> Result<(), Refused>
+        requires issued { e ≤ length self.old.managers }
+        requires later { IfSome next (λ g. AllUpTo g (season_of self.old e)) }
+        ensures judged { IsJudgedOrOut (in_next next (lineup_broken (season_of self.old e) order.now (slot_of order.now captain) (slot_of order.now vice))) result }
+        ensures history { (position : ℕ → Position) (h : List Event) (g : ℕ) → StandsFor position (season_of self.old e) h → next ≡ Some g → OnOk result (StandsFor position (season_of self.new e) (h ++ in_gameweek g (Lineup order.now (slot_of order.now captain) (slot_of order.now vice) ∷ []))) }
+        ensures others { IsSameBut e self.old self.new }
+        ensures err { OnErr result (self.new ≡ self.old) }
+    {
+        let Some(g) = next else {
+            return Err(Refused::Rule(Rule::SeasonOver));
+        };
+        let manager = &mut self.managers[e.get() as usize - 1];
+        line_up(&mut manager.season, g, order, captain, vice)
+    }
+
+    /// Plays a chip. `split` is the last gameweek of the season's first half.
+    ///
+    /// The first of these that holds refuses it: `SeasonOver`; `NotRegistered`; `ChipEarly`, a wildcard or a free hit
+    /// in the entry's first gameweek; `ChipPlayed`, a chip stands in the gameweek; `ChipUsed`, the chip was played in
+    /// an earlier gameweek, for a wildcard in one of the same half.
+    pub fn play_chip(
+        &mut self,
+        e: EntryId,
+        next: Option<Gw>,
+        split: u8,
+        chip: Chip,
+    ) -> Result<(), Refused>
+        requires issued { e ≤ length self.old.managers }
+        requires later { IfSome next (λ g. AllUpTo g (season_of self.old e)) }
+        requires chip { chip ≢ NoChip }
+        ensures judged { IsJudgedOrOut (in_next next (play_broken (season_of self.old e) split chip)) result }
+        ensures history { (position : ℕ → Position) (h : List Event) (g : ℕ) → StandsFor position (season_of self.old e) h → next ≡ Some g → OnOk result (StandsFor position (season_of self.new e) (h ++ in_gameweek g (Play chip ∷ []))) }
+        ensures others { IsSameBut e self.old self.new }
+        ensures err { OnErr result (self.new ≡ self.old) }
+    {
+        let Some(g) = next else {
+            return Err(Refused::Rule(Rule::SeasonOver));
+        };
+        let manager = &mut self.managers[e.get() as usize - 1];
+        play(&mut manager.season, g, split, chip)
+    }
+
+    /// Takes back the chip of the next gameweek, as if it had not been played.
+    ///
+    /// The first of these that holds refuses it: `SeasonOver`; `NotRegistered`; `NoChip`, none stands; `ChipFixed`, a
+    /// wildcard or a free hit stands.
+    pub fn cancel_chip(&mut self, e: EntryId, next: Option<Gw>) -> Result<(), Rule>
+        requires issued { e ≤ length self.old.managers }
+        requires later { IfSome next (λ g. AllUpTo g (season_of self.old e)) }
+        ensures judged { IsJudged (in_next next (cancel_broken (season_of self.old e))) result }
+        ensures history { (position : ℕ → Position) (h : List Event) (g : ℕ) → StandsFor position (season_of self.old e) h → next ≡ Some g → OnOk result (StandsFor position (season_of self.new e) (h ++ in_gameweek g (Cancel ∷ []))) }
+        ensures others { IsSameBut e self.old self.new }
+        ensures err { OnErr result (self.new ≡ self.old) }
+    {
+        let Some(g) = next else {
+            return Err(Rule::SeasonOver);
+        };
+        let manager = &mut self.managers[e.get() as usize - 1];
+        cancel(&mut manager.season, g)
+    }
+
+    // Adds an entry behind the others.
+    fn add(&mut self, key: Key, name: Name, season: Entry) -> Result<(), Memory>
+        requires room { length self.old.managers < 2048 }
+        requires fresh { entry_with self.old key ≡ None }
+        ensures ok { OnOk result (self.new ≡ record { profile = self.old.profile; managers = self.old.managers ++ record { key = key; name = name; season = season } ∷ [] }) }
+        ensures err { OnErr result (self.new ≡ self.old) }
+    {
+        let number = self.managers.len() as u32 + 1;
+        let bytes = copied(self.alloc, key.bytes())?;
+        let manager = Manager { key, name, season };
+        if self.managers.push(manager).is_err() {
+            return Err(Memory);
+        }
+        if self.numbers.insert(bytes, number).is_err() {
+            self.managers.pop();
+            return Err(Memory);
+        }
+        Ok(())
+    }
+
+    /// Makes the next entry. `EntriesFull` refuses it where 2,048 are there, and then `KeyThere` where one has the key.
+    pub fn issue(&mut self, key: Key, name: Name) -> Result<EntryId, Refused>
+        ensures judged { IsJudgedOrOut (issue_refusal self.old key) result }
+        ensures id { IfOk result (λ e. e ≡ length self.old.managers + 1) }
+        ensures ok { OnOk result (self.new ≡ record { profile = self.old.profile; managers = self.old.managers ++ record { key = key; name = name; season = [] } ∷ [] }) }
+        ensures err { OnErr result (self.new ≡ self.old) }
+    {
+        if self.managers.len() >= MOST_ENTRIES {
+            return Err(Refused::Rule(Rule::EntriesFull));
+        }
+        if self.entry_of(&key).is_some() {
+            return Err(Refused::Rule(Rule::KeyThere));
+        }
+        let Some(e) = EntryId::new(self.managers.len() as u32 + 1) else {
+            return Err(Refused::Rule(Rule::EntriesFull));
+        };
+        let season = Entry::new(self.alloc);
+        match self.add(key, name, season) {
+            Ok(()) => Ok(e),
+            Err(_) => Err(Refused::Memory),
+        }
+    }
+
+    /// Makes the next entry with these team rows and transfers, in order of gameweek and number. It then stands for
+    /// every history whose records these are.
+    pub fn restore(
+        &mut self,
+        key: Key,
+        name: Name,
+        first: Option<Gw>,
+        teams: &[(Gw, Team)],
+        sales: &[(Gw, Sale)],
+    ) -> Result<(), Memory>
+        requires room { length self.old.managers < 2048 }
+        requires fresh { entry_with self.old key ≡ None }
+        requires records { AreEntryRecords first teams.now sales.now }
+        ensures ok { OnOk result (self.new ≡ record { profile = self.old.profile; managers = self.old.managers ++ record { key = key; name = name; season = rows_of_records teams.now sales.now } ∷ [] }) }
+        ensures history { (position : ℕ → Position) (h : List Event) → IsHistory h → HasRecords position h teams.now sales.now → OnOk result (StandsFor position (rows_of_records teams.now sales.now) h) }
+        ensures err { OnErr result (self.new ≡ self.old) }
+    {
+        let _first = first;
+        let season = Entry::restore(self.alloc, teams, sales)?;
+        self.add(key, name, season)
+    }
+}

@@ -1,0 +1,16 @@
+//! The entries of a season: their keys and names, and each one's squads, transfers, money and chips.
+#![tactic(auto)]
+
+mod batch;
+mod book;
+mod chips;
+mod lineup;
+mod manager;
+mod register;
+
+pub use book::ManagerBook;
+pub use rule_book::{Pick, Sale, Swap, Team};
+pub use transfer_book::Sales;
+
+#[cfg(test)]
+mod tests;

@@ -1,0 +1,106 @@
+// Another order of the fifteen.
+ghost use Rattle.std.specs.Prelude.{◌≡◌, ◌≤◌, ◌++◌, ◌∷◌, ℕ, List, [], None, Some, OnOk, OnErr, IfOk, MatchResult};
+ghost use Rattle.fpl_base.specs.declared.kinds.Position.{Position};
+ghost use Rattle.rule_book.specs.Batch.{pick_of};
+ghost use Rattle.rule_book.specs.History.{Event, in_gameweek};
+ghost use Rattle.rule_book.specs.History.Deed.{Lineup};
+ghost use Rattle.rule_book.specs.Refusals.{IsJudged, IsJudgedOrOut};
+ghost use Rattle.season_ledger.specs.Rows.{AllUpTo};
+ghost use Rattle.season_ledger.specs.Stands.{StandsFor};
+ghost use Rattle.manager_book.specs.Calls.{slot_of, first_not_held, lined_picks, order_refusal, lineup_broken, IsLined};
+
+use fpl_base::{Gw, PlayerId, Refused, Rule};
+use rule_book::{Pick, Team};
+use season_ledger::Entry;
+use squad_rules::{check_lineup, first_repeat, positions_of};
+
+// The team's pick of a player, if it has him.
+fn pick_of(picks: &[Pick; 15], player: PlayerId) -> Option<Pick>
+    ensures { result ≡ pick_of picks.now player }
+{
+    'picks: for pick in picks {
+        if pick.player.get() == player.get() {
+            return Some(*pick);
+        }
+    }
+    None
+}
+
+// The slot in which a player stands; 0 where he is not among them.
+pub fn slot_of(players: &[PlayerId; 15], player: PlayerId) -> u8
+    ensures { result ≡ slot_of players.now player }
+{
+    for i in 0..15u8 {
+        if players[i as usize].get() == player.get() {
+            return i + 1;
+        }
+    }
+    0
+}
+
+// The picks of the players in their order, or the first of them whom the team does not have.
+fn lined(picks: &[Pick; 15], order: &[PlayerId; 15]) -> Result<[Pick; 15], PlayerId>
+    ensures { MatchResult result (λ ks. (first_not_held picks.now order.now ≡ None) × (ks ≡ lined_picks picks.now order.now)) (λ p. first_not_held picks.now order.now ≡ Some p) }
+{
+    let mut lined = [picks[0]; 15];
+    for i in 0..15usize {
+        let Some(pick) = pick_of(picks, order[i]) else {
+            return Err(order[i]);
+        };
+        lined[i] = pick;
+    }
+    Ok(lined)
+}
+
+// The team in another order, where the order is legal.
+fn team_lined(team: &Team, order: &[PlayerId; 15], captain: u8, vice: u8) -> Result<Team, Rule>
+    ensures judged { IsJudged (order_refusal team.now order.now captain vice) result }
+    ensures lined { IfOk result (IsLined order.now captain vice team.now) }
+{
+    let picks = match lined(&team.picks, order) {
+        Ok(picks) => picks,
+        Err(player) => return Err(Rule::NotHeld { player }),
+    };
+    if let Some(player) = first_repeat(order) {
+        return Err(Rule::Twice { player });
+    }
+    match check_lineup(&positions_of(&picks), captain, vice) {
+        Ok(()) => {}
+        Err(rule) => return Err(rule),
+    }
+    Ok(Team {
+        picks,
+        captain,
+        vice,
+        bank: team.bank,
+        chip: team.chip,
+    })
+}
+
+/// Puts the fifteen of a gameweek's team into another order, with other armbands.
+pub fn line_up(
+    season: &mut Entry,
+    g: Gw,
+    order: &[PlayerId; 15],
+    captain: PlayerId,
+    vice: PlayerId,
+) -> Result<(), Refused>
+    requires later { AllUpTo g season.old }
+    ensures judged { IsJudgedOrOut (lineup_broken season.old order.now (slot_of order.now captain) (slot_of order.now vice) g) result }
+    ensures history { (position : ℕ → Position) (h : List Event) → StandsFor position season.old h → OnOk result (StandsFor position season.new (h ++ in_gameweek g (Lineup order.now (slot_of order.now captain) (slot_of order.now vice) ∷ []))) }
+    ensures err { OnErr result (season.new ≡ season.old) }
+{
+    let Some(standing) = season.standing(g) else {
+        return Err(Refused::Rule(Rule::NotRegistered));
+    };
+    let captain = slot_of(order, captain);
+    let vice = slot_of(order, vice);
+    let after = match team_lined(&standing.team, order, captain, vice) {
+        Ok(after) => after,
+        Err(rule) => return Err(Refused::Rule(rule)),
+    };
+    match season.lineup(g, &after) {
+        Ok(()) => Ok(()),
+        Err(_) => Err(Refused::Memory),
+    }
+}

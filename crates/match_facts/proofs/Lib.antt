@@ -1,0 +1,7 @@
+pub mod ColumnLemmas
+pub mod FirstAbove
+pub mod HandedIn
+pub mod Maps
+pub mod Placed
+pub mod Repeats
+pub mod SheetEntries

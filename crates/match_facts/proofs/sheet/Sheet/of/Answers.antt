@@ -1,0 +1,9 @@
+use Rattle.std.proofs.Common.{arith, take, length, ◌≤◌, length-take}
+use Rattle.match_facts.proofs.SheetEntries.{length-with_line, length-by_player}
+use Rattle.match_facts.proofs.sheet.Sheet.of.Goals as goal
+
+pub put-requires : goal.put-requires
+put-requires c =
+    let so_far : length c.lines.sheet.lines ≤ c.lines.line-index =
+    rw c.lines.invariant (omega (arith, length-by_player (take c.lines.line-index c.args.lines.now), length-take c.lines.line-index c.args.lines.now)) in
+    omega (arith, length-with_line c.lines.sheet.lines c.line-item.result.0 c.line-item.result.1, c.requires, c.lines-test.true)

@@ -1,0 +1,17 @@
+//! The facts of the matches: each player's figures in each fixture, and which fixtures are finished.
+#![tactic(auto)]
+
+mod columns;
+mod facts;
+mod judge;
+mod laws;
+mod ranges;
+mod sheet;
+mod sheets;
+#[cfg(test)]
+mod tests;
+
+pub use facts::MatchFacts;
+pub use laws::facts_are_maps;
+pub use ranges::line_ok;
+pub use rule_book::Line;

@@ -1,0 +1,12 @@
+//! The players of a season, and their prices.
+#![tactic(auto)]
+
+mod players;
+mod prices;
+
+pub use players::Players;
+pub use prices::selling_price;
+pub use rule_book::Player;
+
+#[cfg(test)]
+mod tests;

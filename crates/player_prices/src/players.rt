@@ -1,0 +1,143 @@
+// The players of a season, by ascending id in one table.
+ghost use Rattle.std.specs.Prelude.{◌≡◌, ◌<◌, ◌↔◌, None, IsTrue, [], length, slice_get, option_copied, OnOk, OnErr, IfOk, IfErr};
+ghost use Rattle.rule_book.specs.Players.{ArePlayers, IsPrice, player_of, with_player, with_price, with_club, with_gone, price_refusal, player_refusal};
+ghost use Rattle.rule_book.specs.Refusals.{IsJudged, IsJudgedOrOut};
+ghost use Rattle.player_prices.specs.Places.{StandsAt, IsPlaceFor};
+
+use fpl_base::{ClubId, PlayerId, Refused, Rule, Tenths};
+use rule_book::Player;
+use std::alloc::Global;
+use std::marker::Model;
+
+// So many players are in a season at most.
+const MOST_PLAYERS: usize = 1200;
+
+/// The players of a season, in ascending order of their ids. There are at most 1,200, and each costs 3.0 to 20.0
+/// million.
+#[derive(Drop)]
+pub struct Players {
+    rows: Vec<Player>,
+}
+
+impl Model for Players {
+    ghost use Rattle.std.specs.Prelude.{List};
+    ghost use Rattle.rule_book.specs.declared.player.Player.{Player};
+
+    ghost Value = { List Player };
+
+    ghost use Rattle.rule_book.specs.Players.{ArePlayers};
+
+    ghost view = { λ s. s.rows.items };
+
+    ghost invariant = { λ s. ArePlayers s.rows.items };
+}
+
+impl Players {
+    /// No players.
+    pub fn new(alloc: Global) -> Self
+        ensures { result ≡ [] }
+    {
+        Players {
+            rows: Vec::new(alloc),
+        }
+    }
+
+    /// Adds a player. Refused is one whose id is there, one for whom there is no room, and one whose price is none
+    /// that a player can have, in this order; he is dropped then.
+    pub fn add(&mut self, player: Player) -> Result<(), Refused>
+        ensures ok { OnOk result (self.new ≡ with_player self.old player) }
+        ensures err { OnErr result (self.new ≡ self.old) }
+        ensures judged { IsJudgedOrOut (player_refusal self.old player) result }
+    {
+        let place = match self.search(player.id) {
+            Ok(_) => return Err(Refused::Rule(Rule::PlayerThere { player: player.id })),
+            Err(place) => place,
+        };
+        if self.rows.len() >= MOST_PLAYERS {
+            return Err(Refused::Rule(Rule::PlayersFull));
+        }
+        if !is_price(player.price) {
+            return Err(Refused::Rule(Rule::PriceRange));
+        }
+        if self.rows.insert(place, player).is_err() {
+            return Err(Refused::Memory);
+        }
+        Ok(())
+    }
+
+    /// Sets a player's present price. A price is refused where no player can have it. Where the player is not there
+    /// nothing changes.
+    pub fn set_price(&mut self, player: PlayerId, price: Tenths) -> Result<(), Rule>
+        ensures ok { OnOk result (self.new ≡ with_price self.old player price) }
+        ensures err { OnErr result (self.new ≡ self.old) }
+        ensures judged { IsJudged (price_refusal price) result }
+    {
+        if !is_price(price) {
+            return Err(Rule::PriceRange);
+        }
+        if let Ok(place) = self.search(player) {
+            self.rows[place].price = price;
+        }
+        Ok(())
+    }
+
+    /// Sets the club for which a player plays. Where the player is not there nothing changes.
+    pub fn set_club(&mut self, player: PlayerId, club: ClubId)
+        ensures { self.new ≡ with_club self.old player club }
+    {
+        if let Ok(place) = self.search(player) {
+            self.rows[place].club = club;
+        }
+    }
+
+    /// Marks a player as gone, or as not gone. Where the player is not there nothing changes.
+    pub fn set_gone(&mut self, player: PlayerId, gone: bool)
+        ensures { self.new ≡ with_gone self.old player gone }
+    {
+        if let Ok(place) = self.search(player) {
+            self.rows[place].gone = gone;
+        }
+    }
+
+    /// The player of this id; `None` where he is not there.
+    pub fn get(&self, player: PlayerId) -> Option<&Player>
+        ensures found { option_copied result ≡ player_of self.now player }
+        ensures lawful { ArePlayers self.now }
+    {
+        match self.search(player) {
+            Ok(place) => Some(&self.rows[place]),
+            Err(_) => None,
+        }
+    }
+
+    /// How many players there are.
+    pub fn len(&self) -> usize
+        ensures count { result ≡ length self.now }
+        ensures lawful { ArePlayers self.now }
+    {
+        self.rows.len()
+    }
+
+    /// The player at a place, counted from 0 in ascending order of id; `None` from the end on.
+    pub fn at(&self, place: usize) -> Option<&Player>
+        ensures found { option_copied result ≡ slice_get self.now place }
+        ensures lawful { ArePlayers self.now }
+    {
+        self.rows.get(place)
+    }
+
+    // Where the player stands, or would stand.
+    fn search(&self, player: PlayerId) -> Result<usize, usize>
+        ensures found { IfOk result (StandsAt self.now player) }
+        ensures absent { IfErr result (IsPlaceFor self.now player) }
+    {
+        self.rows.binary_search_by_key(&player, |row| row.id)
+    }
+}
+
+// Whether a player can have this price.
+fn is_price(price: Tenths) -> bool
+    ensures { IsTrue result ↔ IsPrice price }
+{
+    price.get() >= 30 && price.get() <= 200
+}

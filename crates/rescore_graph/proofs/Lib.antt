@@ -1,0 +1,11 @@
+pub mod ReplayFacts
+pub mod RaisedFacts
+pub mod ProgressFacts
+pub mod WorkFacts
+pub mod MaxFacts
+pub mod UndoneFacts
+pub mod ChangeFacts
+pub mod RemainsFacts
+pub mod MaxChangeFacts
+pub mod NodeOrder
+pub mod KeyFacts

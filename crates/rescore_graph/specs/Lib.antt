@@ -1,0 +1,8 @@
+pub mod Graph
+pub mod States
+pub mod Settling
+pub mod Listed
+pub mod Work
+pub mod MaxGraph
+pub mod MaxLaws
+pub mod MaxOrder

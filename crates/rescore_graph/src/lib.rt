@@ -1,0 +1,23 @@
+//! Cells that are kept equal to what rules say of them. Each node of the rules has a value, which is a function of the
+//! values of its inputs. A change marks the nodes that it touches, and settling evaluates what depends on these, and
+//! nothing else.
+#![tactic(auto)]
+
+mod cells;
+mod greatest;
+mod laws;
+mod max_book;
+mod max_node;
+mod nodes;
+mod rules;
+mod settle;
+#[cfg(test)]
+mod tests;
+
+pub use cells::{Cells, Slot};
+pub use laws::{replay_is_one, replay_is_own};
+pub use max_book::MaxBook;
+pub use max_node::{MaxNode, Peak};
+pub use nodes::Nodes;
+pub use rules::Rules;
+pub use settle::Report;

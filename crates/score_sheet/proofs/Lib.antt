@@ -1,0 +1,4 @@
+pub mod Fields
+pub mod Once
+pub mod RowLists
+pub mod ScoreLists

@@ -1,0 +1,7 @@
+mod Around
+mod Days
+mod Lawful
+mod Locks
+mod Places
+mod Refused
+mod Standing

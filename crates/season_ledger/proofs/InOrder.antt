@@ -1,0 +1,73 @@
+-- What counts in g: what counts of the gameweeks before it, and then all of g.
+use Rattle.std.proofs.Common.{◌≡◌, ◌<◌, ◌≤◌, ◌+◌, ◌≢◌, ◌⊎◌, ◌∷◌, [], ◌++◌, ℕ, Bool, true, false, cond, not, ◌&&◌, ◌||◌, List, map, arith, refl, sym, ap, ◌∙◌, subst, inl, inr, ⊎_elim, nat_eq, nat_lt, nat_le}
+use Rattle.std.specs.Prelude.{filter}
+use Rattle.std.specs.List.{flat_map, AllByRecursion as Each}
+use Rattle.std.proofs.lemmas.List.{append-nil, append_assoc}
+use Rattle.std.proofs.lemmas.List.Elements.{filter-append}
+use Rattle.std.proofs.lemmas.Bool.Decides.{nat_tests}
+use Rattle.std.proofs.lemmas.Bool.{cases_eq, cases_lt}
+use Rattle.rule_book.specs.History.{Deed, Event, last_of, chip_said_in, chip_at, is_free_hit, counts_in, kept, in_gameweek}
+use Rattle.rule_book.specs.HistoryRules.{NoneAfter, Fits, GoesOn, IsHistory}
+use Rattle.fpl_base.specs.declared.kinds.Chip.TheVariants.{None as NoChip}
+use Rattle.season_ledger.proofs.Lists.{filter_none, filter_agree_on, each_weaker}
+use Rattle.season_ledger.proofs.Kept.{kept_more, kept_before}
+use Rattle.season_ledger.proofs.Swaps.{push_more}
+use Rattle.season_ledger.proofs.Legality.{earlier, earlier_same, kept_later, none_push, none_each}
+
+-- the events of a gameweek
+abbrev pub events_of : List Event → ℕ → List Event
+events_of h g = filter (λ e. nat_eq e.gw g) h
+
+events_here : (h : List Event) (g : ℕ) (d : Deed) → events_of (h ++ in_gameweek g (d ∷ [])) g ≡ events_of h g ++ in_gameweek g (d ∷ [])
+events_here h g d = filter-append (λ e. nat_eq e.gw g) h (in_gameweek g (d ∷ [])) ∙ (let t : nat_eq g g ≡ true = grind (arith, nat_tests) in rw t refl)
+
+events_other : (h : List Event) (g0 g : ℕ) (d : Deed) → g0 ≢ g → events_of (h ++ in_gameweek g0 (d ∷ [])) g ≡ events_of h g
+events_other h g0 g d n = filter-append (λ e. nat_eq e.gw g) h (in_gameweek g0 (d ∷ [])) ∙ (let t : nat_eq g0 g ≡ false = grind (arith, nat_tests) in rw t (append-nil _))
+
+events_none : (h : List Event) (g0 g : ℕ) → g0 < g → NoneAfter g0 h → events_of h g ≡ []
+events_none h g0 g lt up = filter_none (λ e. nat_eq e.gw g) h (each_weaker (λ (e : Event). e.gw ≤ g0) (λ (e : Event). nat_eq e.gw g ≡ false) (λ e l. (grind (arith, nat_tests))) h (none_each g0 h up))
+
+pub record Parted (h : List Event) : Type 0 where
+  pub parts : (g : ℕ) → kept h g ≡ earlier h g ++ events_of h g
+
+parted-push : (h : List Event) (g0 : ℕ) (d : Deed) → Parted h → NoneAfter g0 h → Parted (h ++ in_gameweek g0 (d ∷ []))
+parted-push h g0 d k up = record { parts = λ g. at g (cases_lt g g0) (cases_eq g0 g) }
+  where
+    at : (g : ℕ) → (g < g0) ⊎ (g0 ≤ g) → (g0 ≡ g) ⊎ (g0 ≢ g) → kept (h ++ in_gameweek g0 (d ∷ [])) g ≡ earlier (h ++ in_gameweek g0 (d ∷ [])) g ++ events_of (h ++ in_gameweek g0 (d ∷ [])) g
+    at g (inl lt) q = rw (kept_before h g0 g (d ∷ []) lt, earlier_same h g0 g d (omega arith), events_other h g0 g d (omega arith)) (k.parts g)
+    at g (inr le) (inl e) = subst (λ w. kept (h ++ in_gameweek g0 (d ∷ [])) w ≡ earlier (h ++ in_gameweek g0 (d ∷ [])) w ++ events_of (h ++ in_gameweek g0 (d ∷ [])) w) e
+        (kept_more h g0 (d ∷ []) ∙ ap (λ r. r ++ in_gameweek g0 (d ∷ [])) (k.parts g0) ∙ append_assoc (earlier h g0) (events_of h g0) (in_gameweek g0 (d ∷ [])) ∙ ap (λ r. r ++ (events_of h g0 ++ in_gameweek g0 (d ∷ []))) (sym (earlier_same h g0 g0 d (omega arith))) ∙ ap (λ r. earlier (h ++ in_gameweek g0 (d ∷ [])) g0 ++ r) (sym (events_here h g0 d)))
+    at g (inr le) (inr n) = let lt : g0 < g = omega arith in
+        kept_later (h ++ in_gameweek g0 (d ∷ [])) g0 g lt (none_push g0 h d up) ∙ sym (append-nil _) ∙ ap (λ r. earlier (h ++ in_gameweek g0 (d ∷ [])) g ++ r) (sym (events_none (h ++ in_gameweek g0 (d ∷ [])) g0 g lt (none_push g0 h d up)))
+
+parted_from : (h es : List Event) → Parted h → GoesOn h es → Parted (h ++ es)
+parted_from h [] a k = subst Parted (sym (append-nil h)) a
+parted_from h (e ∷ es) a k = subst Parted (push_more h e es) (parted_from (h ++ e ∷ []) es (parted-push h e.gw e.deed a k.0.0) k.1)
+
+-- in a history the kept events are those of earlier gameweeks that count, then those of the gameweek
+pub kept_in_order : (h : List Event) (g : ℕ) → IsHistory h → kept h g ≡ earlier h g ++ events_of h g
+kept_in_order h g k = (parted_from [] h (record { parts = λ w. refl }) k).parts g
+
+-- later gameweeks tell nothing of this one
+abbrev pub upto : List Event → ℕ → List Event
+upto h g = filter (λ e. nat_le e.gw g) h
+
+chip_upto : (h : List Event) (g w : ℕ) → w ≤ g → chip_at (upto h g) w ≡ chip_at h w
+chip_upto h g w le = ap (last_of NoChip) (said h)
+  where
+    said : (k : List Event) → flat_map (chip_said_in w) (upto k g) ≡ flat_map (chip_said_in w) k
+    said [] = refl
+    said (e ∷ k) = let i : flat_map (chip_said_in w) (upto k g) ≡ flat_map (chip_said_in w) k = said k in ⊎_elim
+        (λ (l : g < e.gw). let t : nat_le e.gw g ≡ false = grind (arith, nat_tests) in let u : nat_eq e.gw w ≡ false = grind (arith, nat_tests) in rw (t, u) i)
+        (λ (l : e.gw ≤ g). let t : nat_le e.gw g ≡ true = grind (arith, nat_tests) in rw t (ap (λ r. chip_said_in w e ++ r) i))
+        (cases_lt g e.gw)
+
+pub kept_upto : (h : List Event) (g : ℕ) → kept (upto h g) g ≡ kept h g
+kept_upto h g = walk h
+  where
+    walk : (k : List Event) → filter (λ e. counts_in (upto h g) g e.gw) (upto k g) ≡ filter (λ e. counts_in h g e.gw) k
+    walk [] = refl
+    walk (e ∷ k) = let i : filter (λ v. counts_in (upto h g) g v.gw) (upto k g) ≡ filter (λ v. counts_in h g v.gw) k = walk k in ⊎_elim
+        (λ (l : g < e.gw). let t : nat_le e.gw g ≡ false = grind (arith, nat_tests) in let u : nat_eq e.gw g ≡ false = grind (arith, nat_tests) in let v : nat_lt e.gw g ≡ false = grind (arith, nat_tests) in rw (t, u, v) i)
+        (λ (l : e.gw ≤ g). let t : nat_le e.gw g ≡ true = grind (arith, nat_tests) in rw t (rw (chip_upto h g e.gw l, i) refl))
+        (cases_lt g e.gw)

@@ -1,0 +1,23 @@
+use Rattle.std.proofs.Common.{◌≡◌, ◌<◌, ◌≤◌, ◌+◌, ◌-◌, ◌++◌, ◌∷◌, ℕ, List, [], Option, Some, None, true, length, map, arith, rules, sym, subst, ap, ◌∙◌, refl}
+use Rattle.fpl_base.specs.declared.kinds.Chip.TheVariants.{None as NoChip}
+use Rattle.rule_book.specs.History.{Event, in_gameweek, is_free_hit}
+use Rattle.rule_book.specs.History.Deed.{First, Swap, Lineup, Play, Cancel}
+use Rattle.rule_book.specs.HistoryTeam.{holdings}
+use Rattle.season_ledger.specs.declared.row.Standing.{Standing}
+use Rattle.season_ledger.specs.declared.row.Row.{Row}
+use Rattle.season_ledger.specs.Rows.{IsKept, IsFit, standing_at, put_row, put_chip, put_chip_on, used_by, is_past, chipped, place_at}
+use Rattle.season_ledger.specs.Batches.{players_of, BatchOn, LineupOn}
+use Rattle.season_ledger.specs.Stands.{StandsFor}
+use Rattle.season_ledger.proofs.Season.{on_ok_to, kept_put, standing_early, standing_fit, fit_chip, batch_fit, lineup_fit, first_fit, first_early, batch_early, lineup_early, registered_for, transferred_for, lined_up_for, played_for, cancelled_for, cancel_there}
+use Rattle.season_ledger.proofs.entry.Entry.transfer.Goals as goal
+
+pub write-requires : goal.write-requires
+write-requires c = let k : IsKept c.args.self.now = search rules in
+    kept_put c.args.self.now c.args.g (record { made = c.made-made.result + length c.args.sales.now; team = c.args.after.now }) k c.requires.later (batch_early c.args.self.now c.args.g c.args.sales.now c.args.after.now k c.requires.batch)
+    (subst (λ n. IsFit c.args.g (record { made = n + length c.args.sales.now; team = c.args.after.now })) (sym c.made-made.ensures.rows) (batch_fit c.args.self.now c.args.g c.args.sales.now c.args.after.now k c.requires.batch c.requires.few c.requires.sold c.requires.fit))
+
+pub returns-clause-history : goal.returns-clause-history
+returns-clause-history c position h p st = let k : IsKept c.args.self.now = search rules in on_ok_to c.write.result _ _
+    (λ e. subst (λ (rows : List Row). StandsFor position rows (h ++ in_gameweek c.args.g (map Swap c.args.sales.now))) (sym e)
+    (transferred_for c.args.self.now c.args.g c.args.sales.now (record { made = c.made-made.result + length c.args.sales.now; team = c.args.after.now }) k c.requires.later c.requires.some c.requires.batch (search rules) position h p st))
+    c.write.ensures.ok

@@ -1,0 +1,6 @@
+use Rattle.std.proofs.Common.{◌≡◌, drop}
+use Rattle.season_ledger.specs.Rows.{base_at, or_else}
+use Rattle.season_ledger.proofs.rows.base_of.Given as goal
+
+abbrev pub invariant-rows : goal.invariant-rows
+invariant-rows l = or_else (base_at (drop l.row-index l.rows) l.g) l.found ≡ base_at l.rows l.g

@@ -1,0 +1,11 @@
+use Rattle.std.proofs.Common.{◌≡◌, ◌<◌, ◌≤◌, length, arith, sym, rules}
+use Rattle.std.proofs.lemmas.Grind.{common_steps}
+use Rattle.season_ledger.specs.Rows.{place_at}
+use Rattle.season_ledger.proofs.Places.{put_set, put_push}
+use Rattle.season_ledger.proofs.rows.put.Goals as goal
+
+pub returns-then-place-len-clause-ok : goal.returns-then-place-len-clause-ok
+returns-then-place-len-clause-ok c = grind (arith, common_steps, put_set c.args.rows.now.items c.args.g c.args.standing.now)
+
+pub returns-in-Ok-clause-ok : goal.returns-in-Ok-clause-ok
+returns-in-Ok-clause-ok c = grind (arith, common_steps, put_push c.args.rows.now.items c.args.g c.args.standing.now)

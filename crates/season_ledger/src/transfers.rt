@@ -1,0 +1,154 @@
+// Free transfers, what the others cost, and the transfers that a table counts.
+ghost use Rattle.std.specs.Prelude.{◌≡◌, ◌<◌, ◌≤◌, ◌+◌, ◌-◌, ◌==◌, ◌||◌, if◌then◌else◌};
+ghost use Rattle.rule_book.specs.FreeTransfers.{free_next, transfer_cost};
+ghost use Rattle.rule_book.specs.HistoryTransfers.{makes_free, free_from, counted_from, is_same_chip, half_of, used_before};
+ghost use Rattle.season_ledger.specs.Rows.{chip_by, used_by};
+
+use crate::Row;
+use crate::rows::row_of;
+use fpl_base::{Chip, Gw, Profile};
+
+// Whether a chip makes the gameweek's transfers free.
+fn waives(chip: Chip) -> bool
+    ensures { result ≡ makes_free chip }
+{
+    match chip {
+        Chip::Wildcard => true,
+        Chip::FreeHit => true,
+        Chip::None => false,
+        Chip::BenchBoost => false,
+        Chip::TripleCaptain => false,
+    }
+}
+
+// The free transfers of the next gameweek.
+fn next_free(profile: Profile, free: u8, used: u16, chip: Chip) -> u8
+    requires { free ≤ 5 }
+    ensures step { result ≡ free_next profile free used chip }
+    ensures most { result ≤ 5 }
+{
+    let kept = match profile {
+        Profile::A => 1,
+        Profile::B => free,
+    };
+    let most = match profile {
+        Profile::A => 2,
+        Profile::B => 5,
+    };
+    let rest = u16::from(free).saturating_sub(used) as u8;
+    match chip {
+        Chip::Wildcard => kept,
+        Chip::FreeHit => kept,
+        Chip::None => (rest + 1).min(most),
+        Chip::BenchBoost => (rest + 1).min(most),
+        Chip::TripleCaptain => (rest + 1).min(most),
+    }
+}
+
+// The chip and the transfers of a gameweek.
+fn doings(rows: &[Row], g: u8) -> (Chip, u16)
+    ensures chip { result.0 ≡ chip_by rows.now g }
+    ensures used { result.1 ≡ used_by rows.now g }
+{
+    match row_of(rows, g) {
+        Some(standing) => (standing.team.chip, standing.made),
+        None => (Chip::None, 0),
+    }
+}
+
+// The free transfers of a gameweek after the first.
+pub fn free_of(profile: Profile, rows: &[Row], first: u8, g: u8) -> u8
+    requires { first < g }
+    ensures free { result ≡ free_from profile (used_by rows.now) (chip_by rows.now) first (g - (first + 1)) }
+    ensures most { result ≤ 5 }
+{
+    let mut free = 1;
+    for w in first + 1..g {
+        let (chip, used) = doings(rows, w);
+        free = next_free(profile, free, used, chip);
+    }
+    free
+}
+
+// The points that the transfers of a gameweek after the first cost.
+pub fn cost_of(profile: Profile, rows: &[Row], first: u8, g: u8) -> u32
+    requires { first < g }
+    ensures { result ≡ transfer_cost (free_from profile (used_by rows.now) (chip_by rows.now) first (g - (first + 1))) (used_by rows.now g) (chip_by rows.now g) }
+{
+    let (chip, used) = doings(rows, g);
+    let paid = 4 * u32::from(used.saturating_sub(u16::from(free_of(profile, rows, first, g))));
+    match chip {
+        Chip::Wildcard => 0,
+        Chip::FreeHit => 0,
+        Chip::None => paid,
+        Chip::BenchBoost => paid,
+        Chip::TripleCaptain => paid,
+    }
+}
+
+// The transfers of a gameweek that a table counts.
+fn counted_in(rows: &[Row], first: u8, g: u8) -> u16
+    ensures { result ≡ (if (g == first) || makes_free (chip_by rows.now g) then 0 else used_by rows.now g) }
+{
+    let (chip, used) = doings(rows, g);
+    if g == first {
+        return 0;
+    }
+    if waives(chip) { 0 } else { used }
+}
+
+// The transfers of gameweeks 1 to g that a table counts.
+pub fn counted_of(rows: &[Row], first: u8, g: u8) -> u32
+    ensures { result ≡ counted_from (used_by rows.now) (chip_by rows.now) first g }
+{
+    let mut sum = 0;
+    for w in 0..g {
+        sum += u32::from(counted_in(rows, first, w + 1));
+    }
+    sum
+}
+
+fn is_same_chip(one: Chip, other: Chip) -> bool
+    ensures { result ≡ is_same_chip one other }
+{
+    match (one, other) {
+        (Chip::None, Chip::None) => true,
+        (Chip::Wildcard, Chip::Wildcard) => true,
+        (Chip::FreeHit, Chip::FreeHit) => true,
+        (Chip::BenchBoost, Chip::BenchBoost) => true,
+        (Chip::TripleCaptain, Chip::TripleCaptain) => true,
+        _ => false,
+    }
+}
+
+// The gameweek from which on a chip is played once.
+fn half_of(split: u8, chip: Chip, g: u8) -> u8
+    ensures value { result ≡ half_of split chip g }
+    ensures from_one { 1 ≤ result }
+{
+    match chip {
+        Chip::Wildcard => {
+            if split < g {
+                return split + 1;
+            }
+            1
+        }
+        Chip::None => 1,
+        Chip::FreeHit => 1,
+        Chip::BenchBoost => 1,
+        Chip::TripleCaptain => 1,
+    }
+}
+
+// The earlier gameweek in which a chip was played, in the same half for a wildcard.
+pub fn used_of(rows: &[Row], split: u8, chip: Chip, g: Gw) -> Option<Gw>
+    ensures { result ≡ used_before split (chip_by rows.now) chip g }
+{
+    let from = half_of(split, chip, g.get());
+    for w in from..g.get() {
+        if is_same_chip(chip, doings(rows, w).0) {
+            return Gw::new(w);
+        }
+    }
+    None
+}

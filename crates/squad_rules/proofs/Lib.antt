@@ -1,0 +1,4 @@
+pub mod Repeats
+pub mod Formations
+pub mod Copies
+pub mod Legal

@@ -1,0 +1,5 @@
+use Rattle.squad_rules.proofs.Formations.{enough_always}
+use Rattle.squad_rules.proofs.lineup.enough_is_formation.Goals as goal
+
+pub returns : goal.returns
+returns c = enough_always

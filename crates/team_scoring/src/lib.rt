@@ -1,0 +1,20 @@
+//! A team's final eleven, its armband and its score in a gameweek (docs/RULES.md, "The final eleven", "The armband" and
+//! "A team's score"). No call takes memory.
+#![tactic(auto)]
+
+mod bands;
+mod counts;
+mod eleven;
+mod score;
+mod slots;
+mod substitutions;
+
+pub use bands::armband;
+pub use eleven::{elevens_are_legal, enough_for_elevens, final_eleven, has_one_eleven, one_eleven};
+pub use rule_book::{Armband, Eleven, Figures, TeamScore};
+pub use score::team_score;
+
+#[cfg(test)]
+mod plain_search;
+#[cfg(test)]
+mod tests;

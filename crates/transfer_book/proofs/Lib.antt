@@ -1,0 +1,4 @@
+pub mod JudgeLemmas
+pub mod TradeLemmas
+pub mod BatchLaws
+pub mod RefusalLemmas
