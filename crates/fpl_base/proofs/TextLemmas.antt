@@ -1,5 +1,5 @@
 -- a text that is no UTF-8 fails the test for it
-use Rattle.std.proofs.Common.{Bool, true, false, ◌≡◌, refl, sym, ℕ, List}
+use Rattle.std.proofs.Common.{Bool, true, false, ◌≡◌, refl, ℕ, List}
 use Rattle.std.proofs.lemmas.Str.{IsUtf8-from_is_utf8}
 use Rattle.std.specs.Str.{is_utf8, IsUtf8}
 

@@ -15,13 +15,13 @@ mod steps;
 mod text;
 
 pub use amounts::{Gw, Moment, Tenths};
-pub use forms::{FaultySink, FaultySource, MemorySource, Plan, Quiet, QuietSink};
+pub use forms::{FaultySink, FaultySource, MemoryClock, MemorySource, Plan, Quiet, QuietSink};
 pub use ids::{ClubId, CupId, EntryId, FixtureId, LeagueId, PlayerId};
 pub use kinds::{Caller, Chip, Position, Profile};
 pub use memory::{Memory, Refused};
 pub use number::read_number;
 pub use outside::{Clock, Doors, Failed, Keeper, Shelf, Sink, Source};
-pub use real::{Reading, Writing};
+pub use real::{Reading, SystemClock, Writing};
 pub use records::{Bytes, Op, RecordKey};
 pub use rule::Rule;
 pub use steps::Steps;

@@ -4,6 +4,9 @@ ghost use Rattle.std.specs.Io.{ReadsAtMost};
 ghost use Rattle.std.specs.Io.KnownBytes.{Appends, ReadConsumes};
 ghost use Rattle.fpl_base.specs.Causes.{HasCause, AppendsFront};
 ghost use Rattle.fpl_base.specs.Doors.{Ended, Opens, GivesBack};
+ghost use Rattle.fpl_base.specs.Moments.{Moments, Tells};
+
+use crate::Moment;
 
 /// A call to the outside failed.
 #[derive(Clone, Copy, Debug, PartialEq, Eq)]
@@ -40,8 +43,15 @@ pub trait Sink {
         ensures cause { HasCause (faults self.old) (faults self.new) result };
 }
 
-/// What tells the moment.
-pub trait Clock {}
+/// What tells the moment. It never fails.
+pub trait Clock {
+    /// The moments that it has left, if it tells them.
+    ghost left: { Self → Option Moments };
+
+    /// The moment: the next one of those that are left, of which the last is told for good.
+    fn now(&mut self) -> Moment
+        ensures told { Tells (left self.old) result (left self.new) };
+}
 
 /// What keeps the records.
 pub trait Keeper {

@@ -1,6 +1,7 @@
 use crate::{
-    Bytes, ClubId, Code, FaultySink, FaultySource, Gw, Key, MemorySource, Moment, Name, Plan,
-    PlayerId, Position, QuietSink, Reading, Sink, Source, Tenths, Text, Writing, read_number,
+    Bytes, Clock, ClubId, Code, FaultySink, FaultySource, Gw, Key, MemoryClock, MemorySource,
+    Moment, Name, Plan, PlayerId, Position, QuietSink, Reading, Sink, Source, SystemClock, Tenths,
+    Text, Writing, read_number,
 };
 use std::alloc::Global;
 use std::test::Fail;
@@ -72,6 +73,12 @@ fn texts_are_read(rt: HostRuntime) -> Result<(), Fail> {
     assert!(rt; is_code(alloc, b"all1")?);
     assert!(rt; !is_code(alloc, b"all")?);
     assert!(rt; Text::new(alloc, "score")?.text() == "score");
+    let name = Name::new(alloc, b"Arsenal")?.ok_or("a name")?;
+    assert!(rt; name.copy()?.bytes() == b"Arsenal".as_slice());
+    let key = Key::new(alloc, b"operator1")?.ok_or("a key")?;
+    assert!(rt; key.copy()?.bytes() == b"operator1".as_slice());
+    let code = Code::new(alloc, b"all1")?.ok_or("a code")?;
+    assert!(rt; code.copy()?.bytes() == b"all1".as_slice());
     Ok(())
 }
 
@@ -134,5 +141,18 @@ fn sinks_take_bytes(rt: HostRuntime) -> Result<(), Fail> {
     let mut all = Vec::new(alloc);
     let mut writing = Writing::new(&mut all);
     assert!(rt; writing.write(b"ab").is_ok());
+    Ok(())
+}
+
+#[test]
+fn clocks_tell_moments(rt: HostRuntime) -> Result<(), Fail> {
+    let first = Moment::new(7).ok_or("a moment")?;
+    let behind = [first, Moment::new(3).ok_or("a moment")?];
+    let mut clock = MemoryClock::new(first, &behind);
+    for told in [7, 7, 3, 3] {
+        assert_eq!(rt; clock.now().get(), told);
+    }
+    let start_of_2023 = 1_672_531_200;
+    assert!(rt; SystemClock::new(&rt).now().get() > start_of_2023);
     Ok(())
 }

@@ -73,6 +73,16 @@ impl Name {
         let _ = &self.bytes;
         self.bytes.as_slice()
     }
+
+    /// Another name of the same bytes.
+    pub fn copy(&self) -> Result<Self, Memory>
+        ensures { IfOk result (λ copy. copy ≡ self.now) }
+    {
+        let _ = &self.bytes;
+        Ok(Name {
+            bytes: self.bytes.clone()?,
+        })
+    }
 }
 
 /// What a caller shows to be let in: 8 to 64 small letters and digits.
@@ -109,6 +119,16 @@ impl Key {
         let _ = &self.bytes;
         self.bytes.as_slice()
     }
+
+    /// Another key of the same bytes.
+    pub fn copy(&self) -> Result<Self, Memory>
+        ensures { IfOk result (λ copy. copy ≡ self.now) }
+    {
+        let _ = &self.bytes;
+        Ok(Key {
+            bytes: self.bytes.clone()?,
+        })
+    }
 }
 
 /// What an entry needs to join a league: 4 to 16 small letters and digits.
@@ -144,6 +164,16 @@ impl Code {
     {
         let _ = &self.bytes;
         self.bytes.as_slice()
+    }
+
+    /// Another code of the same bytes.
+    pub fn copy(&self) -> Result<Self, Memory>
+        ensures { IfOk result (λ copy. copy ≡ self.now) }
+    {
+        let _ = &self.bytes;
+        Ok(Code {
+            bytes: self.bytes.clone()?,
+        })
     }
 }
 

@@ -11,7 +11,7 @@ use Rattle.std.proofs.lemmas.List.Sums.{fails_before_first}
 use Rattle.std.proofs.lemmas.Option.{slice_get-get_or}
 use Rattle.rule_book.specs.ById.{at_id}
 use Rattle.rule_book.specs.MatchFacts.{Lines, players_in, with_line}
-use Rattle.rule_book.specs.MatchCalls.{repeats, first_repeat}
+use Rattle.rule_book.specs.Repeats.{is_repeat, first_repeat}
 use Rattle.match_facts.specs.Laws.{SheetsHaveTheirLines}
 use Rattle.match_facts.proofs.Maps.{or_else, or_none, lines_are_a_map, chosen_same, chosen_other}
 use Rattle.match_facts.proofs.Repeats.{at, long, length-players}
@@ -29,12 +29,12 @@ past_all p xs none = elim (cases_lt (position_or_len p xs) (length xs)) [
     some_none : Some (get_or xs (position_or_len p xs) 0) ≡ None → ⊥
     some_none e = cc
 
--- no place repeats
-each_once : (ns : List ℕ) → first_repeat ns ≡ None → (k : ℕ) → k < length ns → repeats ns k ≡ false
+-- no place is_repeat
+each_once : (ns : List ℕ) → first_repeat ns ≡ None → (k : ℕ) → k < length ns → is_repeat ns k ≡ false
 each_once ns none k within =
     let all = range_with_len 0 (length ns) in
-    let past : length all ≤ position_or_len (repeats ns) all = past_all (repeats ns) all (map_none (slice_index ns) (find (repeats ns) all) none) in
-    rw (at ns k within) at (fails_before_first (repeats ns) all k 0 (omega (arith, past, long ns)))
+    let past : length all ≤ position_or_len (is_repeat ns) all = past_all (is_repeat ns) all (map_none (slice_index ns) (find (is_repeat ns) all) none) in
+    rw (at ns k within) at (fails_before_first (is_repeat ns) all k 0 (omega (arith, past, long ns)))
 
 -- no number stands at two places
 apart : (ns : List ℕ) → first_repeat ns ≡ None → (i j : ℕ) → i < j → j < length ns → get_or ns i 0 ≡ get_or ns j 0 → ⊥

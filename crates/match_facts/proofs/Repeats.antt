@@ -10,7 +10,8 @@ use Rattle.std.proofs.lemmas.List.Sums.{position_or_len_is}
 use Rattle.std.proofs.lemmas.Option.{slice_get-get_or, slice_get_past}
 use Rattle.rule_book.specs.declared.line.Line.{Line}
 use Rattle.rule_book.specs.MatchFacts.{Lines, players_in}
-use Rattle.rule_book.specs.MatchCalls.{repeats, first_repeat, lines_range}
+use Rattle.rule_book.specs.MatchCalls.{lines_range}
+use Rattle.rule_book.specs.Repeats.{is_repeat, first_repeat}
 use Rattle.rule_book.specs.Refusals.{first_broken}
 use Rattle.rule_book.specs.Figures.{line_range}
 use Rattle.fpl_base.specs.declared.rule.Rule.{Rule}
@@ -22,27 +23,27 @@ module _ (ns : List ℕ) where
   pub long : length (range_with_len 0 (length ns)) ≡ length ns
   long = length-range_with_len 0 (length ns)
 
-  -- the first place that repeats
-  pub repeat_found : (i : ℕ) → i < length ns → repeats ns i ≡ true → ((k : ℕ) → k < i → repeats ns k ≡ false) → first_repeat ns ≡ Some (get_or ns i 0)
+  -- the first place that is_repeat
+  pub repeat_found : (i : ℕ) → i < length ns → is_repeat ns i ≡ true → ((k : ℕ) → k < i → is_repeat ns k ≡ false) → first_repeat ns ≡ Some (get_or ns i 0)
   repeat_found i within here before =
       let all = range_with_len 0 (length ns) in
-      let place : position_or_len (repeats ns) all ≡ i = position_or_len_is (repeats ns) all i 0 (omega (arith, long)) (λ k lt. rw (at k (omega arith)) (before k lt)) (λ lt. rw (at i within) here) in
-      ap (option_map (slice_index ns)) (find_at (repeats ns) all ∙ ap (slice_get all) place ∙ slice_get-get_or all i 0 (omega (arith, long)) ∙ ap Some (at i within))
+      let place : position_or_len (is_repeat ns) all ≡ i = position_or_len_is (is_repeat ns) all i 0 (omega (arith, long)) (λ k lt. rw (at k (omega arith)) (before k lt)) (λ lt. rw (at i within) here) in
+      ap (option_map (slice_index ns)) (find_at (is_repeat ns) all ∙ ap (slice_get all) place ∙ slice_get-get_or all i 0 (omega (arith, long)) ∙ ap Some (at i within))
 
   -- and where none does
-  pub no_repeat : ((k : ℕ) → k < length ns → repeats ns k ≡ false) → first_repeat ns ≡ None
+  pub no_repeat : ((k : ℕ) → k < length ns → is_repeat ns k ≡ false) → first_repeat ns ≡ None
   no_repeat before =
       let all = range_with_len 0 (length ns) in
-      let place : position_or_len (repeats ns) all ≡ length ns = position_or_len_is (repeats ns) all (length ns) 0 (omega (arith, long)) (λ k lt. rw (at k lt) (before k lt)) (λ lt. absurd (omega (arith, long))) in
-      ap (option_map (slice_index ns)) (find_at (repeats ns) all ∙ ap (slice_get all) place ∙ slice_get_past all (length ns) (omega (arith, long)))
+      let place : position_or_len (is_repeat ns) all ≡ length ns = position_or_len_is (is_repeat ns) all (length ns) 0 (omega (arith, long)) (λ k lt. rw (at k lt) (before k lt)) (λ lt. absurd (omega (arith, long))) in
+      ap (option_map (slice_index ns)) (find_at (is_repeat ns) all ∙ ap (slice_get all) place ∙ slice_get_past all (length ns) (omega (arith, long)))
 
 any-players : (rows : Lines) (p : ℕ) → list_any (λ n. n == p) (players_in rows) ≡ list_any (λ row. row.0 == p) rows
 any-players [] p = refl
 any-players (row ∷ rows) p = ap (λ b. (row.0 == p) || b) (any-players rows p)
 
--- the earlier lines tell whether a player repeats
-pub repeats-players : (rows : Lines) (i p : ℕ) → p ≡ slice_index (players_in rows) i → repeats (players_in rows) i ≡ list_any (λ row. row.0 == p) (take i rows)
-repeats-players rows i p e = rw (← e, take-map) (any-players (take i rows) p)
+-- the earlier lines tell whether a player is_repeat
+pub is_repeat-players : (rows : Lines) (i p : ℕ) → p ≡ slice_index (players_in rows) i → is_repeat (players_in rows) i ≡ list_any (λ row. row.0 == p) (take i rows)
+is_repeat-players rows i p e = rw (← e, take-map) (any-players (take i rows) p)
 
 -- the player of the line at a place
 pub player_at : (rows : Lines) (i : ℕ) (row : ℕ × Line) → i < length rows → row ≡ get_or rows i row → row.0 ≡ get_or (players_in rows) i 0

@@ -2,7 +2,7 @@
 use Rattle.std.specs.Prelude.{◌≡◌, ℕ, ◌==◌, if◌then◌else◌, Some, None}
 use Rattle.rule_book.specs.declared.line.Line.{Line}
 use Rattle.rule_book.specs.MatchFacts.{Lines, line_in, players_in, with_line, without_line, by_player, Sheet, MatchFacts, sheet_of, with_sheet}
-use Rattle.rule_book.specs.MatchCalls.{first_repeat}
+use Rattle.rule_book.specs.Repeats.{first_repeat}
 
 -- the sheet that was put in is found, and every other fixture keeps its own
 abbrev pub SheetsAreAMap : Type 0

@@ -2,7 +2,8 @@
 ghost use Rattle.std.specs.Prelude.{◌≡◌, ◌≤◌, ◌==◌, length, OnOk};
 ghost use Rattle.std.specs.List.{list_any};
 ghost use Rattle.rule_book.specs.MatchFacts.{players_in};
-ghost use Rattle.rule_book.specs.MatchCalls.{not_locked, first_repeat, lines_range, sheet_refusal};
+ghost use Rattle.rule_book.specs.MatchCalls.{not_locked, lines_range, sheet_refusal};
+ghost use Rattle.rule_book.specs.Repeats.{first_repeat};
 ghost use Rattle.rule_book.specs.Refusals.{IsJudged};
 
 use crate::line_ok;

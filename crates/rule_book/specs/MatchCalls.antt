@@ -1,13 +1,13 @@
 -- What may be handed in on a match, and what it changes.
-use Rattle.std.specs.Prelude.{ℕ, ◌<◌, Bool, if◌then◌else◌, List, [], ◌∷◌, Option, Some, None, ◌==◌, nat_lt, length, map, take, find, slice_index}
+use Rattle.std.specs.Prelude.{ℕ, Bool, if◌then◌else◌, List, [], ◌∷◌, Option, Some, None, nat_lt, length, map}
 use Rattle.std.specs.Option.{option_map}
-use Rattle.std.specs.List.{list_any, range_with_len}
 use Rattle.fpl_base.specs.declared.rule.Rule.{Rule}
 use Rattle.fpl_base.specs.declared.rule.Rule.TheVariants.{NotLocked, LineTwice, LinesFull}
 use Rattle.rule_book.specs.declared.line.Line.{Line}
 use Rattle.rule_book.specs.Figures.{line_range}
 use Rattle.rule_book.specs.MatchFacts.{Lines, MatchFacts, players_in, with_line, without_line, by_player, sheet_of, with_sheet, lines_of, is_finished}
 use Rattle.rule_book.specs.Refusals.{first_broken}
+use Rattle.rule_book.specs.Repeats.{first_repeat}
 
 -- a fixture that stands in no locked gameweek
 abbrev pub not_locked : ℕ → Bool → Option Rule
@@ -16,14 +16,6 @@ not_locked fixture locked = if locked then None else Some (NotLocked fixture)
 -- more than 64 lines would stand
 abbrev pub lines_full : Lines → Option Rule
 lines_full lines = if nat_lt 64 (length lines) then Some LinesFull else None
-
--- the number at a place stands at an earlier one too
-abbrev pub repeats : List ℕ → ℕ → Bool
-repeats numbers place = list_any (λ number. number == slice_index numbers place) (take place numbers)
-
--- the first of some numbers that repeats an earlier one
-abbrev pub first_repeat : List ℕ → Option ℕ
-first_repeat numbers = option_map (slice_index numbers) (find (repeats numbers) (range_with_len 0 (length numbers)))
 
 -- the first player who has a second line
 abbrev pub line_twice : Lines → Option Rule

@@ -1,6 +1,6 @@
 -- Squads: fifteen players by slot, and their clubs.
-use Rattle.std.specs.Prelude.{◌≡◌, ◌≢◌, ◌≤◌, ℕ, Bool, true, ◌&&◌, ◌==◌, List, [], ◌∷◌, Option, map, take, length, find, filter, min, count_by, nat_lt, slice_index, AllPairs}
-use Rattle.std.specs.List.{list_any, range_with_len, reduce}
+use Rattle.std.specs.Prelude.{◌≡◌, ◌≢◌, ◌≤◌, ℕ, Bool, true, ◌&&◌, ◌==◌, List, [], ◌∷◌, Option, map, filter, min, count_by, nat_lt, AllPairs}
+use Rattle.std.specs.List.{reduce}
 use Rattle.std.specs.Option.{option_map}
 use Rattle.fpl_base.specs.declared.kinds.Position.{Position}
 use Rattle.fpl_base.specs.declared.rule.Rule.{Rule}
@@ -8,6 +8,7 @@ use Rattle.fpl_base.specs.declared.rule.Rule.TheVariants as rule
 use Rattle.rule_book.specs.declared.team.Pick.{Pick}
 use Rattle.rule_book.specs.Positions.{keepers, defenders, midfielders, forwards}
 use Rattle.rule_book.specs.Refusals.{first_broken, unless}
+use Rattle.rule_book.specs.Repeats.{first_repeat}
 
 -- the players of picks, and their positions
 abbrev pub players_of : List Pick → List ℕ
@@ -20,14 +21,6 @@ positions_of picks = map (λ pick. pick.position) picks
 abbrev pub has_squad_shape : List Position → Bool
 has_squad_shape positions =
     keepers positions == 2 && defenders positions == 5 && midfielders positions == 5 && forwards positions == 3
-
--- the player at this place stands at an earlier one too
-abbrev pub is_repeat : List ℕ → ℕ → Bool
-is_repeat players place = list_any (λ player. player == slice_index players place) (take place players)
-
--- the first player that repeats an earlier one of the list
-abbrev pub first_repeat : List ℕ → Option ℕ
-first_repeat players = option_map (slice_index players) (find (is_repeat players) (range_with_len 0 (length players)))
 
 -- how many players come from a club
 abbrev pub count_of_club : List ℕ → ℕ → ℕ

@@ -4,6 +4,7 @@
 #![tactic(auto)]
 
 mod cup;
+mod league;
 mod line;
 mod pairing;
 mod player;
@@ -15,6 +16,7 @@ mod team_score;
 mod transfers;
 
 pub use cup::{Bracket, Coins, Side, Slots};
+pub use league::LeagueKind;
 pub use line::{Appearance, Line};
 pub use pairing::Opponent;
 pub use player::Player;

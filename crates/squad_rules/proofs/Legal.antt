@@ -10,7 +10,8 @@ use Rattle.std.proofs.lemmas.List.Sums.{sum_by-cons}
 use Rattle.fpl_base.specs.declared.rule.Rule.{Rule}
 use Rattle.fpl_base.specs.declared.rule.Rule.TheVariants as rule
 use Rattle.rule_book.specs.declared.team.Pick.{Pick}
-use Rattle.rule_book.specs.Squads.{is_repeat, first_repeat, IsSquad, players_of, positions_of, has_squad_shape, count_of_club, is_crowded, least_crowded, squad_refusal}
+use Rattle.rule_book.specs.Repeats.{is_repeat, first_repeat}
+use Rattle.rule_book.specs.Squads.{IsSquad, players_of, positions_of, has_squad_shape, count_of_club, is_crowded, least_crowded, squad_refusal}
 use Rattle.rule_book.specs.Refusals.{first_broken, unless}
 use Rattle.squad_rules.proofs.Repeats.{find_in_no_range}
 

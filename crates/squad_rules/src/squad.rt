@@ -1,6 +1,7 @@
 // Squads.
 ghost use Rattle.std.specs.Prelude.{◌≡◌, ◌↔◌, IsOk};
-ghost use Rattle.rule_book.specs.Squads.{IsSquad, players_of, positions_of, first_repeat, has_squad_shape, is_crowded, least_crowded, squad_refusal};
+ghost use Rattle.rule_book.specs.Repeats.{first_repeat};
+ghost use Rattle.rule_book.specs.Squads.{IsSquad, players_of, positions_of, has_squad_shape, is_crowded, least_crowded, squad_refusal};
 ghost use Rattle.rule_book.specs.Refusals.{IsJudged};
 
 use crate::counts::{defenders, forwards, keepers, midfielders};

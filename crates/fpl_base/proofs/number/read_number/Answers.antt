@@ -1,6 +1,5 @@
-use Rattle.std.proofs.Common.{rules, arith, ◌≡◌, ◌<◌, ◌≤◌, ◌^◌, ℕ, List, sym, ◌∙◌, refl}
+use Rattle.std.proofs.Common.{arith, ◌≡◌, sym, ◌∙◌, refl}
 use Rattle.std.proofs.lemmas.Bool.{false≢true}
-use Rattle.std.specs.Fmt.{decimal}
 use Rattle.fpl_base.proofs.NumberLemmas.{decimal-front, IsUtf8-decimal, parse_again, parsed_is_decimal, ok_same}
 use Rattle.fpl_base.proofs.number.read_number.Goals as goal
 

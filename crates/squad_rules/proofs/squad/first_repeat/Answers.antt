@@ -2,7 +2,7 @@ use Rattle.std.proofs.Common.{Some, ap, arith, eqb, length, sym, take, ◌∙◌
 use Rattle.std.specs.List.{list_any, slice_index}
 use Rattle.std.specs.Option.{option_map}
 use Rattle.std.proofs.lemmas.List.{get_or_read}
-use Rattle.rule_book.specs.Squads.{is_repeat}
+use Rattle.rule_book.specs.Repeats.{is_repeat}
 use Rattle.squad_rules.proofs.Repeats.{find_in_range, find_in_no_range}
 use Rattle.squad_rules.proofs.squad.first_repeat.Goals as goal
 
