@@ -1,6 +1,6 @@
 //! Makes one call of the players many times, for a count of its instructions:
-//! `bench_players PLAYERS CALL TIMES` with a call of `get`, `at`, `set_price`, `set_club` and `add`. PLAYERS stand
-//! before; `add` adds so many to none, the greatest id first.
+//! `bench_players PLAYERS CALL TIMES` with a call of `get`, `at`, `set_price`, `set_club`, `add` and `add_rising`.
+//! PLAYERS stand before; `add` adds so many to none, the greatest id first, and `add_rising` the least id first.
 #![tactic(auto)]
 
 use fpl_base::{ClubId, Name, PlayerId, Position, Refused, Tenths};
@@ -14,7 +14,13 @@ enum Call {
     At,
     SetPrice,
     SetClub,
-    Add,
+    Add(Order),
+}
+
+#[derive(Clone, Copy)]
+enum Order {
+    Falling,
+    Rising,
 }
 
 #[derive(Clone, Copy)]
@@ -26,7 +32,9 @@ struct Plan {
 
 fn main(rt: HostRuntime) -> Result<(), &'static str> {
     let plan = plan_of(&rt).ok_or("usage: bench_players PLAYERS CALL TIMES")?;
-    let mut players = filled(rt.alloc(), plan.players).ok_or("a player was refused")?;
+    let mut players = filled(rt.alloc(), plan.players, Order::Falling).ok_or(
+        "a player was refused",
+    )?;
     let total = called(rt.alloc(), &mut players, plan).ok_or("a call was refused")?;
     println!(rt; "{total}").map_err(|_| "nothing can be written")
 }
@@ -50,16 +58,21 @@ fn call_of(word: &str) -> Option<Call> {
         "at" => Some(Call::At),
         "set_price" => Some(Call::SetPrice),
         "set_club" => Some(Call::SetClub),
-        "add" => Some(Call::Add),
+        "add" => Some(Call::Add(Order::Falling)),
+        "add_rising" => Some(Call::Add(Order::Rising)),
         _ => None,
     }
 }
 
-// Players 1 to so many, the greatest id first, so that each goes before those that are there.
-fn filled(alloc: Global, count: u32) -> Option<Players> {
+// Players 1 to so many. Where their ids fall, each goes before those that are there; where they rise, behind.
+fn filled(alloc: Global, count: u32, order: Order) -> Option<Players> {
     let mut players = Players::new(alloc);
     for turn in 0..count {
-        let player = player(alloc, count - turn)?;
+        let id = match order {
+            Order::Falling => count - turn,
+            Order::Rising => turn + 1,
+        };
+        let player = player(alloc, id)?;
         match players.add(player) {
             Ok(()) => {}
             Err(Refused::Memory) | Err(Refused::Rule(_)) => return None,
@@ -107,6 +120,6 @@ fn made(alloc: Global, players: &mut Players, plan: Plan, id: u32) -> Option<u64
             players.set_club(player, ClubId::new((id % 255) as u8 + 1)?);
             Some(1)
         }
-        Call::Add => Some(filled(alloc, plan.players)?.len() as u64),
+        Call::Add(order) => Some(filled(alloc, plan.players, order)?.len() as u64),
     }
 }

@@ -1,2 +1,3 @@
 pub mod PlaceLemmas
 pub mod RefusalLemmas
+pub mod RowLemmas

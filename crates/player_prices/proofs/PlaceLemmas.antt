@@ -1,10 +1,7 @@
--- What a search among players by ascending id finds, and what an edit at that place does.
-use Rattle.std.proofs.Common.{◌≡◌, ◌≢◌, ℕ, zero, suc, ◌+◌, ◌-◌, ◌<◌, List, [], ◌∷◌, length, get_or, set, take, drop, Bool, true, false, nat_lt, Some, None, Result, Ok, Err, IfOk, IfErr, refl, sym, ap, ◌∙◌, subst, arith}
+-- What stands at a place among players by ascending id, and what an edit at that place does.
+use Rattle.std.proofs.Common.{◌≡◌, ◌≢◌, ℕ, zero, suc, ◌+◌, ◌-◌, ◌<◌, List, [], ◌∷◌, length, get_or, set, take, drop, Bool, true, false, nat_lt, Some, None, refl, sym, ap, ◌∙◌, subst, arith}
 use Rattle.std.specs.Prelude.{All, AllPairs, filter}
 use Rattle.std.specs.List.{insert, HoldsAt}
-use Rattle.std.specs.List.Sorted.{IsSearchInRange, IsBinarySearchResult, IsNonDecreasingBy}
-use Rattle.std.specs.Ordering.{nat_cmp, ordering_index}
-use Rattle.std.proofs.lemmas.Cmp.{ranked}
 use Rattle.std.proofs.lemmas.List.{append-nil, take-append-drop}
 use Rattle.std.proofs.lemmas.List.Elements.{All-cons, All-head, All-tail, All-append, All-take, All-drop, filter-append}
 use Rattle.std.proofs.lemmas.List.Edits.{length-insert, get_or-insert_below, get_or-insert_at, get_or-insert_above}
@@ -23,25 +20,6 @@ rise_tail p ps rise i j d lt within = rise (suc i) (suc j) d (omega arith) (omeg
 
 first_below : (p : Player) (ps : List Player) → Rise (p ∷ ps) → All (λ q. p.id < q.id) ps
 first_below p ps rise k d within = rise 0 (suc k) d (omega arith) (omega arith)
-
-module _ (players : List Player) (rise : Rise players) (id : ℕ) where
-  -- the comparisons with an id rise along the list, as a binary search asks
-  comparisons_rise : IsNonDecreasingBy (λ p. ordering_index (nat_cmp p.id id)) players
-  comparisons_rise i j d le within =
-      let same : i ≡ j → (get_or players i d).id ≡ (get_or players j d).id = λ e. ap (λ k. (get_or players k d).id) e in
-      grind (arith, nat_tests, rise i j d, same)
-
-  -- a binary search by id ends at the player, or at the place for him
-  pub searched : (r : Result ℕ ℕ) → IsSearchInRange r (length players) → IsBinarySearchResult (λ p. nat_cmp p.id id) players r → IfOk r (StandsAt players id) × IfErr r (IsPlaceFor players id)
-  searched (Ok at) within equal = (record { within = within; has_id = λ d. ranked _ id _ (sym (equal d)) }, tt)
-  searched (Err at) within parted = (
-    tt,
-    record {
-      within = within;
-      smaller = λ k d low lt. ranked _ id _ (sym ((parted comparisons_rise).0 k d low lt));
-      greater = λ k d low lt. ranked _ id _ (sym ((parted comparisons_rise).1 k d low lt));
-    },
-  )
 
 -- a player who stands at a place is the one of his id
 pub player_at : (players : List Player) (id at : ℕ) (d : Player) → Rise players → at < length players → HoldsAt (λ p. p.id ≡ id) players at → player_of players id ≡ Some (get_or players at d)

@@ -16,20 +16,21 @@ const MOST_PLAYERS: usize = 1200;
 /// million.
 #[derive(Drop)]
 pub struct Players {
-    rows: Vec<Player>,
+    // A row is a pointer, so that a player who goes before many others moves few bytes.
+    rows: Vec<Box<Player>>,
 }
 
 impl Model for Players {
-    ghost use Rattle.std.specs.Prelude.{List};
+    ghost use Rattle.std.specs.Prelude.{List, map};
     ghost use Rattle.rule_book.specs.declared.player.Player.{Player};
 
     ghost Value = { List Player };
 
     ghost use Rattle.rule_book.specs.Players.{ArePlayers};
 
-    ghost view = { λ s. s.rows.items };
+    ghost view = { λ s. map (λ b. b.value) s.rows.items };
 
-    ghost invariant = { λ s. ArePlayers s.rows.items };
+    ghost invariant = { λ s. ArePlayers (map (λ b. b.value) s.rows.items) };
 }
 
 impl Players {
@@ -59,7 +60,11 @@ impl Players {
         if !is_price(player.price) {
             return Err(Refused::Rule(Rule::PriceRange));
         }
-        if self.rows.insert(place, player).is_err() {
+        let row = match Box::new(*self.rows.allocator(), player) {
+            Ok(row) => row,
+            Err(_) => return Err(Refused::Memory),
+        };
+        if self.rows.insert(place, row).is_err() {
             return Err(Refused::Memory);
         }
         Ok(())
@@ -123,7 +128,8 @@ impl Players {
         ensures found { option_copied result ≡ slice_get self.now place }
         ensures lawful { ArePlayers self.now }
     {
-        self.rows.get(place)
+        let row = self.rows.get(place)?;
+        Some(row)
     }
 
     // Where the player stands, or would stand.

@@ -1,5 +1,6 @@
 mod Around
 mod Days
+mod Early
 mod Lawful
 mod Locks
 mod Places

@@ -1,8 +1,8 @@
 -- What the calendar keeps beside its facts, and where a fixture is in it.
-use Rattle.std.specs.Prelude.{◌≡◌, ◌≤◌, ◌<◌, ◌+◌, ◌-◌, ◌==◌, ℕ, not, nat_lt, nat_le, List, [], ◌∷◌, ◌++◌, Option, Some, None, All, length, filter, take, drop, slice_index_or, slice_set}
+use Rattle.std.specs.Prelude.{◌≡◌, ◌≤◌, ◌<◌, ◌+◌, ◌-◌, ◌==◌, ℕ, Bool, false, not, nat_lt, nat_le, List, [], ◌∷◌, ◌++◌, Option, Some, None, All, length, filter, take, drop, slice_index_or, slice_set}
 use Rattle.std.specs.List.{HoldsAt}
 use Rattle.rule_book.specs.declared.season.Fixture.{Fixture}
-use Rattle.rule_book.specs.Calendar.{CalendarFacts, IsCalendar, standing_among}
+use Rattle.rule_book.specs.Calendar.{CalendarFacts, IsCalendar, standing_among, is_early}
 
 -- the lists are those of the fixtures that stand in gameweek 1, 2 and so on
 pub record AreStanding (lists : List (List ℕ)) (xs : List Fixture) : Type 0 where
@@ -44,3 +44,8 @@ pub record IsGap (xs : List Fixture) (f i : ℕ) : Type 0 where
   pub within : i ≤ length xs
   pub before : All (λ x. x.id < f) (take i xs)
   pub after : All (λ x. f < x.id) (drop i xs)
+
+-- a fixture, if it is there, kicks off too early for a deadline
+abbrev pub is_there_early : ℕ → Option Fixture → Bool
+is_there_early deadline None = false
+is_there_early deadline (Some x) = is_early deadline x.kickoff

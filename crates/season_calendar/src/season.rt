@@ -1,4 +1,4 @@
-ghost use Rattle.std.specs.Prelude.{◌≡◌, ◌≢◌, ◌≤◌, ◌+◌, ◌-◌, ◌&&◌, ℕ, AllPairs, IfOk, IfErr, IfSome, IsSome, OnOk, OnErr, ◌<◌, Option, None, length, find, nat_le, slice_get, slice_set, ◌↔◌, IsTrue};
+ghost use Rattle.std.specs.Prelude.{◌≡◌, ◌≢◌, ◌≤◌, ◌+◌, ◌-◌, ◌&&◌, ◌==◌, ℕ, AllPairs, IfOk, IfErr, IfSome, IsSome, OnOk, OnErr, ◌<◌, Option, None, length, find, nat_le, slice_get, slice_set, ◌↔◌, IsTrue};
 ghost use Rattle.std.specs.Option.{option_map};
 ghost use Rattle.std.specs.List.{take_while};
 ghost use Rattle.rule_book.specs.Refusals.{IsJudged, IsJudgedOrOut};
@@ -171,7 +171,7 @@ impl Calendar {
         if !lies_between(&self.deadlines, g, t) {
             return Err(Rule::DeadlineOrder { gameweek: g });
         }
-        match first_early(&self.fixtures, g, t) {
+        match first_early(&self.fixtures, self.standing.get(g), t) {
             Some(fixture) => Err(Rule::KickoffEarly { fixture }),
             None => {
                 self.deadlines[usize::from(g.get() - 1)] = t;
@@ -312,7 +312,7 @@ impl Calendar {
 }
 
 ghost use Rattle.rule_book.specs.Calendar.{first_out_of_order, is_gameweek, is_early, is_after_previous, is_before_next};
-ghost use Rattle.season_calendar.specs.Kept.{IsAt, IsGap, ids_without};
+ghost use Rattle.season_calendar.specs.Kept.{IsAt, IsGap, ids_without, is_there_early};
 
 // The first gameweek whose deadline is not after that of the gameweek before.
 fn first_out_of_order(deadlines: &[Moment]) -> Option<Gw>
@@ -355,24 +355,28 @@ fn lies_between(deadlines: &[Moment], g: Gw, t: Moment) -> bool
         && (number >= deadlines.len() || t < deadlines[number])
 }
 
-// Whether a fixture stands in a gameweek.
-fn stands(fixture: &Fixture, g: Gw) -> bool
-    ensures { result ≡ is_gameweek g fixture.now.gw }
+// The first of some fixtures, named by their ids, that kicks off too early for this deadline.
+fn first_early(fixtures: &[Fixture], ids: &[FixtureId], t: Moment) -> Option<FixtureId>
+    requires { AllPairs (λ x y. x.id < y.id) fixtures.now }
+    ensures { result ≡ find (λ f. is_there_early t (find (λ x. x.id == f) fixtures.now)) ids.now }
 {
-    match fixture.gw {
-        Some(h) => h == g,
-        None => false,
+    for f in ids {
+        if kicks_off_early(fixtures, *f, t) {
+            return Some(*f);
+        }
     }
+    None
 }
 
-// The first fixture that stands in a gameweek and kicks off too early for this deadline.
-fn first_early(fixtures: &[Fixture], g: Gw, t: Moment) -> Option<FixtureId>
-    ensures { result ≡ option_map (λ x. x.id) (find (λ x. is_gameweek g x.gw && is_early t x.kickoff) fixtures.now) }
+// Whether a fixture is there and kicks off too early for this deadline.
+fn kicks_off_early(fixtures: &[Fixture], f: FixtureId, t: Moment) -> bool
+    requires { AllPairs (λ x y. x.id < y.id) fixtures.now }
+    ensures { result ≡ is_there_early t (find (λ x. x.id == f) fixtures.now) }
 {
-    let early = fixtures
-        .iter()
-        .find(|x| stands(x, g) && is_early(t, x.kickoff))?;
-    Some(early.id)
+    match place_of(fixtures, f) {
+        Ok(at) => is_early(t, fixtures[at].kickoff),
+        Err(_) => false,
+    }
 }
 
 // Where a fixture is among fixtures by ascending id, or where it would go.
