@@ -18,7 +18,8 @@ use Rattle.rule_book.specs.History.{Holding, Event, kept}
 use Rattle.rule_book.specs.HistoryRules.{times}
 use Rattle.rule_book.specs.HistorySquad.{order_of, bought_at, picks_of}
 use Rattle.rule_book.specs.HistoryTeam.{holding_of, holdings, is_held as is_holding, IsTeam, TeamTold}
-use Rattle.rule_book.specs.Squads.{first_repeat, players_of}
+use Rattle.rule_book.specs.Repeats.{first_repeat}
+use Rattle.rule_book.specs.Squads.{players_of}
 use Rattle.squad_rules.proofs.Legal.{apart_when}
 use Rattle.season_ledger.specs.declared.row.Standing.{Standing}
 use Rattle.season_ledger.specs.Rows.{IsFitTeam, FitsIn, team_in}

@@ -19,7 +19,8 @@ use Rattle.rule_book.specs.HistoryTransfers.{makes_free, is_same_chip, used_befo
 use Rattle.rule_book.specs.Lineups.{lineup_refusal}
 use Rattle.rule_book.specs.Players.{player_of}
 use Rattle.rule_book.specs.Refusals.{first_broken, unless}
-use Rattle.rule_book.specs.Squads.{first_repeat, players_of, positions_of, squad_refusal}
+use Rattle.rule_book.specs.Repeats.{first_repeat}
+use Rattle.rule_book.specs.Squads.{players_of, positions_of, squad_refusal}
 use Rattle.season_ledger.specs.declared.row.Standing.{Standing}
 use Rattle.season_ledger.specs.declared.row.Row.{Row}
 use Rattle.season_ledger.specs.Rows.{standing_at, team_in, chip_by, used_by, first_in, put_row}

@@ -1,11 +1,14 @@
-ghost use Rattle.std.specs.Prelude.{◌≡◌, ◌≢◌, ◌<◌, ◌↔◌, IsTrue, IsSome, All};
+ghost use Rattle.std.specs.Prelude.{◌≡◌, ◌≢◌, ◌<◌, ◌≤◌, ◌↔◌, IsTrue, IsSome, All, None, Some, length};
 ghost use Rattle.fpl_base.specs.declared.kinds.Chip.TheVariants.{None as NoChip};
 ghost use Rattle.rule_book.specs.Batch.{AreIncomersThere};
 ghost use Rattle.rule_book.specs.Players.{player_of};
+ghost use Rattle.manager_book.specs.Examples.{example_pick, example_team, example_teams, example_sales};
+ghost use Rattle.manager_book.specs.Managers.{entry_with};
 
-use crate::{ManagerBook, Sales, Swap, Team};
+use crate::{ManagerBook, Pick, Sale, Sales, Swap, Team};
 use fpl_base::{
-    Chip, ClubId, EntryId, Gw, Key, Name, PlayerId, Position, Profile, Refused, Rule, Steps, Tenths,
+    Chip, ClubId, EntryId, Gw, Key, Memory, Name, PlayerId, Position, Profile, Refused, Rule,
+    Steps, Tenths,
 };
 use player_prices::{Player, Players};
 use std::alloc::Global;
@@ -470,15 +473,138 @@ fn lineups_are_judged(rt: HostRuntime) -> Result<(), Fail> {
     Ok(())
 }
 
-#[test]
-fn an_entry_is_restored(rt: HostRuntime) -> Result<(), Fail> {
-    let alloc = rt.alloc();
+fn player(number: u32) -> PlayerId
+    requires low { 1 ≤ number }
+    requires high { number ≤ 99 }
+    ensures { result ≡ number }
+{
+    PlayerId::new(number).unwrap()
+}
+
+fn pick(number: u32) -> Pick
+    requires low { 1 ≤ number }
+    requires high { number ≤ 99 }
+    ensures { result ≡ example_pick number }
+{
+    Pick {
+        player: player(number),
+        position: Position::Midfielder,
+        bought: Tenths::new(60).unwrap(),
+    }
+}
+
+fn example_team(seventh: u32, eighth: u32, captain: u8, bank: u32, chip: Chip) -> Team
+    requires seventh { (1 ≤ seventh) × (seventh ≤ 99) }
+    requires eighth { (1 ≤ eighth) × (eighth ≤ 99) }
+    requires bank { bank ≤ 1000 }
+    ensures { result ≡ example_team seventh eighth captain bank chip }
+{
+    let picks = [
+        pick(1),
+        pick(2),
+        pick(3),
+        pick(4),
+        pick(5),
+        pick(6),
+        pick(seventh),
+        pick(eighth),
+        pick(9),
+        pick(10),
+        pick(11),
+        pick(12),
+        pick(13),
+        pick(14),
+        pick(15),
+    ];
+    Team {
+        picks,
+        captain,
+        vice: 8,
+        bank: Tenths::new(bank).unwrap(),
+        chip,
+    }
+}
+
+fn example_teams() -> [(Gw, Team); 3]
+    ensures { result ≡ example_teams }
+{
+    [
+        (Gw::new(1).unwrap(), example_team(7, 8, 7, 100, Chip::None)),
+        (
+            Gw::new(2).unwrap(),
+            example_team(20, 21, 7, 101, Chip::None),
+        ),
+        (
+            Gw::new(4).unwrap(),
+            example_team(20, 21, 9, 101, Chip::FreeHit),
+        ),
+    ]
+}
+
+fn example_sale(out: u32, into: u32, sold: u32) -> (Gw, Sale)
+    requires out { (1 ≤ out) × (out ≤ 99) }
+    requires into { (1 ≤ into) × (into ≤ 99) }
+    requires sold { sold ≤ 200 }
+    ensures { result ≡ (2, record { out = out; into = into; sold = sold; bought = 60 }) }
+{
+    let sale = Sale {
+        out: player(out),
+        into: player(into),
+        sold: Tenths::new(sold).unwrap(),
+        bought: Tenths::new(60).unwrap(),
+    };
+    (Gw::new(2).unwrap(), sale)
+}
+
+fn example_sales() -> [(Gw, Sale); 2]
+    ensures { result ≡ example_sales }
+{
+    [example_sale(7, 20, 61), example_sale(8, 21, 60)]
+}
+
+fn first_gameweek() -> Option<Gw>
+    ensures { result ≡ Some 1 }
+{
+    Some(Gw::new(1).unwrap())
+}
+
+// Restores the example as the entry of a book.
+fn restore_example(book: &mut ManagerBook, key: Key, name: Name) -> Result<(), Memory>
+    requires room { length book.old.managers < 2048 }
+    requires fresh { entry_with book.old key ≡ None }
+{
+    let teams = example_teams();
+    let sales = example_sales();
+    book.restore(key, name, first_gameweek(), &teams, &sales)
+}
+
+fn restored(rt: &impl Abort, alloc: Global) -> Result<(ManagerBook, EntryId), Fail> {
     let mut book = ManagerBook::new(alloc, Profile::B);
     let key = Key::new(alloc, b"manager1")?.ok_or("a key")?;
     let name = Name::new(alloc, b"Ann")?.ok_or("a name")?;
     assert!(rt; book.entry_of(&key).is_none());
     assert!(rt; book.entries() < 2048);
-    book.restore(key, name, None, &[], &[])?;
-    assert_eq!(rt; book.entries(), 1);
+    restore_example(&mut book, key, name)?;
+    Ok((book, EntryId::new(1).ok_or("an entry")?))
+}
+
+// In gameweek 2 one transfer is free, so the second costs 4 points, and both are counted. None is left, so gameweek 3 has
+// one, and gameweek 4 one more. The free hit of gameweek 4 keeps these two for gameweek 5, which has the captain of
+// gameweek 2 again.
+#[test]
+fn an_entry_is_restored(rt: HostRuntime) -> Result<(), Fail> {
+    let (book, e) = restored(&rt, rt.alloc())?;
+    assert_eq!(rt; (book.entries(), book.first(e)), (1, first_gameweek()));
+    assert_eq!(rt; money(&book, e, 1)?, (None, 0, 0));
+    assert_eq!(rt; money(&book, e, 2)?, (Some(1), 4, 2));
+    assert_eq!(rt; money(&book, e, 3)?, (Some(1), 0, 2));
+    assert_eq!(rt; money(&book, e, 4)?, (Some(2), 0, 2));
+    assert_eq!(rt; money(&book, e, 5)?, (Some(2), 0, 2));
+    assert_eq!(rt; seventh_and_bank(&book, e, 1)?, (7, 100));
+    assert_eq!(rt; seventh_and_bank(&book, e, 2)?, (20, 101));
+    assert_eq!(rt; seventh_and_bank(&book, e, 5)?, (20, 101));
+    assert_eq!(rt; team(&book, e, 3)?.captain, 7);
+    assert_eq!(rt; team(&book, e, 4)?.captain, 9);
+    assert_eq!(rt; team(&book, e, 5)?.captain, 7);
     Ok(())
 }
