@@ -1,0 +1,16 @@
+//! The commands of the season as values, and the book of a season as definitions: what is so, what each caller did
+//! last, and what he was answered.
+#![tactic(auto)]
+
+mod command;
+mod copies;
+mod lists;
+mod made;
+mod same;
+
+pub use command::Command;
+pub use lists::{Clubs, Lines, Moments};
+pub use made::Made;
+
+#[cfg(test)]
+mod tests;
