@@ -1,0 +1,9 @@
+pub mod Commands
+pub mod Doing
+pub mod Hosts
+pub mod Kept
+pub mod Once
+pub mod Runs
+pub mod Verdict
+pub mod Views
+pub mod Worth

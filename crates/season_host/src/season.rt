@@ -1,0 +1,26 @@
+use match_facts::MatchFacts;
+use player_prices::Players;
+use record_codec::Clubs;
+use season_calendar::Calendar;
+use std::marker::Model;
+
+/// What the operator handed in on a season. A contract sees it as the facts.
+#[derive(Drop)]
+pub struct Season {
+    pub(crate) calendar: Calendar,
+    pub(crate) clubs: Clubs,
+    pub(crate) players: Players,
+    pub(crate) matches: MatchFacts,
+}
+
+impl Model for Season {
+    ghost use Rattle.fpl_base.specs.declared.kinds.Profile.TheVariants as profile;
+    ghost use Rattle.record_codec.specs.Book.{Facts};
+    ghost use Rattle.season_host.specs.Kept.{AreFacts};
+
+    ghost Value = { Facts };
+
+    ghost view = { λ s. record { profile = profile.A; calendar = s.calendar; clubs = s.clubs; players = s.players; matches = s.matches } };
+
+    ghost invariant = { λ s. AreFacts (record { profile = profile.A; calendar = s.calendar; clubs = s.clubs; players = s.players; matches = s.matches }) };
+}

@@ -1,0 +1,160 @@
+// What views show.
+ghost use Rattle.std.specs.Prelude.{◌≡◌, ◌≤◌, ◌<◌, ◌&&◌, Some, None, IfOk, length, nat_le, option_copied, slice_get, if◌then◌else◌};
+ghost use Rattle.std.specs.Option.{option_map};
+ghost use Rattle.rule_book.specs.Calendar.{fixture_of, is_locked};
+ghost use Rattle.rule_book.specs.Players.{player_of};
+ghost use Rattle.season_host.specs.Views.{shown_of, season_shown, fixture_shown};
+ghost use Rattle.season_host.specs.declared.request.View.TheVariants as view;
+
+use crate::figures::gameweek_figures;
+use crate::sheets::{is_finished, lines_shown};
+use crate::{Moments, Season, Shown, ShownFixture, ShownSeason, View};
+use fpl_base::{FixtureId, Gw, Memory, Moment, PlayerId, Steps};
+use rule_book::{Fixture, Player};
+use season_calendar::Calendar;
+use std::alloc::Global;
+use std::sync::ledger::Ledger;
+
+/// What a view shows; `None` exactly where an id is not there, or the gameweek is not locked. Each line of a match that
+/// it reads is a counted read.
+pub fn show<L: Ledger>(
+    alloc: Global,
+    season: &Season,
+    view: View,
+    steps: &mut Steps<L>,
+) -> Result<Option<Shown>, Memory>
+    ensures { IfOk result (λ shown. shown ≡ shown_of season.now view) }
+{
+    match view {
+        View::Season => Ok(Some(Shown::Season(season_shown(alloc, season)?))),
+        View::Player { player } => player_shown(season, player),
+        View::PlayerGameweek { player, gameweek } => {
+            gameweek_shown(alloc, season, player, gameweek, steps)
+        }
+        View::Fixture { fixture } => fixture_shown(alloc, season, fixture, steps),
+    }
+}
+
+fn season_shown(alloc: Global, season: &Season) -> Result<ShownSeason, Memory>
+    ensures { IfOk result (λ shown. shown ≡ season_shown season.now) }
+{
+    Ok(ShownSeason {
+        clubs: season.clubs.copy()?,
+        deadlines: deadlines_of(alloc, &season.calendar)?,
+        locked: season.calendar.locked(),
+        split: season.calendar.split(),
+    })
+}
+
+fn deadlines_of(alloc: Global, calendar: &Calendar) -> Result<Moments, Memory>
+    ensures { IfOk result (λ deadlines. deadlines ≡ calendar.now.deadlines) }
+{
+    let mut deadlines = Moments::new(alloc);
+    for place in 0..calendar.gameweeks() {
+        deadlines.push(deadline_at(calendar, place))?;
+    }
+    Ok(deadlines)
+}
+
+// The deadline at a place, from 0, of which there are at most 38.
+fn deadline_at(calendar: &Calendar, place: u8) -> Moment
+    requires there { place < length calendar.now.deadlines }
+    requires at_most_38 { length calendar.now.deadlines ≤ 38 }
+    ensures { slice_get calendar.now.deadlines place ≡ Some result }
+{
+    let gameweek = Gw::new(place + 1).unwrap();
+    calendar.deadline(gameweek).unwrap()
+}
+
+fn player_shown(season: &Season, player: u32) -> Result<Option<Shown>, Memory>
+    ensures { IfOk result (λ shown. shown ≡ shown_of season.now (view.Player player)) }
+{
+    match player_there(season, player) {
+        Some(there) => Ok(Some(Shown::Player(copy_of_player(there)?))),
+        None => Ok(None),
+    }
+}
+
+// The player of this id, if he is there.
+fn player_there(season: &Season, player: u32) -> Option<&Player>
+    ensures { option_copied result ≡ player_of season.now.players player }
+{
+    match PlayerId::new(player) {
+        Some(id) => season.players.get(id),
+        None => None,
+    }
+}
+
+fn copy_of_player(player: &Player) -> Result<Player, Memory>
+    ensures { IfOk result (λ copy. copy ≡ player.now) }
+{
+    Ok(Player {
+        id: player.id,
+        name: player.name.copy()?,
+        position: player.position,
+        club: player.club,
+        price: player.price,
+        gone: player.gone,
+    })
+}
+
+fn gameweek_shown<L: Ledger>(
+    alloc: Global,
+    season: &Season,
+    player: u32,
+    gameweek: u32,
+    steps: &mut Steps<L>,
+) -> Result<Option<Shown>, Memory>
+    ensures { IfOk result (λ shown. shown ≡ shown_of season.now (view.PlayerGameweek player gameweek)) }
+{
+    let Some(there) = player_there(season, player) else {
+        return Ok(None);
+    };
+    let Some(locked) = locked_gameweek(season, gameweek) else {
+        return Ok(None);
+    };
+    let figures = gameweek_figures(alloc, season, there.id, locked, steps)?;
+    Ok(Some(Shown::PlayerGameweek(figures)))
+}
+
+// The gameweek of this number, if it is locked.
+fn locked_gameweek(season: &Season, number: u32) -> Option<Gw>
+    ensures { result ≡ (if nat_le 1 number && is_locked season.now.calendar number then Some number else None) }
+{
+    if number >= 1 && number <= u32::from(season.calendar.locked()) {
+        Gw::new(number as u8)
+    } else {
+        None
+    }
+}
+
+fn fixture_shown<L: Ledger>(
+    alloc: Global,
+    season: &Season,
+    fixture: u32,
+    steps: &mut Steps<L>,
+) -> Result<Option<Shown>, Memory>
+    ensures { IfOk result (λ shown. shown ≡ shown_of season.now (view.Fixture fixture)) }
+{
+    match fixture_there(season, fixture) {
+        Some(there) => Ok(Some(Shown::Fixture(ShownFixture {
+            fixture: there,
+            finished: is_finished(season, there.id),
+            lines: lines_shown(alloc, season, there.id, steps)?,
+        }))),
+        None => Ok(None),
+    }
+}
+
+// The fixture of this id, if it is there.
+fn fixture_there(season: &Season, fixture: u32) -> Option<Fixture>
+    ensures { result ≡ fixture_of season.now.calendar fixture }
+{
+    match FixtureId::new(fixture) {
+        Some(id) => season.calendar.fixture(id),
+        None => None,
+    }
+}
+
+#[cfg(test)]
+mod tests;
