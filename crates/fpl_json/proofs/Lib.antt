@@ -1,0 +1,14 @@
+pub mod BodyLemmas
+pub mod DifferLemmas
+pub mod EntryLemmas
+pub mod FitLemmas
+pub mod FloatLemmas
+pub mod ListLemmas
+pub mod MemberLemmas
+pub mod OneLemmas
+pub mod PatternTests
+pub mod PlaceFacts
+pub mod RowLemmas
+pub mod SegmentLemmas
+pub mod TableFacts
+pub mod TableLemmas

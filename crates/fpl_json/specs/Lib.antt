@@ -1,0 +1,9 @@
+pub mod Answers
+pub mod Callers
+pub mod FieldNames
+pub mod MemberData
+pub mod Members
+pub mod Requests
+pub mod RuleData
+pub mod ShownData
+pub mod Targets

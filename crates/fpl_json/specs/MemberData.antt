@@ -1,0 +1,20 @@
+-- Members of a body, by name.
+use Rattle.std.specs.Prelude.{ℕ, List, Option, Some, None, codes}
+use Rattle.serde_json.specs.Data.{Data, null, number, unsigned, string, object, member, no_members}
+
+-- a whole number from 0
+abbrev pub count : ℕ → Data
+count n = number (unsigned n)
+
+-- a whole number from 0, or null
+abbrev pub count_or_null : Option ℕ → Data
+count_or_null None = null
+count_or_null (Some n) = count n
+
+-- a body whose one member says what is wrong
+abbrev pub error_data : List ℕ → Data
+error_data text = object (member (codes "error") (string text) no_members)
+
+-- a request whose body is wrong at this field
+abbrev pub malformed_data : List ℕ → Data
+malformed_data field = object (member (codes "error") (string (codes "malformed")) (member (codes "field") (string field) no_members))

@@ -1,0 +1,285 @@
+// Answers and their exact texts, each with its status in front.
+use crate::{
+    answer_text, bytes_text, caller_text, key_text, malformed_text, memory_text, method_text,
+    unknown_text,
+};
+use fpl_base::{
+    ClubId, CupId, EntryId, FixtureId, Gw, LeagueId, Moment, Name, PlayerId, Position, RecordKey,
+    Rule, Tenths,
+};
+use record_codec::{Clubs, Made, Moments};
+use rule_book::{Figures, Fixture, Player};
+use season_host::{Answer, Shown, ShownFixture, ShownLine, ShownLines, ShownSeason};
+use std::alloc::Global;
+use std::str;
+use std::test::Fail;
+
+fn line_of(alloc: Global, answer: &Answer) -> Result<String, Fail> {
+    let reply = answer_text(alloc, answer)?;
+    let body = str::from_utf8(reply.body.as_slice()).ok().ok_or("a text")?;
+    Ok(format!(in alloc; "{} {}", reply.status, body)?)
+}
+
+fn club(number: u8) -> Result<ClubId, Fail> {
+    Ok(ClubId::new(number).ok_or("a club")?)
+}
+
+fn player(number: u32) -> Result<PlayerId, Fail> {
+    Ok(PlayerId::new(number).ok_or("a player")?)
+}
+
+fn fixture(number: u32) -> Result<FixtureId, Fail> {
+    Ok(FixtureId::new(number).ok_or("a fixture")?)
+}
+
+fn gameweek(number: u8) -> Result<Gw, Fail> {
+    Ok(Gw::new(number).ok_or("a gameweek")?)
+}
+
+fn moment(number: u64) -> Result<Moment, Fail> {
+    Ok(Moment::new(number).ok_or("a moment")?)
+}
+
+fn name(alloc: Global, text: &[u8]) -> Result<Name, Fail> {
+    Ok(Name::new(alloc, text)?.ok_or("a name")?)
+}
+
+// A refusal of each kept value, and one of none.
+#[test]
+fn refusals_say_what_they_keep(rt: HostRuntime) -> Result<(), Fail> {
+    for (rule, text) in [
+        (Rule::NoSeason, r#"409 {"error":"rule","rule":4}"#),
+        (
+            Rule::NumberOld { last: 4 },
+            r#"409 {"error":"rule","last":4,"rule":3}"#,
+        ),
+        (
+            Rule::DeadlineOrder {
+                gameweek: gameweek(2)?,
+            },
+            r#"409 {"error":"rule","gameweek":2,"rule":7}"#,
+        ),
+        (
+            Rule::NotLocked {
+                fixture: fixture(1)?,
+            },
+            r#"409 {"error":"rule","fixture":1,"rule":11}"#,
+        ),
+        (
+            Rule::LineTwice { player: player(3)? },
+            r#"409 {"error":"rule","player":3,"rule":42}"#,
+        ),
+        (
+            Rule::ClubLimit { club: club(4)? },
+            r#"409 {"club":4,"error":"rule","rule":17}"#,
+        ),
+        (
+            Rule::OverBudget { short_by: 1 },
+            r#"409 {"error":"rule","rule":18,"short_by":1}"#,
+        ),
+        (
+            Rule::LineRange { field: 20 },
+            r#"409 {"error":"rule","field":20,"rule":41}"#,
+        ),
+    ] {
+        let line = line_of(rt.alloc(), &Answer::Rule(rule))?;
+        assert_eq!(rt; line.as_str(), text);
+    }
+    Ok(())
+}
+
+#[test]
+fn what_was_made_is_told(rt: HostRuntime) -> Result<(), Fail> {
+    for (made, text) in [
+        (Made::Nothing, r#"200 {"done":4}"#),
+        (
+            Made::Entry(EntryId::new(1).ok_or("an entry")?),
+            r#"201 {"done":4,"entry":1}"#,
+        ),
+        (
+            Made::League(LeagueId::new(2).ok_or("a league")?),
+            r#"201 {"done":4,"league":2}"#,
+        ),
+        (
+            Made::Cup(CupId::new(3).ok_or("a cup")?),
+            r#"201 {"cup":3,"done":4}"#,
+        ),
+    ] {
+        let line = line_of(rt.alloc(), &Answer::Done { number: 4, made })?;
+        assert_eq!(rt; line.as_str(), text);
+    }
+    Ok(())
+}
+
+#[test]
+fn faults_have_a_status_each(rt: HostRuntime) -> Result<(), Fail> {
+    let key = RecordKey {
+        kind: 5,
+        a: 5,
+        b: 6,
+        c: 0,
+    };
+    for (answer, text) in [
+        (Answer::Unknown, r#"404 {"error":"unknown"}"#),
+        (Answer::Keeper, r#"503 {"error":"keeper"}"#),
+        (
+            Answer::Damaged(key),
+            r#"500 {"a":5,"b":6,"c":0,"error":"damaged","kind":5}"#,
+        ),
+        (Answer::Memory, r#"507 {"error":"memory"}"#),
+    ] {
+        let line = line_of(rt.alloc(), &answer)?;
+        assert_eq!(rt; line.as_str(), text);
+    }
+    Ok(())
+}
+
+fn two_clubs(alloc: Global) -> Result<Answer, Fail> {
+    let mut clubs = Clubs::new(alloc);
+    clubs.push((club(1)?, name(alloc, b"A")?))?;
+    clubs.push((club(2)?, name(alloc, b"B")?))?;
+    let mut deadlines = Moments::new(alloc);
+    deadlines.push(moment(1_691_775_000)?)?;
+    Ok(Answer::Shown(Shown::Season(ShownSeason {
+        clubs,
+        deadlines,
+        locked: 0,
+        split: 1,
+    })))
+}
+
+#[test]
+fn a_season_is_shown(rt: HostRuntime) -> Result<(), Fail> {
+    let line = line_of(rt.alloc(), &two_clubs(rt.alloc())?)?;
+    assert_eq!(rt;
+        line.as_str(),
+        r#"200 {"clubs":[{"id":1,"name":"A"},{"id":2,"name":"B"}],"deadlines":[1691775000],"locked":0,"split":1}"#
+    );
+    Ok(())
+}
+
+fn a_player(alloc: Global, text: &[u8]) -> Result<Answer, Fail> {
+    Ok(Answer::Shown(Shown::Player(Player {
+        id: player(7)?,
+        name: name(alloc, text)?,
+        position: Position::Keeper,
+        club: club(1)?,
+        price: Tenths::new(55).ok_or("a price")?,
+        gone: false,
+    })))
+}
+
+// A name stands as it is, but for a quotation mark and a backslash.
+#[test]
+fn a_player_is_shown(rt: HostRuntime) -> Result<(), Fail> {
+    for (named, text) in [
+        (
+            "Raya",
+            r#"200 {"club":1,"gone":false,"id":7,"name":"Raya","position":"G","price":55}"#,
+        ),
+        (
+            "Ødegaard",
+            r#"200 {"club":1,"gone":false,"id":7,"name":"Ødegaard","position":"G","price":55}"#,
+        ),
+        (
+            r#"a"b\c"#,
+            r#"200 {"club":1,"gone":false,"id":7,"name":"a\"b\\c","position":"G","price":55}"#,
+        ),
+    ] {
+        let line = line_of(rt.alloc(), &a_player(rt.alloc(), named.as_bytes())?)?;
+        assert_eq!(rt; line.as_str(), text);
+    }
+    Ok(())
+}
+
+// Points may be below 0.
+#[test]
+fn a_gameweek_of_a_player_is_shown(rt: HostRuntime) -> Result<(), Fail> {
+    let figures = Figures {
+        points: -1,
+        played: true,
+        goals: 0,
+        conceded: 1,
+    };
+    let line = line_of(rt.alloc(), &Answer::Shown(Shown::PlayerGameweek(figures)))?;
+    assert_eq!(rt;
+        line.as_str(),
+        r#"200 {"conceded":1,"goals":0,"played":true,"points":-1}"#
+    );
+    Ok(())
+}
+
+fn a_fixture(gw: Option<Gw>, lines: ShownLines) -> Result<Answer, Fail> {
+    let fixture = Fixture {
+        id: fixture(1)?,
+        home: club(1)?,
+        away: club(2)?,
+        gw,
+        kickoff: moment(5400)?,
+    };
+    let finished = gw.is_some();
+    Ok(Answer::Shown(Shown::Fixture(ShownFixture {
+        fixture,
+        finished,
+        lines,
+    })))
+}
+
+fn one_line(alloc: Global) -> Result<ShownLines, Fail> {
+    let mut lines = ShownLines::new(alloc);
+    lines.push(ShownLine {
+        player: player(3)?,
+        points: 7,
+        bps: 24,
+        bonus: 3,
+    })?;
+    Ok(lines)
+}
+
+#[test]
+fn a_finished_fixture_is_shown(rt: HostRuntime) -> Result<(), Fail> {
+    let answer = a_fixture(Some(gameweek(1)?), one_line(rt.alloc())?)?;
+    let line = line_of(rt.alloc(), &answer)?;
+    assert_eq!(rt;
+        line.as_str(),
+        r#"200 {"away":2,"finished":true,"gameweek":1,"home":1,"id":1,"kickoff":5400,"lines":[{"bonus":3,"bps":24,"player":3,"points":7}]}"#
+    );
+    assert_eq!(rt; line.as_str().len(), 4 + 123);
+    Ok(())
+}
+
+#[test]
+fn a_fixture_without_a_gameweek_is_shown(rt: HostRuntime) -> Result<(), Fail> {
+    let answer = a_fixture(None, ShownLines::new(rt.alloc()))?;
+    let line = line_of(rt.alloc(), &answer)?;
+    assert_eq!(rt;
+        line.as_str(),
+        r#"200 {"away":2,"finished":false,"gameweek":null,"home":1,"id":1,"kickoff":5400,"lines":[]}"#
+    );
+    Ok(())
+}
+
+#[test]
+fn a_wrong_field_is_named(rt: HostRuntime) -> Result<(), Fail> {
+    let text = malformed_text(rt.alloc(), "swaps")?;
+    assert_eq!(rt;
+        text.as_slice(),
+        br#"{"error":"malformed","field":"swaps"}"#.as_slice()
+    );
+    Ok(())
+}
+
+#[test]
+fn fixed_texts_say_one_word(rt: HostRuntime) -> Result<(), Fail> {
+    for (text, want) in [
+        (key_text(), r#"{"error":"key"}"#),
+        (caller_text(), r#"{"error":"caller"}"#),
+        (unknown_text(), r#"{"error":"unknown"}"#),
+        (method_text(), r#"{"error":"method"}"#),
+        (memory_text(), r#"{"error":"memory"}"#),
+        (bytes_text(), r#"{"error":"bytes"}"#),
+    ] {
+        assert_eq!(rt; text, want.as_bytes());
+    }
+    Ok(())
+}

@@ -1,0 +1,94 @@
+// What is asked by a route, its ids and a body.
+ghost use Rattle.std.specs.Prelude.{◌≡◌, IfOk};
+ghost use Rattle.serde_json.specs.View.{view};
+ghost use Rattle.fpl_json.specs.Members.{Gives, GivesObject, object_of};
+ghost use Rattle.fpl_json.specs.Requests.{IsRequest, ordered, request_of, view_of};
+
+use crate::commands::read_command;
+use crate::members::{whole, wrong};
+use crate::{FieldName, ReadFault, Route};
+use season_host::{Request, View};
+use serde_json::Value;
+use std::alloc::Global;
+
+/// What is asked by a route and the ids of its target, as [`crate::Routes::find`] gives them, and a body, which is not
+/// looked at where a view is asked. The members of a command are read in their order, `number` first, and the first
+/// wrong one is named; of several members of one name the last counts, and others than those of the command are
+/// passed over. Reading takes memory in proportion to the body.
+pub fn read_request(
+    alloc: Global,
+    route: Route,
+    ids: [u32; 2],
+    body: &[u8],
+) -> Result<Request, ReadFault>
+    ensures gives { Gives result (request_of route ids body.now) }
+    ensures readable { IfOk result IsRequest }
+{
+    match view_of(route, ids) {
+        Some(view) => Ok(Request::View(view)),
+        None => read_ordered(alloc, route, ids[0], body),
+    }
+}
+
+fn view_of(route: Route, ids: [u32; 2]) -> Option<View>
+    ensures { result ≡ view_of route ids }
+{
+    match route {
+        Route::ShowSeason => Some(View::Season),
+        Route::ShowPlayer => Some(View::Player { player: ids[0] }),
+        Route::ShowPlayerGameweek => Some(View::PlayerGameweek {
+            player: ids[0],
+            gameweek: ids[1],
+        }),
+        Route::ShowFixture => Some(View::Fixture { fixture: ids[0] }),
+        Route::Season
+        | Route::Deadlines
+        | Route::Players
+        | Route::Prices
+        | Route::Clubs
+        | Route::Gone
+        | Route::Fixtures
+        | Route::Move
+        | Route::Sheet
+        | Route::Line
+        | Route::Drop
+        | Route::Finished => None,
+    }
+}
+
+fn read_ordered(
+    alloc: Global,
+    route: Route,
+    fixture: u32,
+    body: &[u8],
+) -> Result<Request, ReadFault>
+    ensures gives { Gives result (ordered route fixture body.now) }
+    ensures readable { IfOk result IsRequest }
+{
+    let value = object_of(alloc, body)?;
+    let number = whole(&value, FieldName::Number, 1, 9_223_372_036_854_775_807)?;
+    let command = read_command(alloc, route, fixture, &value)?;
+    Ok(Request::Command { number, command })
+}
+
+// The object that a body is.
+fn object_of(alloc: Global, body: &[u8]) -> Result<Value, ReadFault>
+    ensures { GivesObject result (object_of body.now) }
+{
+    match Value::from_slice(alloc, body) {
+        Ok(value) => {
+            if value.is_object() {
+                Ok(value)
+            } else {
+                Err(wrong(FieldName::Body))
+            }
+        }
+        Err(e) => {
+            if e.is_memory() {
+                Err(ReadFault::Memory)
+            } else {
+                Err(wrong(FieldName::Body))
+            }
+        }
+    }
+}

@@ -1,0 +1,249 @@
+use crate::{FieldName, Found, ReadFault, Route, Routes, read_request};
+use fpl_base::{Memory, Position};
+use record_codec::Command;
+use season_host::Request;
+use std::alloc::Global;
+use std::test::Fail;
+
+#[test]
+fn targets_have_their_routes(rt: HostRuntime) -> Result<(), Fail> {
+    let routes = routes(rt.alloc())?;
+    for (method, target, route, ids) in [
+        ("POST", "/season", Route::Season, [0, 0]),
+        ("GET", "/season", Route::ShowSeason, [0, 0]),
+        ("POST", "/fixtures/7/sheet", Route::Sheet, [7, 0]),
+        (
+            "GET",
+            "/fixtures/4294967295",
+            Route::ShowFixture,
+            [4_294_967_295, 0],
+        ),
+        ("GET", "/players/0", Route::ShowPlayer, [0, 0]),
+        (
+            "GET",
+            "/players/12/gameweeks/3",
+            Route::ShowPlayerGameweek,
+            [12, 3],
+        ),
+    ] {
+        assert_eq!(rt; found(&routes, method, target), Found::Route { route, ids });
+    }
+    Ok(())
+}
+
+#[test]
+fn other_targets_have_none(rt: HostRuntime) -> Result<(), Fail> {
+    let routes = routes(rt.alloc())?;
+    for (method, target, wanted) in [
+        ("DELETE", "/season", Found::Method),
+        ("get", "/season", Found::Method),
+        ("GET", "/fixtures/1/move", Found::Method),
+        ("GET", "/seasons", Found::Unknown),
+        ("GET", "/season/", Found::Unknown),
+        ("GET", "/season?x=1", Found::Unknown),
+        ("GET", "/players/", Found::Unknown),
+        ("GET", "/players/01", Found::Unknown),
+        ("GET", "/players/+1", Found::Unknown),
+        ("GET", "/players/4294967296", Found::Unknown),
+        ("GET", "/players/1/gameweeks/x", Found::Unknown),
+        ("GET", "", Found::Unknown),
+    ] {
+        assert_eq!(rt; found(&routes, method, target), wanted);
+    }
+    Ok(())
+}
+
+fn routes(alloc: Global) -> Result<Routes, Fail> {
+    match Routes::new(alloc) {
+        Ok(routes) => Ok(routes),
+        Err(Memory) => Err(Fail::from("memory")),
+    }
+}
+
+fn found(routes: &Routes, method: &str, target: &str) -> Found {
+    routes.find(method.as_bytes(), target.as_bytes())
+}
+
+#[test]
+fn bodies_are_read(rt: HostRuntime) {
+    for (route, body) in [
+        (Route::ShowSeason, "no body at all"),
+        (Route::Season, SEASON),
+        (
+            Route::Deadlines,
+            r#"{"number":2,"gameweek":1,"deadline":253402300799}"#,
+        ),
+        (
+            Route::Prices,
+            r#"{"number":3,"player":1,"price":65535,"more":[{}]}"#,
+        ),
+        (
+            Route::Prices,
+            r#"{"number":"x","player":1,"price":9,"number":3}"#,
+        ),
+        (Route::Move, r#"{"number":4,"gameweek":null,"kickoff":0}"#),
+        (
+            Route::Finished,
+            r#"{"number":9223372036854775807,"finished":false}"#,
+        ),
+        (Route::Sheet, r#"{"number":5,"lines":[],"finished":true}"#),
+    ] {
+        assert_eq!(rt; fault(rt.alloc(), route, body), None);
+    }
+}
+
+const SEASON: &str =
+    r#"{"number":1,"deadlines":[100,200],"split":2,"clubs":[{"id":2,"name":"B"},{"id":1,"name":"A"}]}"#;
+
+#[test]
+fn the_first_wrong_member_is_named(rt: HostRuntime) {
+    for (route, body, field) in [
+        (Route::Season, "[]", FieldName::Body),
+        (Route::Season, "{", FieldName::Body),
+        (Route::Prices, r#"{"player":0}"#, FieldName::Number),
+        (
+            Route::Prices,
+            r#"{"number":0,"player":1,"price":1}"#,
+            FieldName::Number,
+        ),
+        (
+            Route::Prices,
+            r#"{"number":1.0,"player":1,"price":1}"#,
+            FieldName::Number,
+        ),
+        (
+            Route::Prices,
+            r#"{"number":1e0,"player":1,"price":1}"#,
+            FieldName::Number,
+        ),
+        (
+            Route::Prices,
+            r#"{"number":1,"player":"1","price":65536}"#,
+            FieldName::Player,
+        ),
+        (
+            Route::Prices,
+            r#"{"number":1,"player":1,"price":-0}"#,
+            FieldName::Price,
+        ),
+        (
+            Route::Prices,
+            r#"{"number":1,"player":1,"price":65536}"#,
+            FieldName::Price,
+        ),
+        (
+            Route::Move,
+            r#"{"number":1,"kickoff":"x"}"#,
+            FieldName::Gameweek,
+        ),
+        (
+            Route::Move,
+            r#"{"number":1,"gameweek":39,"kickoff":0}"#,
+            FieldName::Gameweek,
+        ),
+        (
+            Route::Gone,
+            r#"{"number":1,"player":1,"gone":1}"#,
+            FieldName::Gone,
+        ),
+    ] {
+        assert_eq!(rt;
+            fault(rt.alloc(), route, body),
+            Some(ReadFault::Malformed { field })
+        );
+    }
+}
+
+#[test]
+fn a_list_is_named_for_what_is_inside(rt: HostRuntime) {
+    for (route, body, field) in [
+        (
+            Route::Season,
+            r#"{"number":1,"deadlines":[],"split":0}"#,
+            FieldName::Deadlines,
+        ),
+        (
+            Route::Season,
+            r#"{"number":1,"deadlines":[1],"split":2}"#,
+            FieldName::Split,
+        ),
+        (
+            Route::Season,
+            r#"{"number":1,"deadlines":[1],"split":0,"clubs":[{"id":1}]}"#,
+            FieldName::Clubs,
+        ),
+        (Route::Season, TWICE, FieldName::Clubs),
+        (
+            Route::Fixtures,
+            r#"{"number":1,"id":1,"home":3,"away":3}"#,
+            FieldName::Away,
+        ),
+        (
+            Route::Line,
+            r#"{"number":1,"player":1,"figures":[0]}"#,
+            FieldName::Figures,
+        ),
+        (
+            Route::Sheet,
+            r#"{"number":1,"lines":[{"player":1,"figures":[0]}]}"#,
+            FieldName::Lines,
+        ),
+        (Route::Season, NESTED, FieldName::Body),
+    ] {
+        assert_eq!(rt;
+            fault(rt.alloc(), route, body),
+            Some(ReadFault::Malformed { field })
+        );
+    }
+}
+
+const TWICE: &str =
+    r#"{"number":1,"deadlines":[1],"split":0,"clubs":[{"id":1,"name":"A"},{"id":1,"name":"B"}]}"#;
+
+const NESTED: &str =
+    "[[[[[[[[[[[[[[[[[[[[[[[[[[[[[[[[[[[[[[[[[[[[[[[[[[[[[[[[[[[[[[[[[[[[[[[[[[[[[[[[[[[[[[[[[[[[[[[[[[[[[[[[[[[[[[[[[[[[[[[[[[[[[[[[]]]]]]]]]]]]]]]]]]]]]]]]]]]]]]]]]]]]]]]]]]]]]]]]]]]]]]]]]]]]]]]]]]]]]]]]]]]]]]]]]]]]]]]]]]]]]]]]]]]]]]]]]]]]]]]]]]]]]]]]]]]]]]]]";
+
+// Why a body is not read, if it is not.
+fn fault(alloc: Global, route: Route, body: &str) -> Option<ReadFault> {
+    match read_request(alloc, route, [1, 0], body.as_bytes()) {
+        Ok(_) => None,
+        Err(fault) => Some(fault),
+    }
+}
+
+#[test]
+fn a_player_is_read_as_he_stands(rt: HostRuntime) {
+    assert!(rt;
+        is_read(
+            rt.alloc(),
+            r#"{"number":6,"id":9,"name":"Zoë","position":"M","club":3,"price":55}"#
+        )
+    );
+}
+
+fn is_read(alloc: Global, body: &str) -> bool {
+    match read_request(alloc, Route::Players, [0, 0], body.as_bytes()) {
+        Ok(Request::Command { number, command }) => number == 6 && is_zoe(&command),
+        Ok(Request::View(_)) => false,
+        Err(_) => false,
+    }
+}
+
+fn is_zoe(command: &Command) -> bool {
+    match command {
+        Command::Player {
+            id,
+            name,
+            position,
+            club,
+            price,
+        } => {
+            id.get() == 9
+                && name.bytes() == "Zoë".as_bytes()
+                && *position == Position::Midfielder
+                && club.get() == 3
+                && *price == 55
+        }
+        _ => false,
+    }
+}
