@@ -1,0 +1,3 @@
+pub mod RunLemmas
+mod ServedLemmas
+mod SessionLemmas

@@ -1,0 +1,65 @@
+// Piece after piece.
+ghost use Rattle.std.specs.Prelude.{◌≡◌, ◌≤◌, ◌<◌, ◌-◌, [], length};
+ghost use Rattle.fpl_base.specs.Causes.{Rose};
+ghost use Rattle.fpl_http.specs.Held.{IsWaiting};
+ghost use Rattle.fpl_session.specs.Replies.{Speaks};
+ghost use Rattle.fpl_session.specs.Sessions.{SessionOf};
+
+use crate::ending::Ending;
+use crate::exchange::exchange;
+use crate::service::Service;
+use fpl_base::{Clock, Keeper, Sink, Source, Steps};
+use fpl_http::Decoder;
+use std::alloc::Global;
+use std::sync::ledger::Ledger;
+
+/// How many bytes a session takes at most.
+const MAX_BYTES: u64 = 4_294_967_296;
+
+/// Reads pieces and answers their messages, until the session ends.
+pub fn converse<R: Service<H, K, C, L>, H, K: Keeper, S: Source, W: Sink, C: Clock, L: Ledger>(
+    alloc: Global,
+    decoder: &mut Decoder,
+    buffer: &mut [u8],
+    service: &R,
+    host: &mut H,
+    keeper: &mut K,
+    src: &mut S,
+    out: &mut W,
+    clock: &mut C,
+    steps: &mut Steps<L>,
+) -> Ending
+    requires room { 0 < length buffer.old }
+    requires waiting { IsWaiting decoder.old }
+    requires fresh { decoder.old.pending ≡ [] }
+    requires ready { R.ready service.now (host.old, keeper.old, clock.old, steps.old) }
+    ensures ready { R.ready service.now (host.new, keeper.new, clock.new, steps.new) }
+    ensures session { SessionOf (Speaks (R.answers service.now)) (S.left src.old) (S.left src.new)
+        (R.see (host.old, keeper.old, clock.old, steps.old)) (R.see (host.new, keeper.new, clock.new, steps.new))
+        (W.taken out.old) (W.taken out.new) result }
+    ensures read_later { S.faults src.old ≤ S.faults src.new }
+    ensures write_later { W.faults out.old ≤ W.faults out.new }
+    ensures read { result ≡ Ending.Read → Rose (S.faults src.old) (S.faults src.new) }
+    ensures write { result ≡ Ending.Write → Rose (W.faults out.old) (W.faults out.new) }
+{
+    let mut taken = 0;
+    while taken < MAX_BYTES {
+        match exchange(
+            alloc,
+            decoder,
+            buffer,
+            service,
+            host,
+            keeper,
+            src,
+            out,
+            clock,
+            steps,
+            MAX_BYTES - taken,
+        ) {
+            Ok(count) => taken += count,
+            Err(ending) => return ending,
+        }
+    }
+    Ending::Long
+}

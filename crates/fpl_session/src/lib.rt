@@ -1,0 +1,18 @@
+//! A session: the messages of a source, answered one after another into a sink, over any service.
+#![tactic(auto)]
+
+mod converse;
+mod ending;
+mod exchange;
+mod opening;
+mod piece;
+mod respond;
+mod service;
+mod turn;
+
+pub use ending::Ending;
+pub use opening::session;
+pub use service::{Reply, Service};
+
+#[cfg(test)]
+mod tests;

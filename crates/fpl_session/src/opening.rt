@@ -1,0 +1,98 @@
+// The whole session.
+ghost use Rattle.std.specs.Prelude.{◌≡◌, ◌≤◌, ◌<◌, [], IfOk, IfSome, length};
+ghost use Rattle.fpl_base.specs.Causes.{Rose};
+ghost use Rattle.fpl_http.specs.Held.{IsWaiting};
+ghost use Rattle.fpl_session.specs.Replies.{Speaks};
+ghost use Rattle.fpl_session.specs.Sessions.{EndsAs, SessionOf, SessionOver};
+
+use crate::converse::converse;
+use crate::ending::Ending;
+use crate::service::Service;
+use fpl_base::{Clock, Keeper, Memory, Sink, Source, Steps};
+use fpl_http::{Decoder, two_readings_are_one};
+use std::alloc::Global;
+use std::sync::ledger::Ledger;
+
+/// Answers the messages of a source into a sink, one after another, each by one write. It reads pieces of 65,536 bytes,
+/// and takes 2^32 bytes at most. A response that finds no memory is the fixed one of status 507, bytes that are no
+/// message are answered with the body `{"error":"bytes"}`, and nothing behind a message that closes is answered.
+pub fn session<R: Service<H, K, C, L>, H, K: Keeper, S: Source, W: Sink, C: Clock, L: Ledger>(
+    alloc: Global,
+    service: &R,
+    host: &mut H,
+    keeper: &mut K,
+    src: &mut S,
+    out: &mut W,
+    clock: &mut C,
+    steps: &mut Steps<L>,
+) -> Ending
+    requires { R.ready service.now (host.old, keeper.old, clock.old, steps.old) }
+    ensures ready { R.ready service.now (host.new, keeper.new, clock.new, steps.new) }
+
+    // What was answered, of the bytes that were taken and of all that the source had.
+    ensures session { SessionOf (Speaks (R.answers service.now)) (S.left src.old) (S.left src.new)
+        (R.see (host.old, keeper.old, clock.old, steps.old)) (R.see (host.new, keeper.new, clock.new, steps.new))
+        (W.taken out.old) (W.taken out.new) result }
+    ensures over { IfSome (S.left src.old) (λ all. SessionOver (Speaks (R.answers service.now)) all
+        (R.see (host.old, keeper.old, clock.old, steps.old)) (R.see (host.new, keeper.new, clock.new, steps.new))
+        (W.taken out.old) (W.taken out.new) result) }
+    ensures exact { IfSome (S.left src.old) (λ all. EndsAs all result) }
+
+    // A fault is answered only where its count rose, and no count falls.
+    ensures read_later { S.faults src.old ≤ S.faults src.new }
+    ensures write_later { W.faults out.old ≤ W.faults out.new }
+    ensures read { result ≡ Ending.Read → Rose (S.faults src.old) (S.faults src.new) }
+    ensures write { result ≡ Ending.Write → Rose (W.faults out.old) (W.faults out.new) }
+{
+    two_readings_are_one();
+    open_session(alloc, service, host, keeper, src, out, clock, steps)
+}
+
+/// Takes what a session needs, and begins it.
+fn open_session<R: Service<H, K, C, L>, H, K: Keeper, S: Source, W: Sink, C: Clock, L: Ledger>(
+    alloc: Global,
+    service: &R,
+    host: &mut H,
+    keeper: &mut K,
+    src: &mut S,
+    out: &mut W,
+    clock: &mut C,
+    steps: &mut Steps<L>,
+) -> Ending
+    requires { R.ready service.now (host.old, keeper.old, clock.old, steps.old) }
+    ensures ready { R.ready service.now (host.new, keeper.new, clock.new, steps.new) }
+    ensures session { SessionOf (Speaks (R.answers service.now)) (S.left src.old) (S.left src.new)
+        (R.see (host.old, keeper.old, clock.old, steps.old)) (R.see (host.new, keeper.new, clock.new, steps.new))
+        (W.taken out.old) (W.taken out.new) result }
+    ensures read_later { S.faults src.old ≤ S.faults src.new }
+    ensures write_later { W.faults out.old ≤ W.faults out.new }
+    ensures read { result ≡ Ending.Read → Rose (S.faults src.old) (S.faults src.new) }
+    ensures write { result ≡ Ending.Write → Rose (W.faults out.old) (W.faults out.new) }
+{
+    match buffers(alloc) {
+        Ok((mut decoder, mut buffer)) => converse(
+            alloc,
+            &mut decoder,
+            &mut buffer,
+            service,
+            host,
+            keeper,
+            src,
+            out,
+            clock,
+            steps,
+        ),
+        Err(Memory) => Ending::Memory,
+    }
+}
+
+const PIECE: usize = 65_536;
+
+/// What a session needs: a decoder that holds nothing, and a place to read into.
+fn buffers(alloc: Global) -> Result<(Decoder, Vec<u8>), Memory>
+    ensures { IfOk result (λ p. IsWaiting p.0 × (p.0.pending ≡ []) × (0 < length p.1.items)) }
+{
+    let decoder = Decoder::new(alloc)?;
+    let buffer = vec![in alloc; 0; PIECE]?;
+    Ok((decoder, buffer))
+}

@@ -1,0 +1,233 @@
+// Sessions over memory, with a small service in place of a host.
+ghost use Rattle.std.specs.Prelude.{◌≡◌, ◌≤◌, ◌<◌, ◌+◌, ◌-◌, ◌^◌, ◌++◌, ◌⊎◌, ℕ, Option, min, codes, IfOk, string_bytes};
+ghost use Rattle.std.specs.Fmt.{decimal};
+ghost use Rattle.fpl_base.specs.Moments.{Moments, Tells};
+ghost use Rattle.fpl_http.specs.Responses.{memory_text};
+
+use crate::{Ending, Reply, Service, session};
+use fpl_base::{
+    Clock, FaultySink, FaultySource, Keeper, Memory, MemoryClock, MemorySource, Moment, Plan,
+    Quiet, Sink, Source, Steps,
+};
+use fpl_http::Message;
+use std::alloc::{AllocError, Global};
+use std::marker::Brand;
+use std::sync::ledger::{Blank, Ledger};
+use std::test::Fail;
+
+/// How many messages came.
+#[derive(Clone, Copy)]
+struct Count(u64);
+
+/// Answers how many messages came, and the moment.
+#[derive(Clone, Copy)]
+struct Counting;
+
+fn count_text(alloc: Global, count: u64, moment: u64) -> Result<String, AllocError>
+    ensures { IfOk result (λ s. string_bytes s
+        ≡ codes "[" ++ (decimal count ++ (codes "," ++ (decimal moment ++ codes "]")))) }
+{
+    format!(in alloc; "[{count},{moment}]")
+}
+
+impl<K: Keeper, C: Clock, L: Ledger> Service<Count, K, C, L> for Counting {
+    ghost State = { ℕ × Option Moments × ℕ };
+
+    ghost see = { λ now. (now.0.0, C.left now.2, now.3) };
+
+    ghost answers = { λ _ old m answer new. (new.0 ≡ min (old.0 + 1) (2 ^ 64 - 1))
+        × (new.2 ≡ old.2 + 1)
+        × ((moment : ℕ) × Tells old.1 moment new.1
+        × ((answer ≡ (200, codes "[" ++ (decimal new.0 ++ (codes "," ++ (decimal moment ++ codes "]")))))
+        ⊎ (answer ≡ (507, memory_text)))) };
+
+    ghost ready = { λ _ state. state.0.0 ≤ state.3 };
+
+    fn reply(
+        &self,
+        alloc: Global,
+        count: &mut Count,
+        _keeper: &mut K,
+        clock: &mut C,
+        steps: &mut Steps<L>,
+        _message: &Message<'_>,
+    ) -> Result<Reply, Memory> {
+        count.0 = count.0.saturating_add(1);
+        steps.tick();
+        let moment = clock.now().get();
+        let text = count_text(alloc, count.0, moment)?;
+        Ok(Reply {
+            status: 200,
+            body: text.into_bytes(),
+        })
+    }
+}
+
+// A session whose clock tells 7, 8, and then 9.
+fn ran<S: Source, W: Sink, L: Ledger>(
+    alloc: Global,
+    src: &mut S,
+    out: &mut W,
+    blank: Blank,
+) -> Ending
+    requires name { blank.name ≡ L.name }
+    requires parts { blank.parts ≡ L.parts }
+    requires some { 0 < blank.parts }
+{
+    let mut steps: Steps<L> = Steps::open(blank);
+    let behind = [Moment::new(8).unwrap(), Moment::new(9).unwrap()];
+    let mut clock = MemoryClock::new(Moment::new(7).unwrap(), &behind);
+    let mut count = Count(0);
+    session(
+        alloc, &Counting, &mut count, &mut Quiet, src, out, &mut clock, &mut steps,
+    )
+}
+
+/// A stream that comes in pieces of a size, the numbers of the read and the write that fail (0 for none), and the room
+/// of the sink; how the session ends, and what the sink took.
+struct Row {
+    stream: &'static [u8],
+    piece: usize,
+    read: u64,
+    write: u64,
+    room: usize,
+    ending: Ending,
+    said: &'static [u8],
+}
+
+const TWO: &[u8] = b"\r\nPOST /a HTTP/1.1\r\nContent-Length: 3\r\n\r\nabc\nGET /b HTTP/1.1\r\n\r\n";
+
+const SAID: &[u8] =
+    b"HTTP/1.1 200 OK\r\nContent-Type: application/json\r\nContent-Length: 5\r\n\r\n[1,7]HTTP/1.1 200 OK\r\nContent-Type: application/json\r\nContent-Length: 5\r\n\r\n[2,8]";
+
+const ROWS: [Row; 9] = [
+    Row {
+        stream: b"\r\n\n",
+        piece: 99,
+        read: 0,
+        write: 0,
+        room: 999,
+        ending: Ending::Done,
+        said: b"",
+    },
+    Row {
+        stream: TWO,
+        piece: 99,
+        read: 0,
+        write: 0,
+        room: 999,
+        ending: Ending::Done,
+        said: SAID,
+    },
+    // A message stands behind one that closes.
+    Row {
+        stream: b"GET /a HTTP/1.1\r\nConnection: close\r\n\r\nGET /b HTTP/1.1\r\n\r\n",
+        piece: 99,
+        read: 0,
+        write: 0,
+        room: 999,
+        ending: Ending::Closed,
+        said: b"HTTP/1.1 200 OK\r\nContent-Type: application/json\r\nContent-Length: 5\r\nConnection: close\r\n\r\n[1,7]",
+    },
+    // A head that is none.
+    Row {
+        stream: b"GET\r\n\r\nGET /b HTTP/1.1\r\n\r\n",
+        piece: 99,
+        read: 0,
+        write: 0,
+        room: 999,
+        ending: Ending::Refused(400),
+        said: b"HTTP/1.1 400 Bad Request\r\nContent-Type: application/json\r\nContent-Length: 17\r\nConnection: close\r\n\r\n{\"error\":\"bytes\"}",
+    },
+    // A body that is cut.
+    Row {
+        stream: b"GET /a HTTP/1.1\r\n\r\nPOST /b HTTP/1.1\r\nContent-Length: 3\r\n\r\nab",
+        piece: 99,
+        read: 0,
+        write: 0,
+        room: 999,
+        ending: Ending::Cut,
+        said: b"HTTP/1.1 200 OK\r\nContent-Type: application/json\r\nContent-Length: 5\r\n\r\n[1,7]",
+    },
+    // The third read of three that bring a message each fails.
+    Row {
+        stream: b"GET /a HTTP/1.1\r\n\r\nGET /b HTTP/1.1\r\n\r\nGET /c HTTP/1.1\r\n\r\n",
+        piece: 19,
+        read: 3,
+        write: 0,
+        room: 999,
+        ending: Ending::Read,
+        said: SAID,
+    },
+    // There is no room for the second answer.
+    Row {
+        stream: TWO,
+        piece: 99,
+        read: 0,
+        write: 0,
+        room: 83,
+        ending: Ending::Write,
+        said: b"HTTP/1.1 200 OK\r\nContent-Type: application/json\r\nContent-Length: 5\r\n\r\n[1,7]HTTP/1.1",
+    },
+    // The second write fails.
+    Row {
+        stream: TWO,
+        piece: 99,
+        read: 0,
+        write: 2,
+        room: 999,
+        ending: Ending::Write,
+        said: b"HTTP/1.1 200 OK\r\nContent-Type: application/json\r\nContent-Length: 5\r\n\r\n[1,7]",
+    },
+    // The answer to bytes that are no message finds no room.
+    Row {
+        stream: b"GET\r\n\r\n",
+        piece: 99,
+        read: 0,
+        write: 0,
+        room: 8,
+        ending: Ending::Write,
+        said: b"HTTP/1.1",
+    },
+];
+
+// The numbers of calls that are to fail: this one, or none for 0.
+fn plan_of(alloc: Global, call: u64) -> Result<Plan, Memory> {
+    let mut calls = Vec::new(alloc);
+    if call > 0 {
+        calls.push(call)?;
+    }
+    Ok(Plan::new(calls))
+}
+
+fn ends(rt: &HostRuntime, row: &Row) -> Result<bool, Memory> {
+    let alloc = rt.alloc();
+    let mut src = FaultySource::new(row.stream, row.piece, plan_of(alloc, row.read)?);
+    let mut out = FaultySink::new(alloc, row.room, plan_of(alloc, row.write)?)?;
+    let ending = ran::<FaultySource, FaultySink, Brand>(alloc, &mut src, &mut out, Blank::new(1));
+    Ok(ending == row.ending && out.bytes() == row.said)
+}
+
+#[test]
+fn sessions_end_as_is_due(rt: HostRuntime) -> Result<(), Fail> {
+    for row in &ROWS {
+        assert!(rt; ends(&rt, row)?);
+    }
+    Ok(())
+}
+
+fn said_in_pieces(rt: &HostRuntime, piece: usize) -> Result<bool, Memory> {
+    let alloc = rt.alloc();
+    let mut src = MemorySource::new(TWO, piece);
+    let mut out = FaultySink::new(alloc, 999, plan_of(alloc, 0)?)?;
+    let ending = ran::<MemorySource, FaultySink, Brand>(alloc, &mut src, &mut out, Blank::new(1));
+    Ok(ending == Ending::Done && out.bytes() == SAID)
+}
+
+#[test]
+fn cuts_change_nothing(rt: HostRuntime) -> Result<(), Fail> {
+    for piece in 1..TWO.len() {
+        assert!(rt; said_in_pieces(&rt, piece)?);
+    }
+    Ok(())
+}
