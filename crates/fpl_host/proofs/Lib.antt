@@ -1,3 +1,5 @@
+pub mod DeskLemmas
+pub mod PipeLemmas
 pub mod RunLemmas
 pub mod Taken
 pub mod Words

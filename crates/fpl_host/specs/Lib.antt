@@ -1,3 +1,7 @@
+pub mod Desks
 pub mod Input
 pub mod Laws
+pub mod Pipe
+pub mod Replying
 pub mod Run
+pub mod Words

@@ -1,20 +1,22 @@
 //! The season host: its commands, and the edges to the machine that it runs on.
 #![tactic(auto)]
 
+mod desk;
 mod input;
 mod laws;
+mod pipe;
 mod run;
 mod score;
 mod status;
 
 ghost use Rattle.std.specs.Prelude.{◌≡◌, ◌<◌};
 
-use fpl_base::{Memory, Quiet, Reading, Steps, Text, Writing};
+use fpl_base::{Memory, Quiet, Reading, Steps, SystemClock, Text, Writing};
 use std::alloc::Global;
 use std::io;
 use std::marker::Brand;
 use std::process::ExitCode;
-use std::rt::Env;
+use std::rt::{Clock, Env};
 use std::sync::ledger::{Blank, Ledger};
 
 fn main(rt: HostRuntime) -> ExitCode {
@@ -47,7 +49,12 @@ fn words_of<R: Env + AllocGlobal>(rt: &R, alloc: Global) -> Result<Vec<Text>, Me
 }
 
 // Runs with a counter that nobody reads, and with nothing outside but input and output.
-fn counted<R: Input + Print, L: Ledger>(rt: &R, alloc: Global, words: &[Text], blank: Blank) -> u8
+fn counted<R: Input + Print + Clock, L: Ledger>(
+    rt: &R,
+    alloc: Global,
+    words: &[Text],
+    blank: Blank,
+) -> u8
     requires name { blank.name ≡ L.name }
     requires parts { blank.parts ≡ L.parts }
     requires some { 0 < blank.parts }
@@ -60,7 +67,7 @@ fn counted<R: Input + Print, L: Ledger>(rt: &R, alloc: Global, words: &[Text], b
         words,
         &mut input,
         &mut output,
-        &mut Quiet,
+        &mut SystemClock::new(rt),
         &mut Quiet,
         &mut Quiet,
         &mut Quiet,

@@ -1,12 +1,15 @@
 // The top call.
-ghost use Rattle.std.specs.Prelude.{◌≡◌, ◌≤◌, ◌↔◌, ◌⊎◌, ℕ, List, IfSome, IsTrue, codes};
+ghost use Rattle.std.specs.Prelude.{◌≡◌, ◌≤◌, ◌↔◌, ◌⊎◌, ◌∷◌, [], ℕ, List, IfOk, IfSome, IsTrue, codes};
 ghost use Rattle.std.specs.Io.KnownBytes.{Appends, IsAtEnd, Keeps};
 ghost use Rattle.fpl_base.specs.Causes.{Rose, AppendsFront};
+ghost use Rattle.fpl_host.specs.Pipe.{IsPipe, IsSomePipe, Pipes};
 ghost use Rattle.fpl_host.specs.Run.{IsScore, IsScoreDue, IsNotReadDue, Ends};
+ghost use Rattle.fpl_host.specs.Words.{IsRead};
 
+use crate::pipe::pipe;
 use crate::score::{Halt, score_due};
 use crate::status::{MEMORY, READ_FAULT, WORDS, WRITE_FAULT};
-use fpl_base::{Clock, Doors, Keeper, Shelf, Sink, Source, Steps, Text};
+use fpl_base::{Clock, Doors, Keeper, Key, Memory, Shelf, Sink, Source, Steps, Text};
 use std::alloc::Global;
 use std::sync::ledger::Ledger;
 
@@ -18,29 +21,76 @@ pub fn run<S: Source, W: Sink, C: Clock, K: Keeper, D: Doors, F: Shelf, L: Ledge
     words: &[Text],
     input: &mut S,
     output: &mut W,
-    _clock: &mut C,
-    _keeper: &mut K,
+    clock: &mut C,
+    keeper: &mut K,
     _doors: &mut D,
     _shelf: &mut F,
-    _steps: &mut Steps<L>,
+    steps: &mut Steps<L>,
 ) -> u8
     // The command `score` ends as is due for the bytes that the input had.
     ensures score { IsScore words.now → IfSome (S.left input.old) (λ bytes. Ends (IsScoreDue bytes) result (W.taken output.old) (W.taken output.new)) }
     ensures score_end { IsScore words.now → result ≡ 0 → IsAtEnd (S.left input.new) }
     ensures score_statuses { IsScore words.now → (result ≡ 0) ⊎ (result ≡ 1) ⊎ (result ≡ 3) ⊎ (result ≡ 6) ⊎ (result ≡ 10) ⊎ (result ≡ 11) }
+    ensures score_memory { IsScore words.now → result ≡ 6 → Keeps (W.taken output.old) (W.taken output.new) }
 
-    // Other words are not read.
-    ensures others { (IsScore words.now → ⊥) → Ends IsNotReadDue result (W.taken output.old) (W.taken output.new) }
-    ensures others_statuses { (IsScore words.now → ⊥) → (result ≡ 2) ⊎ (result ≡ 3) }
+    // The command `pipe` is one session of the host, over all that the input had.
+    ensures pipe { (key : List ℕ) → IsPipe words.now key → Pipes key (S.left input.old) (S.left input.new) (C.left clock.old) (C.left clock.new) (W.taken output.old) (W.taken output.new) result }
 
-    // A fault is answered only where its count rose, and want of memory writes nothing.
+    // Other words are not read, or memory ran out before they were.
+    ensures others { (IsScore words.now → ⊥) → (IsSomePipe words.now → ⊥) → Ends IsNotReadDue result (W.taken output.old) (W.taken output.new) }
+    ensures others_statuses { (IsScore words.now → ⊥) → (IsSomePipe words.now → ⊥) → (result ≡ 2) ⊎ (result ≡ 3) ⊎ (result ≡ 6) }
+
+    // A fault is answered only where its count rose.
+    ensures read { result ≡ 1 → Rose (S.faults input.old) (S.faults input.new) }
+    ensures write { result ≡ 3 → Rose (W.faults output.old) (W.faults output.new) }
+{
+    match command_of(alloc, words) {
+        Ok(Command::Score) => score(alloc, input, output),
+        Ok(Command::Pipe(key)) => pipe(alloc, &key, input, output, clock, keeper, steps),
+        Ok(Command::Unread) => written(output, NOT_READ.as_bytes(), WORDS),
+        Err(Memory) => MEMORY,
+    }
+}
+
+// What the words order.
+#[derive(Drop)]
+enum Command {
+    Score,
+    Pipe(Key),
+    Unread,
+}
+
+fn command_of(alloc: Global, words: &[Text]) -> Result<Command, Memory>
+    ensures { IfOk result (IsRead words.now) }
+{
+    match words {
+        [word] => {
+            if is_word(word, "score") {
+                Ok(Command::Score)
+            } else {
+                Ok(Command::Unread)
+            }
+        }
+        [word, option, value] => {
+            if is_word(word, "pipe") && is_word(option, "--key") {
+                pipe_with(alloc, value)
+            } else {
+                Ok(Command::Unread)
+            }
+        }
+        _ => Ok(Command::Unread),
+    }
+}
+
+// Scores the match whose rows are the input.
+fn score<S: Source, W: Sink>(alloc: Global, input: &mut S, output: &mut W) -> u8
+    ensures score { IfSome (S.left input.old) (λ bytes. Ends (IsScoreDue bytes) result (W.taken output.old) (W.taken output.new)) }
+    ensures end { result ≡ 0 → IsAtEnd (S.left input.new) }
+    ensures statuses { (result ≡ 0) ⊎ (result ≡ 1) ⊎ (result ≡ 3) ⊎ (result ≡ 6) ⊎ (result ≡ 10) ⊎ (result ≡ 11) }
     ensures read { result ≡ 1 → Rose (S.faults input.old) (S.faults input.new) }
     ensures write { result ≡ 3 → Rose (W.faults output.old) (W.faults output.new) }
     ensures memory { result ≡ 6 → Keeps (W.taken output.old) (W.taken output.new) }
 {
-    if !is_score(words) {
-        return written(output, NOT_READ.as_bytes(), WORDS);
-    }
     match score_due(alloc, input) {
         Ok(due) => written(output, due.text.as_bytes(), due.status),
         Err(Halt::Read) => READ_FAULT,
@@ -58,17 +108,18 @@ fn written<W: Sink>(output: &mut W, text: &[u8], status: u8) -> u8
     }
 }
 
-fn is_score(words: &[Text]) -> bool
-    ensures { IsTrue result ↔ IsScore words.now }
+// The command with this key, if it is one.
+fn pipe_with(alloc: Global, key: &Text) -> Result<Command, Memory>
+    ensures { IfOk result (IsRead (codes "pipe" ∷ codes "--key" ∷ key.now ∷ [])) }
 {
-    match words {
-        [word] => is_word(word),
-        _ => false,
+    match Key::new(alloc, key.text().as_bytes())? {
+        Some(key) => Ok(Command::Pipe(key)),
+        None => Ok(Command::Unread),
     }
 }
 
-fn is_word(word: &Text) -> bool
-    ensures { IsTrue result ↔ (word.now ≡ codes "score") }
+fn is_word(word: &Text, other: &str) -> bool
+    ensures { IsTrue result ↔ (word.now ≡ other.now) }
 {
-    word.text() == "score"
+    word.text() == other
 }

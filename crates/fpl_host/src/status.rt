@@ -15,8 +15,14 @@ pub const WRITE_FAULT: u8 = 3;
 /// There was no memory.
 pub const MEMORY: u8 = 6;
 
+/// The input ended inside a message.
+pub const CUT: u8 = 7;
+
 /// The input is too long.
 pub const TOO_LONG: u8 = 10;
 
 /// A row of the input is wrong; its number is written.
 pub const WRONG_ROW: u8 = 11;
+
+/// Bytes of the input are no message.
+pub const REFUSED: u8 = 12;

@@ -1,0 +1,44 @@
+-- Replies to what was asked of the host.
+use Rattle.std.proofs.Common.{◌≡◌, ℕ, List, Result, Ok, Err, IfOk, IsTrue, true, inl, inr, refl}
+use Rattle.fpl_base.specs.declared.kinds.Caller.{Caller}
+use Rattle.fpl_base.specs.declared.memory.Memory.{Memory}
+use Rattle.fpl_http.specs.Responses.{is_answer_status}
+use Rattle.fpl_json.specs.Answers.{done_status, status_of}
+use Rattle.fpl_session.specs.Replies.{answer_in}
+use Rattle.fpl_session.specs.declared.service.Reply.{Reply}
+use Rattle.record_codec.specs.Book.{Book}
+use Rattle.record_codec.specs.declared.made.Made.{Made}
+use Rattle.record_codec.specs.declared.made.Made.TheVariants as made
+use Rattle.season_host.specs.Verdict.{MayAnswer, MayBeLeft}
+use Rattle.season_host.specs.declared.answer.Answer.{Answer}
+use Rattle.season_host.specs.declared.answer.Answer.TheVariants as answer
+use Rattle.season_host.specs.declared.request.Request.{Request}
+use Rattle.fpl_host.specs.Replying.{IsJudged, reply_of}
+
+-- behind each answer stands a book that may be left where memory ran out
+left_behind : (book after : Book) (caller : Caller) (now : ℕ) (request : Request) (reply : Answer) → MayAnswer book caller now request reply after → MayBeLeft book caller now request after
+left_behind book after caller now request reply (inl verdict) = inr (inr (reply, verdict))
+left_behind book after caller now request reply (inr (_, left)) = left
+
+-- an answer of the host that was written, or for which there was no memory
+pub judged_by : (book after : Book) (caller : Caller) (now : ℕ) (request : Request) (answered : Answer) (r : Result Reply Memory)
+    → MayAnswer book caller now request answered after → IfOk r (λ reply. (reply.status, reply.body.items) ≡ reply_of answered)
+    → IsJudged book caller now request (answer_in r) after
+judged_by book after caller now request answered (Ok reply) may e = inl (answered, may, e)
+judged_by book after caller now request answered (Err _) may e = inr (refl, left_behind book after caller now request answered may)
+
+done_is_status : (what : Made) → IsTrue (is_answer_status (done_status what))
+done_is_status made.Nothing = refl
+done_is_status (made.Entry e) = refl
+done_is_status (made.League l) = refl
+done_is_status (made.Cup c) = refl
+
+-- each answer has a status of a response
+pub answer_is_status : (a : Answer) → IsTrue (is_answer_status (status_of a))
+answer_is_status (answer.Done n what) = done_is_status what
+answer_is_status (answer.Shown s) = refl
+answer_is_status (answer.Rule r) = refl
+answer_is_status answer.Unknown = refl
+answer_is_status answer.Keeper = refl
+answer_is_status (answer.Damaged key) = refl
+answer_is_status answer.Memory = refl

@@ -1,0 +1,22 @@
+-- What a message was found to ask.
+use Rattle.std.specs.Prelude.{◌≡◌, ℕ, List, Result, Ok, Err, IsTrue, ⊤}
+use Rattle.fpl_http.specs.Responses.{is_answer_status}
+use Rattle.season_host.specs.Hosts.{IsRequest}
+use Rattle.fpl_host.specs.declared.desk.Asked.{Asked}
+use Rattle.fpl_host.specs.declared.desk.Asked.TheVariants as asked
+use Rattle.fpl_host.specs.Replying.{Asking}
+
+-- who asks what, or the reply that refuses it
+abbrev pub asking_in : Asked → Asking
+asking_in (asked.By caller request) = Ok (caller, request)
+asking_in (asked.Refused reply) = Err (reply.status, reply.body.items)
+
+-- what is asked can be judged, and a refusal has a status of a response
+abbrev pub CanFollow : Asked → Type 0
+CanFollow (asked.By caller request) = IsRequest request
+CanFollow (asked.Refused reply) = IsTrue (is_answer_status reply.status)
+
+-- a message was found to ask this
+pub record Asks (asking : Asking) (found : Asked) : Type 0 where
+  pub same : asking_in found ≡ asking
+  pub follows : CanFollow found

@@ -1,0 +1,44 @@
+-- The command that runs a session of the host.
+use Rattle.std.specs.Prelude.{◌≡◌, ℕ, List, [], ◌∷◌, Option, IfSome, IsTrue, codes}
+use Rattle.fpl_base.specs.Moments.{Moments}
+use Rattle.fpl_base.specs.Texts.{is_key}
+use Rattle.fpl_session.specs.Replies.{Speaks}
+use Rattle.fpl_session.specs.Sessions.{EndsAs, SessionOf, SessionOver}
+use Rattle.fpl_session.specs.declared.ending.Ending.{Ending}
+use Rattle.fpl_session.specs.declared.ending.Ending.TheVariants.{Done, Closed, Cut, Refused, Read, Write, Long, Memory}
+use Rattle.record_codec.specs.Book.{empty_book}
+use Rattle.season_host.specs.Hosts.{HostState}
+use Rattle.fpl_host.specs.Replying.{IsReply, Served}
+
+-- the exit status of a session: 0 where it ended with the input or with a message that closes, and else a number for each cause
+abbrev pub status_of : Ending → ℕ
+status_of Done = 0
+status_of Closed = 0
+status_of Read = 1
+status_of Write = 3
+status_of Memory = 6
+status_of Cut = 7
+status_of Long = 10
+status_of (Refused k) = 12
+
+-- the words of the command that runs a session for the operator with this key
+abbrev pub IsPipe : List (List ℕ) → List ℕ → Type 0
+IsPipe words key = (words ≡ codes "pipe" ∷ codes "--key" ∷ key ∷ []) × IsTrue (is_key key)
+
+-- the words are those of some such command
+abbrev pub IsSomePipe : List (List ℕ) → Type 0
+IsSomePipe words = (key : List ℕ) × IsPipe words key
+
+-- where a session begins: a host of this operator without a season, and all the moments of the clock
+abbrev pub opened : List ℕ → Option Moments → Served
+opened key moments = record { host = record { operator = key; book = empty_book }; moments = moments }
+
+-- a run of the command: it was one session of the host, from without a season, over the input and the output, with the
+-- moments that the clock told, and the status is that of its ending
+pub record Pipes (key : List ℕ) (left now : Option (List ℕ)) (moments later : Option Moments) (before after : Option (List ℕ)) (status : ℕ) : Type 0 where
+  pub ending : Ending
+  pub host : HostState
+  pub is_status : status ≡ status_of ending
+  pub taken : SessionOf (Speaks IsReply) left now (opened key moments) (record { host = host; moments = later }) before after ending
+  pub over : IfSome left (λ all. SessionOver (Speaks IsReply) all (opened key moments) (record { host = host; moments = later }) before after ending)
+  pub exact : IfSome left (λ all. EndsAs all ending)

@@ -1,0 +1,102 @@
+-- What a message asks of the host, and what it is answered.
+use Rattle.std.specs.Prelude.{◌≡◌, ◌⊎◌, ℕ, List, Option, Some, None, Result, Ok, Err, codes, if◌then◌else◌}
+use Rattle.serde_json.specs.Written.{compact_text}
+use Rattle.fpl_base.specs.declared.kinds.Caller.{Caller}
+use Rattle.fpl_base.specs.Moments.{Moments, Tells}
+use Rattle.fpl_base.specs.Texts.{is_key}
+use Rattle.record_codec.specs.Book.{Book}
+use Rattle.season_host.specs.Hosts.{HostState, caller_with}
+use Rattle.season_host.specs.Verdict.{MayAnswer, MayBeLeft}
+use Rattle.season_host.specs.declared.answer.Answer.{Answer}
+use Rattle.season_host.specs.declared.request.Request.{Request as Asked}
+use Rattle.fpl_json.specs.Answers.{answer_data, status_of}
+use Rattle.fpl_json.specs.Callers.{is_for}
+use Rattle.fpl_json.specs.FieldNames.{name_of}
+use Rattle.fpl_json.specs.MemberData.{error_data, malformed_data}
+use Rattle.fpl_json.specs.Requests.{request_of}
+use Rattle.fpl_json.specs.Targets.{IsFound}
+use Rattle.fpl_json.specs.declared.field.FieldName.{FieldName}
+use Rattle.fpl_json.specs.declared.route.Found.{Found}
+use Rattle.fpl_json.specs.declared.route.Found.TheVariants as found
+use Rattle.fpl_json.specs.declared.route.Route.{Route}
+use Rattle.fpl_http.specs.Responses.{memory_text}
+use Rattle.fpl_http.specs.Stream.{Request}
+
+-- a reply: a status, and a body
+abbrev pub Reply : Type 0
+Reply = ℕ × List ℕ
+
+-- a reply that says in one word what is wrong
+abbrev pub error_reply : ℕ → List ℕ → Reply
+error_reply status word = (status, compact_text (error_data word))
+
+-- the reply to a body whose first wrong member is this
+abbrev pub malformed_reply : FieldName → Reply
+malformed_reply field = (400, compact_text (malformed_data (name_of field)))
+
+-- the reply of an answer of the host
+abbrev pub reply_of : Answer → Reply
+reply_of answer = (status_of answer, compact_text (answer_data answer))
+
+-- the reply where memory was wanting
+abbrev pub full_reply : Reply
+full_reply = (507, memory_text)
+
+-- who asks what, or the reply that refuses a message before the host judges it
+abbrev pub Asking : Type 0
+Asking = Result (Caller × Asked) Reply
+
+-- what a caller asks, unless a member of the body is wrong
+abbrev pub unless_malformed : Caller → Result Asked FieldName → Asking
+unless_malformed caller (Ok request) = Ok (caller, request)
+unless_malformed caller (Err field) = Err (malformed_reply field)
+
+-- the caller first: his key has to be known, and the route has to be for him; then the body
+abbrev pub asked_by : Option Caller → Route → List ℕ → List ℕ → Asking
+asked_by None route ids body = Err (error_reply 401 (codes "key"))
+asked_by (Some caller) route ids body =
+    if is_for route caller then unless_malformed caller (request_of route ids body) else Err (error_reply 403 (codes "caller"))
+
+-- whose key a message shows; what is no key is nobody's
+abbrev pub caller_of : HostState → Option (List ℕ) → Option Caller
+caller_of host None = None
+caller_of host (Some key) = if is_key key then caller_with host key else None
+
+-- the route before the caller
+abbrev pub asked_at : HostState → Request → Found → Asking
+asked_at host message found.Unknown = Err (error_reply 404 (codes "unknown"))
+asked_at host message found.Method = Err (error_reply 405 (codes "method"))
+asked_at host message (found.Route route ids) = asked_by (caller_of host message.key) route ids message.body
+
+-- what a message asks of the host
+abbrev pub IsAsked : HostState → Request → Asking → Type 0
+IsAsked host message asking = (at : Found) × IsFound message.method message.target at × (asking ≡ asked_at host message at)
+
+-- what goes from message to message: the host, and the moments that the clock has left, if it tells them
+pub record Served : Type 0 where
+  pub host : HostState
+  pub moments : Option Moments
+
+-- the reply to a request that the host judged: that of what it may answer; or memory was wanting, and the book is one
+-- of those that may be left then
+abbrev pub IsJudged : Book → Caller → ℕ → Asked → Reply → Book → Type 0
+IsJudged book caller now request reply after =
+    ((answer : Answer) × MayAnswer book caller now request answer after × (reply ≡ reply_of answer))
+    ⊎ ((reply ≡ full_reply) × MayBeLeft book caller now request after)
+
+-- one moment was told, the request was judged by it, and the operator's key stayed
+pub record Judges (old : Served) (caller : Caller) (request : Asked) (reply : Reply) (new : Served) : Type 0 where
+  pub now : ℕ
+  pub told : Tells old.moments now new.moments
+  pub judged : IsJudged old.host.book caller now request reply new.host.book
+  pub operator : new.host.operator ≡ old.host.operator
+
+-- what was asked is replied to: a refusal asks no moment and changes nothing, and so does want of memory before the
+-- host is asked
+abbrev pub RepliesTo : Asking → Served → Reply → Served → Type 0
+RepliesTo (Err refusal) old reply new = (new ≡ old) × ((reply ≡ refusal) ⊎ (reply ≡ full_reply))
+RepliesTo (Ok (caller, request)) old reply new = ((new ≡ old) × (reply ≡ full_reply)) ⊎ Judges old caller request reply new
+
+-- a message may get this reply, and leave this behind
+abbrev pub IsReply : Served → Request → Reply → Served → Type 0
+IsReply old message reply new = (asking : Asking) × IsAsked old.host message asking × RepliesTo asking old reply new
