@@ -2,9 +2,10 @@
 use Rattle.std.proofs.Common.{◌≡◌, ◌∙◌, ap, sym, subst, refl, ℕ, zero, suc, List, [], ◌∷◌, ◌++◌, ◌+◌, ◌-◌, ◌<◌, ◌≤◌, length, drop, take, get_or, Bool, true, false, arith, inl, inr}
 use Rattle.std.proofs.lemmas.Bool.{cases_Bool, cases_lt}
 use Rattle.std.proofs.lemmas.Bool.Decides.{nat_tests}
+use Rattle.std.proofs.lemmas.List.Sums.{sum_by-cons}
 use Rattle.std.proofs.lemmas.List.{take-append-le, length-append, length-take, take_all, drop_more}
 use Rattle.std.specs.Prelude.{Option, Some, None, option_map, ◌==◌, ◌&&◌, if◌then◌else◌, nat_le, nat_lt, min}
-use Rattle.fpl_http.specs.Lines.{empty_line, strip, head_len, or_else, line_count, head_end_of, head_end_in}
+use Rattle.fpl_http.specs.Lines.{empty_line, strip, head_len, head_len_behind, or_else, line_count, head_end_of, head_end_in}
 use Rattle.fpl_http.specs.declared.lines.HeadEnd.TheVariants.{Missing, TooLarge, At}
 
 -- ---- empty lines
@@ -363,3 +364,57 @@ pub search_on : (t : List ℕ) (n i : ℕ) → head_len (take n t) ≡ None → 
 search_on t zero i h e = let z : i ≡ 0 = omega arith in rw z (from_none (head_len t))
 search_on t (suc zero) i h e = let z : i ≡ 0 = omega arith in rw z (from_none (head_len t))
 search_on t (suc (suc n)) i h e = let z : i ≡ n = omega arith in rw z (from_two t n h)
+
+-- ---- the first line
+
+abbrev pub IsNoFeed : List ℕ → ℕ → Type 0
+IsNoFeed t j = (get_or t j 0 == 10) ≡ false
+
+counted_first : (b : ℕ) (rest : List ℕ) → line_count (b ∷ rest) ≡ (if b == 10 then 1 else 0) + line_count rest
+counted_first b rest = sum_by-cons (λ x. if x == 10 then 1 else 0) b rest
+
+counted_past : (b : ℕ) (rest : List ℕ) → (b == 10) ≡ false → line_count (b ∷ rest) ≡ line_count rest
+counted_past b rest other =
+    let same : line_count (b ∷ rest) ≡ 0 + line_count rest = counted_first b rest ∙ ap (λ (y : Bool). (if y then 1 else 0) + line_count rest) other in
+    omega (arith, same)
+
+counted_feed : (b : ℕ) (rest : List ℕ) → (b == 10) ≡ true → line_count (b ∷ rest) ≡ 1 + line_count rest
+counted_feed b rest feed = counted_first b rest ∙ ap (λ (y : Bool). (if y then 1 else 0) + line_count rest) feed
+
+later : (b : ℕ) (rest : List ℕ) (k : ℕ) → ((j : ℕ) → j < suc k → IsNoFeed (b ∷ rest) j) → (j : ℕ) → j < k → IsNoFeed rest j
+later b rest k none j lt = none (suc j) (omega arith)
+
+pub no_line : (t : List ℕ) → ((j : ℕ) → j < length t → IsNoFeed t j) → (head_len t ≡ None) × (line_count t ≡ 0)
+no_line [] none = (refl, refl)
+no_line (b ∷ rest) none =
+    let other = none 0 (omega arith) in
+    let (ends, counted) = no_line rest (later b rest (length rest) none) in
+    (head_past b rest (λ y. absurd (cc)) ∙ ap (option_map (λ n. 1 + n)) ends, counted_past b rest other ∙ counted)
+
+line_next : (k : ℕ) (o : Option ℕ) → option_map (λ n. 1 + n) (option_map (λ n. k + 1 + n) o) ≡ option_map (λ n. suc (k + 1) + n) o
+line_next k None = refl
+line_next k (Some n) = ap Some (omega arith)
+
+pub line_ends : (t : List ℕ) (k : ℕ) → ((j : ℕ) → j < k → IsNoFeed t j) → k < length t → (get_or t k 0 == 10) ≡ true
+    → head_len t ≡ head_len_behind (k + 1) t
+line_ends [] k none lt feed = absurd (omega arith)
+line_ends (b ∷ rest) zero none lt feed = rw feed refl
+line_ends (b ∷ rest) (suc k) none lt feed =
+    let next : suc k + 1 ≡ suc (k + 1) = omega arith in
+    let other = none 0 (omega arith) in
+    rw next
+    (head_past b rest (λ y. absurd (cc))
+    ∙ ap (option_map (λ n. 1 + n)) (line_ends rest k (later b rest k none) (omega arith) feed)
+    ∙ line_next k (or_else (empty_line (drop (k + 1) rest)) (head_len (drop (k + 1) rest))))
+
+pub line_counted : (t : List ℕ) (k : ℕ) → ((j : ℕ) → j < k → IsNoFeed t j) → k < length t → (get_or t k 0 == 10) ≡ true
+    → line_count t ≡ 1 + line_count (drop (k + 1) t)
+line_counted [] k none lt feed = absurd (omega arith)
+line_counted (b ∷ rest) zero none lt feed = counted_feed b rest feed
+line_counted (b ∷ rest) (suc k) none lt feed =
+    let next : suc k + 1 ≡ suc (k + 1) = omega arith in
+    rw next (counted_past b rest (none 0 (omega arith)) ∙ line_counted rest k (later b rest k none) (omega arith) feed)
+
+pub shifted_by : (a n : ℕ) (o : Option ℕ) → option_map (λ k. a + k) (option_map (λ k. n + k) o) ≡ option_map (λ k. a + n + k) o
+shifted_by a n None = refl
+shifted_by a n (Some k) = ap Some (omega arith)

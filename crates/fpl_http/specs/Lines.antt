@@ -1,5 +1,5 @@
 -- the lines of a stream: the empty ones in front of a message, and where a head ends
-use Rattle.std.specs.Prelude.{ℕ, ◌+◌, ◌≤◌, ◌&&◌, ◌==◌, nat_le, nat_lt, Bool, List, [], ◌∷◌, length, take, if◌then◌else◌, Option, Some, None, option_map, count_by, ⊤}
+use Rattle.std.specs.Prelude.{ℕ, ◌+◌, ◌≤◌, ◌&&◌, ◌==◌, nat_le, nat_lt, Bool, List, [], ◌∷◌, length, take, drop, if◌then◌else◌, Option, Some, None, option_map, count_by, ⊤}
 use Rattle.fpl_http.specs.declared.lines.HeadEnd.{HeadEnd}
 use Rattle.fpl_http.specs.declared.lines.HeadEnd.TheVariants.{Missing, TooLarge, At}
 
@@ -24,6 +24,10 @@ or_else (Some n) other = Some n
 abbrev pub head_len : List ℕ → Option ℕ
 head_len [] = None
 head_len (b ∷ rest) = option_map (λ n. 1 + n) (or_else (if b == 10 then empty_line rest else None) (head_len rest))
+
+-- the same, where the first line has n bytes with its LF
+abbrev pub head_len_behind : ℕ → List ℕ → Option ℕ
+head_len_behind n bytes = option_map (λ k. n + k) (or_else (empty_line (drop n bytes)) (head_len (drop n bytes)))
 
 -- how many lines end in these bytes
 abbrev pub line_count : List ℕ → ℕ

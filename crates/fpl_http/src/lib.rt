@@ -14,7 +14,7 @@ mod responses;
 pub use decoder::{Decoder, Message, Next};
 pub use laws::{fronts_stay, two_readings_are_one};
 pub use pieces::{OwnedMessage, StreamEnd, Transcript, read_pieces};
-pub use responses::{memory_response, response};
+pub use responses::{append_response, memory_response};
 
 #[cfg(test)]
 mod tests;

@@ -1,6 +1,8 @@
 // The lines of a stream: the empty ones in front of a message, and where a head ends.
-ghost use Rattle.std.specs.Prelude.{◌≡◌, ◌≤◌, ℕ, length, drop, take, None, IfSome};
-ghost use Rattle.fpl_http.specs.Lines.{empty_line, head_len, strip, line_count, head_end, EndWithin};
+ghost use Rattle.std.specs.Prelude.{◌≡◌, ◌≤◌, ◌+◌, ℕ, length, drop, take, None, IfNone, IfSome};
+ghost use Rattle.fpl_http.specs.Lines.{empty_line, head_len, head_len_behind, strip, line_count, head_end, EndWithin};
+
+use memchr::memchr;
 
 /// The most bytes that a head may have.
 pub const HEAD_BYTES: usize = 8192;
@@ -32,6 +34,19 @@ pub fn blank_lines_length(bytes: &[u8]) -> usize
     at
 }
 
+/// The length of the first line, with its LF.
+fn line_length(bytes: &[u8]) -> Option<usize>
+    ensures ends { IfSome result (λ n. head_len bytes.now ≡ head_len_behind n bytes.now) }
+    ensures counted { IfSome result (λ n. line_count bytes.now ≡ 1 + line_count (drop n bytes.now)) }
+    ensures within { IfSome result (λ n. (1 ≤ n) × (n ≤ length bytes.now)) }
+    ensures none { IfNone result ((head_len bytes.now ≡ None) × (line_count bytes.now ≡ 0)) }
+{
+    match memchr(b'\n', bytes) {
+        Some(place) => Some(place + 1),
+        None => None,
+    }
+}
+
 /// The length of the head at the front, if it ends there. Nothing ends in the bytes that were searched
 /// before, so those are passed over, but for the two that may belong to an ending.
 pub fn head_length(bytes: &[u8], searched: usize) -> Option<usize>
@@ -40,11 +55,11 @@ pub fn head_length(bytes: &[u8], searched: usize) -> Option<usize>
     ensures value { result ≡ head_len bytes.now }
     ensures within { IfSome result (λ n. n ≤ length bytes.now) }
 {
-    for i in searched.saturating_sub(2)..bytes.len() {
-        if bytes[i] == b'\n' {
-            if let Some(n) = blank_length(&bytes[i + 1..]) {
-                return Some(i + 1 + n);
-            }
+    let mut at = searched.saturating_sub(2);
+    while let Some(line) = line_length(&bytes[at..]) {
+        at += line;
+        if let Some(n) = blank_length(&bytes[at..]) {
+            return Some(at + n);
         }
     }
     None
@@ -53,7 +68,13 @@ pub fn head_length(bytes: &[u8], searched: usize) -> Option<usize>
 fn count_lines(bytes: &[u8]) -> usize
     ensures { result ≡ line_count bytes.now }
 {
-    bytes.iter().filter(|b| **b == b'\n').count()
+    let mut count = 0;
+    let mut at = 0;
+    while let Some(line) = line_length(&bytes[at..]) {
+        at += line;
+        count += 1;
+    }
+    count
 }
 
 /// Where the head at the front ends.

@@ -1,53 +1,94 @@
 // The bytes of a response.
-ghost use Rattle.std.specs.Prelude.{◌≡◌, IfOk, IsTrue, string_bytes};
+ghost use Rattle.std.specs.Prelude.{◌≡◌, ◌≤◌, ◌+◌, ◌++◌, codes, decimal, length, IsTrue, OnErr, OnOk};
+ghost use Rattle.std.specs.Vec.{vec_capacity, vec_len};
 ghost use Rattle.fpl_http.specs.Responses.{is_answer_status, phrase, closing_line, head_text, response_text, memory_text};
 
 use fpl_base::Memory;
-use http::StatusCode;
-use std::alloc::{AllocError, Global};
+use itoa::Buffer;
 
-/// The phrase of a status.
-fn phrase_of(status: u16) -> &'static str
+/// The line of a status, without its end.
+fn status_line(status: u16) -> &'static [u8]
     requires { IsTrue (is_answer_status status) }
-    ensures { result.now ≡ phrase status }
+    ensures line { result.now ≡ codes "HTTP/1.1 " ++ (decimal status ++ (codes " " ++ phrase status)) }
+    ensures short { length result.now ≤ 44 }
 {
-    match StatusCode::from_u16(status) {
-        Ok(code) => code.canonical_reason().unwrap_or(""),
-        Err(_) => "",
+    match status {
+        200 => b"HTTP/1.1 200 OK",
+        201 => b"HTTP/1.1 201 Created",
+        400 => b"HTTP/1.1 400 Bad Request",
+        401 => b"HTTP/1.1 401 Unauthorized",
+        403 => b"HTTP/1.1 403 Forbidden",
+        404 => b"HTTP/1.1 404 Not Found",
+        405 => b"HTTP/1.1 405 Method Not Allowed",
+        409 => b"HTTP/1.1 409 Conflict",
+        411 => b"HTTP/1.1 411 Length Required",
+        413 => b"HTTP/1.1 413 Payload Too Large",
+        431 => b"HTTP/1.1 431 Request Header Fields Too Large",
+        500 => b"HTTP/1.1 500 Internal Server Error",
+        501 => b"HTTP/1.1 501 Not Implemented",
+        503 => b"HTTP/1.1 503 Service Unavailable",
+        _ => b"HTTP/1.1 507 Insufficient Storage",
     }
 }
 
-fn closing_text(closing: bool) -> &'static str
-    ensures { result.now ≡ closing_line closing }
+const FIELDS: &[u8] = b"\r\nContent-Type: application/json\r\nContent-Length: ";
+
+/// What stands between the length of the body and the body.
+fn end_of_head(closing: bool) -> &'static [u8]
+    ensures end { result.now ≡ codes "\r\n" ++ (closing_line closing ++ codes "\r\n") }
+    ensures short { length result.now ≤ 23 }
 {
-    if closing { "Connection: close\r\n" } else { "" }
+    if closing {
+        b"\r\nConnection: close\r\n\r\n"
+    } else {
+        b"\r\n\r\n"
+    }
 }
 
-/// The head of a response whose body has this length.
-fn response_head(
-    alloc: Global,
+/// Appends a text for which there is room.
+fn put(out: &mut Vec<u8>, text: &[u8])
+    requires room { vec_len out.old + length text.now ≤ vec_capacity out.old }
+    ensures items { out.new.items ≡ out.old.items ++ text.now }
+    ensures len { vec_len out.new ≡ vec_len out.old + length text.now }
+    ensures capacity { vec_capacity out.old ≤ vec_capacity out.new }
+{
+    let _ = out.extend_from_slice(text);
+}
+
+/// Room for the longest head.
+const HEAD_ROOM: usize = 160;
+
+/// Appends the head of a response whose body has this length, for which there is room.
+fn put_head(out: &mut Vec<u8>, status: u16, size: usize, closing: bool)
+    requires status { IsTrue (is_answer_status status) }
+    requires room { vec_len out.old + 160 ≤ vec_capacity out.old }
+    ensures items { out.new.items ≡ out.old.items ++ head_text status size closing }
+    ensures len { vec_len out.new ≤ vec_len out.old + 160 }
+    ensures capacity { vec_capacity out.old ≤ vec_capacity out.new }
+{
+    put(out, status_line(status));
+    put(out, FIELDS);
+    put(out, Buffer::new().format(size).as_bytes());
+    put(out, end_of_head(closing));
+}
+
+/// Appends the bytes of a response with this body. `closing` says that the session ends after it. Where there is no
+/// memory for all of it, nothing is appended.
+pub fn append_response(
+    out: &mut Vec<u8>,
     status: u16,
-    length: usize,
+    body: &[u8],
     closing: bool,
-) -> Result<String, AllocError>
+) -> Result<(), Memory>
     requires { IsTrue (is_answer_status status) }
-    ensures { IfOk result (λ s. string_bytes s ≡ head_text status length closing) }
+    ensures ok { OnOk result (out.new.items ≡ out.old.items ++ response_text status body.now closing) }
+    ensures err { OnErr result (out.new.items ≡ out.old.items) }
+    ensures capacity { vec_capacity out.old ≤ vec_capacity out.new }
 {
-    let phrase = phrase_of(status);
-    let close = closing_text(closing);
-    format!(in alloc;
-        "HTTP/1.1 {status} {phrase}\r\nContent-Type: application/json\r\nContent-Length: {length}\r\n{close}\r\n"
-    )
-}
-
-/// The bytes of a response with this body. `closing` says that the session ends after it.
-pub fn response(alloc: Global, status: u16, body: &[u8], closing: bool) -> Result<Vec<u8>, Memory>
-    requires { IsTrue (is_answer_status status) }
-    ensures { IfOk result (λ v. v.items ≡ response_text status body.now closing) }
-{
-    let mut out = response_head(alloc, status, body.len(), closing)?.into_bytes();
-    out.extend_from_slice(body)?;
-    Ok(out)
+    out.reserve(HEAD_ROOM + body.len())?;
+    put_head(out, status, body.len(), closing);
+    put(out, body);
+    Ok(())
 }
 
 const MEMORY: &[u8] =
@@ -58,7 +99,8 @@ const MEMORY_CLOSING: &[u8] =
 
 /// The response where memory is wanting, which takes none.
 pub fn memory_response(closing: bool) -> &'static [u8]
-    ensures { result.now ≡ response_text 507 memory_text closing }
+    ensures text { result.now ≡ response_text 507 memory_text closing }
+    ensures short { length result.now ≤ 128 }
 {
     if closing { MEMORY_CLOSING } else { MEMORY }
 }

@@ -2,7 +2,7 @@
 ghost use Rattle.std.specs.Prelude.{IsTrue};
 ghost use Rattle.fpl_http.specs.Responses.{is_answer_status};
 
-use crate::{Decoder, Next, StreamEnd, Transcript, memory_response, read_pieces, response};
+use crate::{Decoder, Next, StreamEnd, Transcript, append_response, memory_response, read_pieces};
 use fpl_base::Memory;
 use std::alloc::Global;
 use std::test::Fail;
@@ -316,10 +316,11 @@ fn has_phrase(alloc: Global, status: u16, phrase: &str) -> Result<bool, Memory>
     let closing = format!(in alloc;
         "HTTP/1.1 {status} {phrase}\r\nContent-Type: application/json\r\nContent-Length: 2\r\nConnection: close\r\n\r\n{{}}"
     )?;
-    Ok(
-        response(alloc, status, b"{}", false)?.as_slice() == open.as_bytes()
-            && response(alloc, status, b"{}", true)?.as_slice() == closing.as_bytes(),
-    )
+    let mut out = Vec::from_slice(alloc, b"before")?;
+    append_response(&mut out, status, b"{}", false)?;
+    append_response(&mut out, status, b"{}", true)?;
+    let all = format!(in alloc; "before{open}{closing}")?;
+    Ok(out.as_slice() == all.as_bytes())
 }
 
 #[test]
@@ -350,7 +351,8 @@ fn phrases_of_the_refused(rt: HostRuntime) -> Result<(), Fail> {
 #[test]
 fn want_of_memory_without_memory(rt: HostRuntime) -> Result<(), Fail> {
     for closing in [false, true] {
-        let same = response(rt.alloc(), 507, b"{\"error\":\"memory\"}", closing)?;
+        let mut same = Vec::new(rt.alloc());
+        append_response(&mut same, 507, b"{\"error\":\"memory\"}", closing)?;
         assert_eq!(rt; memory_response(closing), same.as_slice());
     }
     Ok(())

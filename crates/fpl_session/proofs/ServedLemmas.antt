@@ -1,22 +1,26 @@
 -- messages that were answered, one part after another
-use Rattle.std.proofs.Common.{◌≡◌, ◌∙◌, ap, sym, subst, refl, ℕ, List, [], ◌∷◌, ◌++◌, ◌<◌, length, true, false, ◌⊎◌, inl, inr, append_assoc, append-nil}
+use Rattle.std.proofs.Common.{◌≡◌, ◌∙◌, ap, sym, subst, refl, ℕ, List, [], ◌∷◌, ◌++◌, ◌+◌, ◌<◌, ◌≤◌, length, take, true, false, inl, inr, arith, append_assoc, append-nil}
+use Rattle.std.proofs.lemmas.List.{length-append, take_all}
+use Rattle.std.proofs.Math.Seq.{take-append-add}
 use Rattle.std.specs.Prelude.{Option, Some, None}
 use Rattle.std.specs.Io.KnownBytes.{Appends}
+use Rattle.fpl_base.specs.Causes.{AppendsFront}
 use Rattle.fpl_http.specs.declared.decoder.Next.TheVariants as Next
 use Rattle.fpl_http.specs.declared.decoder.Next.TheVariants.{NeedMore}
 use Rattle.fpl_http.specs.Held.{Held, Gives, IsWaiting}
 use Rattle.fpl_http.specs.Lines.{strip}
-use Rattle.fpl_http.specs.Stream.{Request, Front, Wanting, Refusal, Whole, IsFront}
+use Rattle.fpl_http.specs.Stream.{Request, Wanting, Whole, IsFront, End, Closed, Refused, Begins}
 use Rattle.fpl_http.proofs.LinesLemmas.{strip_idem}
-use Rattle.fpl_http.proofs.StreamLemmas.{front_more, front_refused, front_same, begins_more, begins_then}
+use Rattle.fpl_http.proofs.StreamLemmas.{front_same, begins_more, begins_reads, begins_then, reads_more, reads_refused}
 use Rattle.fpl_session.specs.declared.ending.Ending.{Ending}
 use Rattle.fpl_session.specs.declared.ending.Ending.TheVariants as Ends
 use Rattle.fpl_session.specs.declared.turn.Turn.{Turn}
-use Rattle.fpl_session.specs.declared.turn.Turn.TheVariants.{Ended}
+use Rattle.fpl_session.specs.declared.turn.Turn.TheVariants as Turns
 use Rattle.fpl_session.specs.Replies.{Refuses}
 use Rattle.fpl_session.specs.Runs.{joined, Served}
-use Rattle.fpl_session.specs.Stops.{Sends, Last, SentAs, Stops}
-use Rattle.fpl_session.specs.Turns.{Turned}
+use Rattle.fpl_session.specs.Sessions.{Heard}
+use Rattle.fpl_session.specs.Stops.{IsDueBehind, WriteFailed}
+use Rattle.fpl_session.specs.Turns.{Turned, Stopped}
 use Rattle.fpl_session.proofs.RunLemmas.{joined_both, run_then}
 
 pub Appends-nil : (a : Option (List ℕ)) → Appends a a []
@@ -28,6 +32,30 @@ Appends-trans None b c bs cs p q = tt
 Appends-trans (Some x) None c bs cs p q = absurd p
 Appends-trans (Some x) (Some y) None bs cs p q = absurd q
 Appends-trans (Some x) (Some y) (Some z) bs cs p q = q ∙ ap (λ (l : List ℕ). l ++ cs) p ∙ append_assoc x bs cs
+
+Appends-front : (a b : Option (List ℕ)) (bs : List ℕ) → Appends a b bs → AppendsFront a b bs
+Appends-front a b bs p = (length bs, omega arith, subst (Appends a b) (sym (take_all (length bs) bs (omega arith))) p)
+
+AppendsFront-trans : (a b c : Option (List ℕ)) (bs cs : List ℕ) → Appends a b bs → AppendsFront b c cs → AppendsFront a c (bs ++ cs)
+AppendsFront-trans a b c bs cs p (k, fits, q) = (
+  length bs + k,
+  omega (arith, fits, length-append bs cs),
+  subst (Appends a c) (sym (take-append-add bs cs k)) (Appends-trans a b c bs (take k cs) p q),
+)
+
+-- what is due behind more messages
+due_after : (s r : List ℕ) (ms ns : List Request) (more : List ℕ) → Begins s ms r → IsDueBehind r ns more → IsDueBehind s (ms ++ ns) more
+due_after s r ms ns more p (inl (inl (rest, q), none)) = inl (inl (rest, begins_then s r rest ms ns p q), none)
+due_after s r ms ns more p (inl (inr q, none)) = inl (inr (begins_reads s r ms ns Closed p q), none)
+due_after s r ms ns more p (inr (k, q, refuses)) = inr (k, begins_reads s r ms ns (Refused k) p q, refuses)
+
+due_more : (s x : List ℕ) (ms : List Request) (more : List ℕ) → IsDueBehind s ms more → IsDueBehind (s ++ x) ms more
+due_more s x ms more (inl (inl (rest, q), none)) = inl (inl (rest ++ x, begins_more s x rest ms q), none)
+due_more s x ms more (inl (inr q, none)) = inl (inr (reads_more s x ms q), none)
+due_more s x ms more (inr (k, q, refuses)) = inr (k, reads_refused s x ms k q, refuses)
+
+both : (ts us : List (List ℕ)) (more : List ℕ) → joined ts ++ (joined us ++ more) ≡ joined (ts ++ us) ++ more
+both ts us more = sym (append_assoc (joined ts) (joined us) more) ∙ ap (λ (l : List ℕ). l ++ more) (sym (joined_both ts us))
 
 module _ {S : Type 0} (step : S → Request → List ℕ → S → Type 0) where
   pub served_none : (s r : List ℕ) (a : S) (u : Option (List ℕ)) → strip s ≡ strip r → Served step s r a a u u
@@ -58,41 +86,58 @@ module _ {S : Type 0} (step : S → Request → List ℕ → S → Type 0) where
   served_to : (s r q : List ℕ) (a b : S) (u v : Option (List ℕ)) → Served step s r a b u v → strip r ≡ strip q → Served step s q a b u v
   served_to s r q a b u v p e = served_then s r q a b b u v v p (served_none r q b v e)
 
-  last_more : (r x : List ℕ) (a b : S) (e : Ending) (t : List ℕ) → Last step r a b e t → Last step (r ++ x) a b e t
-  last_more r x a b e t p = go p.front p.is_front p.sends p.closed p.refused
-    where
-      go : (f : Front) → IsFront r f → Sends step a f t b → (e ≡ Ends.Closed → (m : Request) × (q : List ℕ) × (f ≡ Whole m q) × (m.closes ≡ true)) → ((k : ℕ) → e ≡ Ends.Refused k → f ≡ Refusal k) → Last step (r ++ x) a b e t
-      go Wanting i s c d = absurd s
-      go (Refusal k) i s c d = record { front = Refusal k; is_front = front_refused r x k i; sends = s; closed = c; refused = d }
-      go (Whole m q) i s c d = record {
-        front = Whole m (q ++ x);
-        is_front = front_more r x m q i;
-        sends = s;
-        closed = λ y. let (n, w, same, closes) = c y in let which : m ≡ n = cc in (n, q ++ x, ap (λ (j : Request). Whole j (q ++ x)) which, closes);
-        refused = λ k y. let bad : Whole m q ≡ Refusal k = d k y in absurd (cc);
-      }
+  -- the texts of two parts, and then more
+  texts_then : (u v w : Option (List ℕ)) (ts us : List (List ℕ)) (more : List ℕ) → Appends u v (joined ts) → Appends v w (joined us ++ more) → Appends u w (joined (ts ++ us) ++ more)
+  texts_then u v w ts us more p q = subst (Appends u w) (both ts us more) (Appends-trans u v w (joined ts) (joined us ++ more) p q)
 
-  pub stops_more : (s x : List ℕ) (a b : S) (u v : Option (List ℕ)) (e : Ending) → Stops step s a b u v e → Stops step (s ++ x) a b u v e
-  stops_more s x a b u v e p = record {
-    mid = p.mid;
-    rest = p.rest ++ x;
-    between = p.between;
-    text = p.text;
-    served = served_more s p.rest x a p.mid u p.between p.served;
-    last = last_more p.rest x p.mid b e p.text p.last;
-    sent = p.sent;
+  pub heard_after : (s r : List ℕ) (e : End) (a b c : S) (u v w : Option (List ℕ)) (more : List ℕ) → Served step s r a b u v → Heard step r e b c v w more → Heard step s e a c u w more
+  heard_after s r e a b c u v w more x y = record {
+    messages = x.messages ++ y.messages;
+    texts = x.texts ++ y.texts;
+    reads = begins_reads s r x.messages y.messages e x.begins y.reads;
+    run = run_then step a b c x.messages y.messages x.texts y.texts x.run y.run;
+    sent = texts_then u v w x.texts y.texts more x.sent y.sent;
   }
 
-  pub stops_after : (s r : List ℕ) (a b c : S) (u v w : Option (List ℕ)) (e : Ending) → Served step s r a b u v → Stops step r b c v w e → Stops step s a c u w e
-  stops_after s r a b c u v w e p q = record {
-    mid = q.mid;
-    rest = q.rest;
-    between = q.between;
-    text = q.text;
-    served = served_then s r q.rest a b q.mid u v q.between p q.served;
-    last = q.last;
-    sent = q.sent;
+  failed_after : (s r : List ℕ) (a b c : S) (u v w : Option (List ℕ)) → Served step s r a b u v → WriteFailed step r b c v w → WriteFailed step s a c u w
+  failed_after s r a b c u v w x y = record {
+    messages = x.messages ++ y.messages;
+    texts = x.texts ++ y.texts;
+    more = y.more;
+    due = due_after s r x.messages y.messages y.more x.begins y.due;
+    run = run_then step a b c x.messages y.messages x.texts y.texts x.run y.run;
+    some = subst (λ (l : List ℕ). 0 < length l) (both x.texts y.texts y.more) (omega (arith, length-append (joined x.texts) (joined y.texts ++ y.more), y.some));
+    sent = subst (AppendsFront u w) (both x.texts y.texts y.more) (AppendsFront-trans u v w (joined x.texts) (joined y.texts ++ y.more) x.sent y.sent);
   }
+
+  pub stopped_after : (s r : List ℕ) (a b c : S) (u v w : Option (List ℕ)) (e : Ending) → Served step s r a b u v → Stopped step r b c v w e → Stopped step s a c u w e
+  stopped_after s r a b c u v w Ends.Closed x y = heard_after s r Closed a b c u v w [] x y
+  stopped_after s r a b c u v w (Ends.Refused k) x (t, refuses, y) = (t, refuses, heard_after s r (Refused k) a b c u v w t x y)
+  stopped_after s r a b c u v w Ends.Write x y = failed_after s r a b c u v w x y
+  stopped_after s r a b c u v w Ends.Done x y = absurd y
+  stopped_after s r a b c u v w Ends.Cut x y = absurd y
+  stopped_after s r a b c u v w Ends.Read x y = absurd y
+  stopped_after s r a b c u v w Ends.Long x y = absurd y
+  stopped_after s r a b c u v w Ends.Memory x y = absurd y
+
+  pub failed_more : (s x : List ℕ) (a b : S) (u v : Option (List ℕ)) → WriteFailed step s a b u v → WriteFailed step (s ++ x) a b u v
+  failed_more s x a b u v y = record { messages = y.messages; texts = y.texts; more = y.more; due = due_more s x y.messages y.more y.due; run = y.run; some = y.some; sent = y.sent }
+
+  pub closed_more : (s x : List ℕ) (a b : S) (u v : Option (List ℕ)) → Heard step s Closed a b u v [] → Heard step (s ++ x) Closed a b u v []
+  closed_more s x a b u v h = record { messages = h.messages; texts = h.texts; reads = reads_more s x h.messages h.reads; run = h.run; sent = h.sent }
+
+  pub refused_more : (s x : List ℕ) (a b : S) (u v : Option (List ℕ)) (k : ℕ) (t : List ℕ) → Heard step s (Refused k) a b u v t → Heard step (s ++ x) (Refused k) a b u v t
+  refused_more s x a b u v k t h = record { messages = h.messages; texts = h.texts; reads = reads_refused s x h.messages k h.reads; run = h.run; sent = h.sent }
+
+  pub stopped_more : (s x : List ℕ) (a b : S) (u v : Option (List ℕ)) (e : Ending) → Stopped step s a b u v e → Stopped step (s ++ x) a b u v e
+  stopped_more s x a b u v Ends.Closed y = closed_more s x a b u v y
+  stopped_more s x a b u v (Ends.Refused k) (t, refuses, y) = (t, refuses, refused_more s x a b u v k t y)
+  stopped_more s x a b u v Ends.Write y = failed_more s x a b u v y
+  stopped_more s x a b u v Ends.Done y = absurd y
+  stopped_more s x a b u v Ends.Cut y = absurd y
+  stopped_more s x a b u v Ends.Read y = absurd y
+  stopped_more s x a b u v Ends.Long y = absurd y
+  stopped_more s x a b u v Ends.Memory y = absurd y
 
   -- ---- one call of the decoder
 
@@ -103,27 +148,9 @@ module _ {S : Type 0} (step : S → Request → List ℕ → S → Type 0) where
         record { front = front_same s.pending r.pending Wanting same p; stripped = sym same ∙ sym e; none = none },
       )
 
-  pub turn_refused : (s r : Held) (a : S) (u v : Option (List ℕ)) (k : ℕ) (turn : Turn) → Gives s.pending (Next.Refused k) r
-      → (t : List ℕ) × (e : Ending) × (turn ≡ Ended e) × Refuses k t × ((e ≡ Ends.Refused k) ⊎ (e ≡ Ends.Write)) × SentAs e u v t
-      → Turned step s r a a u v turn
-  turn_refused s r a u v k turn p (t, e, is, refuses, which, sent) =
-      subst (Turned step s r a a u v) (sym is) (record {
-        mid = a;
-        rest = s.pending;
-        between = u;
-        text = t;
-        served = served_none s.pending s.pending a u refl;
-        last = record { front = Refusal k; is_front = p.0; sends = (refl, refuses); closed = λ y. absurd (not_closed which y); refused = λ j y. same_status which j y };
-        sent = sent;
-      })
-    where
-      not_closed : (e ≡ Ends.Refused k) ⊎ (e ≡ Ends.Write) → e ≡ Ends.Closed → ⊥
-      not_closed (inl x) y = cc
-      not_closed (inr x) y = cc
-
-      same_status : (e ≡ Ends.Refused k) ⊎ (e ≡ Ends.Write) → (j : ℕ) → e ≡ Ends.Refused j → Refusal k ≡ Refusal j
-      same_status (inl x) j y = let same : k ≡ j = cc in ap Refusal same
-      same_status (inr x) j y = absurd (cc)
+  pub turn_refused : (s r : Held) (a : S) (u v : Option (List ℕ)) (k : ℕ) → Gives s.pending (Next.Refused k) r → (t : List ℕ) × Refuses k t × Appends u v t
+      → (t : List ℕ) × Refuses k t × Heard step s.pending (Refused k) a a u v t
+  turn_refused s r a u v k p (t, refuses, sent) = (t, refuses, record { messages = []; texts = []; reads = p.0; run = refl; sent = sent })
 
   pub turn_answered : (s r : Held) (a b : S) (u v : Option (List ℕ)) (m : Request) (t : List ℕ) → Gives s.pending Next.Message r → r.found ≡ Some m → step a m t b → m.closes ≡ false → Appends u v t
       → Served step s.pending r.pending a b u v × (length r.pending < length s.pending)
@@ -131,29 +158,53 @@ module _ {S : Type 0} (step : S → Request → List ℕ → S → Type 0) where
       let same : n ≡ m = cc in
       (served_one s.pending r.pending a b u v m t (subst (λ (j : Request). IsFront s.pending (Whole j r.pending)) same p) stays st sent, lt)
 
-  pub turn_last : (s r : Held) (a b : S) (u v : Option (List ℕ)) (m : Request) (t : List ℕ) (e : Ending) → Gives s.pending Next.Message r → r.found ≡ Some m → step a m t b
-      → ((e ≡ Ends.Closed) × (m.closes ≡ true)) ⊎ (e ≡ Ends.Write) → SentAs e u v t
-      → Stops step s.pending a b u v e
-  turn_last s r a b u v m t e (n, p, is, lt) found st which sent = record {
-    mid = a;
-    rest = s.pending;
-    between = u;
-    text = t;
-    served = served_none s.pending s.pending a u refl;
-    last = record {
-      front = Whole m r.pending;
-      is_front = let same : n ≡ m = cc in subst (λ (j : Request). IsFront s.pending (Whole j r.pending)) same p;
-      sends = st;
-      closed = λ y. closes which y;
-      refused = λ k y. absurd (not_refused which k y);
-    };
-    sent = sent;
-  }
-    where
-      closes : ((e ≡ Ends.Closed) × (m.closes ≡ true)) ⊎ (e ≡ Ends.Write) → e ≡ Ends.Closed → (j : Request) × (q : List ℕ) × (Whole m r.pending ≡ Whole j q) × (j.closes ≡ true)
-      closes (inl x) y = (m, r.pending, refl, x.1)
-      closes (inr x) y = absurd (cc)
+  pub turn_closed : (s r : Held) (a b : S) (u v : Option (List ℕ)) (m : Request) (t : List ℕ) → Gives s.pending Next.Message r → r.found ≡ Some m → step a m t b → m.closes ≡ true → Appends u v t
+      → Heard step s.pending Closed a b u v []
+  turn_closed s r a b u v m t (n, p, is, lt) found st closes sent =
+      let same : n ≡ m = cc in
+      record {
+        messages = m ∷ [];
+        texts = t ∷ [];
+        reads = (r.pending, subst (λ (j : Request). IsFront s.pending (Whole j r.pending)) same p, inl (closes, refl, refl));
+        run = (b, st, refl);
+        sent = subst (Appends u v) (sym (append-nil (t ++ []) ∙ append-nil t)) sent;
+      }
 
-      not_refused : ((e ≡ Ends.Closed) × (m.closes ≡ true)) ⊎ (e ≡ Ends.Write) → (k : ℕ) → e ≡ Ends.Refused k → ⊥
-      not_refused (inl x) k y = let z : e ≡ Ends.Closed = x.0 in cc
-      not_refused (inr x) k y = cc
+  -- ---- turns, one after another
+
+  pub turned_after : (s r q : Held) (a b c : S) (u v w : Option (List ℕ)) (turn : Turn) → Served step s.pending r.pending a b u v → length r.pending ≤ length s.pending → Turned step r q b c v w turn → Turned step s q a c u w turn
+  turned_after s r q a b c u v w Turns.Answered x fits (y, less) = (served_then s.pending r.pending q.pending a b c u v w x y, omega (arith, fits, less))
+  turned_after s r q a b c u v w Turns.Waits x fits (y, waits) = (served_then s.pending r.pending q.pending a b c u v w x y, waits)
+  turned_after s r q a b c u v w Turns.Closed x fits y = heard_after s.pending r.pending Closed a b c u v w [] x y
+  turned_after s r q a b c u v w (Turns.Refused k) x fits (t, refuses, y) = (t, refuses, heard_after s.pending r.pending (Refused k) a b c u v w t x y)
+
+  -- ---- texts that waited in an outbox, which was empty at first
+
+  served_sent : (s r : List ℕ) (a b : S) (u v : Option (List ℕ)) (ts : List ℕ) → Served step s r a b (Some []) (Some ts) → Appends u v ts → Served step s r a b u v
+  served_sent s r a b u v ts x sent = record { messages = x.messages; texts = x.texts; begins = x.begins; run = x.run; sent = subst (Appends u v) x.sent sent }
+
+  heard_sent : (s : List ℕ) (e : End) (a b : S) (u v : Option (List ℕ)) (more ts : List ℕ) → Heard step s e a b (Some []) (Some ts) more → Appends u v ts → Heard step s e a b u v more
+  heard_sent s e a b u v more ts x sent = record { messages = x.messages; texts = x.texts; reads = x.reads; run = x.run; sent = subst (Appends u v) x.sent sent }
+
+  pub turned_sent : (s r : Held) (a b : S) (u v : Option (List ℕ)) (ts : List ℕ) (turn : Turn) → Turned step s r a b (Some []) (Some ts) turn → Appends u v ts → Turned step s r a b u v turn
+  turned_sent s r a b u v ts Turns.Answered (x, less) sent = (served_sent s.pending r.pending a b u v ts x sent, less)
+  turned_sent s r a b u v ts Turns.Waits (x, waits) sent = (served_sent s.pending r.pending a b u v ts x sent, waits)
+  turned_sent s r a b u v ts Turns.Closed x sent = heard_sent s.pending Closed a b u v [] ts x sent
+  turned_sent s r a b u v ts (Turns.Refused k) (t, refuses, x) sent = (t, refuses, heard_sent s.pending (Refused k) a b u v t ts x sent)
+
+  served_failed : (s r : List ℕ) (a b : S) (u v : Option (List ℕ)) (ts : List ℕ) → 0 < length ts → Served step s r a b (Some []) (Some ts) → AppendsFront u v ts → WriteFailed step s a b u v
+  served_failed s r a b u v ts some x sent = record {
+    messages = x.messages;
+    texts = x.texts;
+    more = [];
+    due = inl (inl (r, x.begins), refl);
+    run = x.run;
+    some = subst (λ (l : List ℕ). 0 < length l) (x.sent ∙ sym (append-nil (joined x.texts))) some;
+    sent = subst (AppendsFront u v) (x.sent ∙ sym (append-nil (joined x.texts))) sent;
+  }
+
+  pub turned_failed : (s r : Held) (a b : S) (u v : Option (List ℕ)) (ts : List ℕ) (turn : Turn) → 0 < length ts → Turned step s r a b (Some []) (Some ts) turn → AppendsFront u v ts → WriteFailed step s.pending a b u v
+  turned_failed s r a b u v ts Turns.Answered some (x, less) sent = served_failed s.pending r.pending a b u v ts some x sent
+  turned_failed s r a b u v ts Turns.Waits some (x, waits) sent = served_failed s.pending r.pending a b u v ts some x sent
+  turned_failed s r a b u v ts Turns.Closed some x sent = record { messages = x.messages; texts = x.texts; more = []; due = inl (inr x.reads, refl); run = x.run; some = subst (λ (l : List ℕ). 0 < length l) x.sent some; sent = subst (AppendsFront u v) x.sent sent }
+  turned_failed s r a b u v ts (Turns.Refused k) some (t, refuses, x) sent = record { messages = x.messages; texts = x.texts; more = t; due = inr (k, x.reads, refuses); run = x.run; some = subst (λ (l : List ℕ). 0 < length l) x.sent some; sent = subst (AppendsFront u v) x.sent sent }

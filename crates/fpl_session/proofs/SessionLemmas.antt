@@ -6,17 +6,15 @@ use Rattle.std.specs.Io.KnownBytes.{Appends, Consumes}
 use Rattle.fpl_http.specs.Held.{Held, IsWaiting}
 use Rattle.fpl_http.specs.Laws.{TwoReadingsAreOne}
 use Rattle.fpl_http.specs.Lines.{strip}
-use Rattle.fpl_http.specs.Stream.{Request, Front, Wanting, IsFront, End, Open, Closed, Refused, Reads}
-use Rattle.fpl_http.proofs.StreamLemmas.{begins_reads, nothing_waits, reads_more, reads_refused}
+use Rattle.fpl_http.specs.Stream.{Request, Wanting, IsFront, End, Open, Closed, Refused, Reads}
+use Rattle.fpl_http.proofs.StreamLemmas.{begins_reads, nothing_waits}
 use Rattle.fpl_session.specs.declared.ending.Ending.{Ending}
 use Rattle.fpl_session.specs.declared.ending.Ending.TheVariants as Ends
-use Rattle.fpl_session.specs.Replies.{Refuses}
 use Rattle.fpl_session.specs.Runs.{Run, joined, Served}
+use Rattle.fpl_session.specs.Stops.{WriteFailed}
 use Rattle.fpl_session.specs.Sessions.{Heard, SessionOf, SessionOver, ending_of, EndsAs}
-use Rattle.fpl_session.specs.Stops.{Sends, Stops}
-use Rattle.fpl_session.specs.Turns.{Heeds, Exchanged}
-use Rattle.fpl_session.proofs.RunLemmas.{joined_both, run_then}
-use Rattle.fpl_session.proofs.ServedLemmas.{Appends-trans, served_more, served_then, stops_more, stops_after}
+use Rattle.fpl_session.specs.Turns.{Heeds, Exchanged, Stopped}
+use Rattle.fpl_session.proofs.ServedLemmas.{Appends-trans, closed_more, failed_more, refused_more, served_more, served_then, stopped_after, stopped_more}
 
 pub Consumes-nil : (a : Option (List ℕ)) → Consumes a a []
 Consumes-nil None = tt
@@ -51,11 +49,11 @@ module _ {S : Type 0} (step : S → Request → List ℕ → S → Type 0) where
       let there = subst (λ (l : List ℕ). Served step l (q ++ drop n rest) b c v w) (cut_there p rest fed n e) here in
       subst (λ (l : List ℕ). Served step all (q ++ l) a c u w) (sym (take_all k (drop n rest) fits)) (served_then step all (p ++ rest) (q ++ drop n rest) a b c u v w x there)
 
-  pub fed_stops : (all p rest fed : List ℕ) (n : ℕ) (a b c : S) (u v w : Option (List ℕ)) (e : Ending) → Served step all (p ++ rest) a b u v → fed ≡ p ++ take n rest → Stops step fed b c v w e → Stops step all a c u w e
+  pub fed_stops : (all p rest fed : List ℕ) (n : ℕ) (a b c : S) (u v w : Option (List ℕ)) (e : Ending) → Served step all (p ++ rest) a b u v → fed ≡ p ++ take n rest → Stopped step fed b c v w e → Stopped step all a c u w e
   fed_stops all p rest fed n a b c u v w e x same y =
-      let here = stops_more step fed (drop n rest) b c v w e y in
-      let there = subst (λ (l : List ℕ). Stops step l b c v w e) (cut_there p rest fed n same) here in
-      stops_after step all (p ++ rest) a b c u v w e x there
+      let here = stopped_more step fed (drop n rest) b c v w e y in
+      let there = subst (λ (l : List ℕ). Stopped step l b c v w e) (cut_there p rest fed n same) here in
+      stopped_after step all (p ++ rest) a b c u v w e x there
 
   -- a piece more was taken from the source and served
   pub talk_more : (got : List ℕ) (s r : Held) (left mid now : Option (List ℕ)) (n k : ℕ) (a b c : S) (u v w : Option (List ℕ))
@@ -78,37 +76,8 @@ module _ {S : Type 0} (step : S → Request → List ℕ → S → Type 0) where
     sent = Appends-trans u v w (joined x.texts) [] x.sent sent;
   }
 
-  pub heard_closed : (s : List ℕ) (a b : S) (u v : Option (List ℕ)) → Stops step s a b u v Ends.Closed → Heard step s Closed a b u v []
-  heard_closed s a b u v z =
-      let (m, q, is, closes) = z.last.closed refl in
-      record {
-        messages = z.served.messages ++ m ∷ [];
-        texts = z.served.texts ++ z.text ∷ [];
-        reads = begins_reads s z.rest z.served.messages (m ∷ []) Closed z.served.begins (q, subst (IsFront z.rest) is z.last.is_front, inl (closes, refl, refl));
-        run = run_then step a z.mid b z.served.messages (m ∷ []) z.served.texts (z.text ∷ []) z.served.run (b, subst (λ (f : Front). Sends step z.mid f z.text b) is z.last.sends, refl);
-        sent = subst (Appends u v) (together z.served.texts z.text) (Appends-trans u z.between v (joined z.served.texts) z.text z.served.sent z.sent);
-      }
-    where
-      together : (ts : List (List ℕ)) (t : List ℕ) → joined ts ++ t ≡ joined (ts ++ t ∷ []) ++ []
-      together ts t = sym (append-nil (joined (ts ++ t ∷ [])) ∙ joined_both ts (t ∷ []) ∙ ap (λ (l : List ℕ). joined ts ++ l) (append-nil t))
-
-  pub heard_refused : (s : List ℕ) (a b : S) (u v : Option (List ℕ)) (k : ℕ) → Stops step s a b u v (Ends.Refused k) → (t : List ℕ) × Refuses k t × Heard step s (Refused k) a b u v t
-  heard_refused s a b u v k z =
-      let is = z.last.refused k refl in
-      let sends = subst (λ (f : Front). Sends step z.mid f z.text b) is z.last.sends in (
-        z.text,
-        sends.1,
-        record {
-          messages = z.served.messages;
-          texts = z.served.texts;
-          reads = subst (λ (l : List Request). Reads s l (Refused k)) (append-nil z.served.messages) (begins_reads s z.rest z.served.messages [] (Refused k) z.served.begins (subst (IsFront z.rest) is z.last.is_front));
-          run = subst (Run step a z.served.messages z.served.texts) (sym sends.0) z.served.run;
-          sent = Appends-trans u z.between v (joined z.served.texts) z.text z.served.sent z.sent;
-        },
-      )
-
-  pub joined_stops : (got more s : List ℕ) (a b c : S) (u v w : Option (List ℕ)) (e : Ending) → Served step got s a b u v → Stops step (s ++ more) b c v w e → Stops step (got ++ more) a c u w e
-  joined_stops got more s a b c u v w e x stops = stops_after step (got ++ more) (s ++ more) a b c u v w e (served_more step got s more a b u v x) stops
+  joined_stops : (got more s : List ℕ) (a b c : S) (u v w : Option (List ℕ)) (e : Ending) → Served step got s a b u v → Stopped step (s ++ more) b c v w e → Stopped step (got ++ more) a c u w e
+  joined_stops got more s a b c u v w e x stopped = stopped_after step (got ++ more) (s ++ more) a b c u v w e (served_more step got s more a b u v x) stopped
 
   -- how the session ends after the bytes so far
   pub session_ends : (most n : ℕ) (left mid now : Option (List ℕ)) (got : List ℕ) (s r : Held) (a b c : S) (u v w : Option (List ℕ)) (e : Ending)
@@ -120,12 +89,12 @@ module _ {S : Type 0} (step : S → Request → List ℕ → S → Type 0) where
   session_ends most n left mid now got s r a b c u v w Ends.Read long short room first x wait rests =
       (got, s.pending, Consumes-more left mid now got first rests.taken, omega arith, heard_open got s a b c u v w x wait rests.same rests.sent)
   session_ends most n left mid now got s r a b c u v w Ends.Closed long short room first x wait h =
-      (got ++ h.got, Consumes-trans left mid now got h.got first h.taken, few got h.got most n h.few long short room, heard_closed (got ++ h.got) a c u w (joined_stops got h.got s.pending a b c u v w Ends.Closed x h.stops))
+      (got ++ h.got, Consumes-trans left mid now got h.got first h.taken, few got h.got most n h.few long short room, joined_stops got h.got s.pending a b c u v w Ends.Closed x h.stopped)
   session_ends most n left mid now got s r a b c u v w (Ends.Refused k) long short room first x wait h =
-      let (t, refuses, heard) = heard_refused (got ++ h.got) a c u w k (joined_stops got h.got s.pending a b c u v w (Ends.Refused k) x h.stops) in
+      let (t, refuses, heard) = joined_stops got h.got s.pending a b c u v w (Ends.Refused k) x h.stopped in
       (got ++ h.got, t, Consumes-trans left mid now got h.got first h.taken, few got h.got most n h.few long short room, refuses, heard)
   session_ends most n left mid now got s r a b c u v w Ends.Write long short room first x wait h =
-      (got ++ h.got, Consumes-trans left mid now got h.got first h.taken, few got h.got most n h.few long short room, joined_stops got h.got s.pending a b c u v w Ends.Write x h.stops)
+      (got ++ h.got, Consumes-trans left mid now got h.got first h.taken, few got h.got most n h.few long short room, joined_stops got h.got s.pending a b c u v w Ends.Write x h.stopped)
   session_ends most n left mid now got s r a b c u v w Ends.Long long short room first x wait h = absurd h
   session_ends most n left mid now got s r a b c u v w Ends.Memory long short room first x wait h = absurd h
 
@@ -150,11 +119,11 @@ module _ {S : Type 0} (step : S → Request → List ℕ → S → Type 0) where
   over : (all rest : List ℕ) (a c : S) (u w : Option (List ℕ)) (e : Ending) → SessionOf step (Some all) (Some rest) a c u w e → SessionOver step all a c u w e
   over all rest a c u w Ends.Done (got, e, short, end, h) = heard_at got all (Open []) a c u w [] (whole all got rest e end) h
   over all rest a c u w Ends.Cut (got, left, e, short, end, some, h) = (left, some, heard_at got all (Open left) a c u w [] (whole all got rest e end) h)
-  over all rest a c u w Ends.Closed (got, e, short, h) = heard_at (got ++ rest) all Closed a c u w [] (sym e) (record { messages = h.messages; texts = h.texts; reads = reads_more got rest h.messages h.reads; run = h.run; sent = h.sent })
-  over all rest a c u w (Ends.Refused k) (got, t, e, short, refuses, h) = (t, refuses, heard_at (got ++ rest) all (Refused k) a c u w t (sym e) (record { messages = h.messages; texts = h.texts; reads = reads_refused got rest h.messages k h.reads; run = h.run; sent = h.sent }))
+  over all rest a c u w Ends.Closed (got, e, short, h) = heard_at (got ++ rest) all Closed a c u w [] (sym e) (closed_more step got rest a c u w h)
+  over all rest a c u w (Ends.Refused k) (got, t, e, short, refuses, h) = (t, refuses, heard_at (got ++ rest) all (Refused k) a c u w t (sym e) (refused_more step got rest a c u w k t h))
   over all rest a c u w Ends.Read (got, left, e, short, h) = (got, rest, left, e, h)
   over all rest a c u w Ends.Long (got, left, e, size, h) = (got, rest, left, e, size, h)
-  over all rest a c u w Ends.Write (got, e, short, stops) = subst (λ (l : List ℕ). Stops step l a c u w Ends.Write) (sym e) (stops_more step got rest a c u w Ends.Write stops)
+  over all rest a c u w Ends.Write (got, e, short, failed) = subst (λ (l : List ℕ). WriteFailed step l a c u w) (sym e) (failed_more step got rest a c u w failed)
   over all rest a c u w Ends.Memory (e, same, sent) = (same, sent)
 
   pub session_over : (left now : Option (List ℕ)) (a c : S) (u w : Option (List ℕ)) (e : Ending) → SessionOf step left now a c u w e → IfSome left (λ all. SessionOver step all a c u w e)
@@ -163,15 +132,15 @@ module _ {S : Type 0} (step : S → Request → List ℕ → S → Type 0) where
   session_over (Some all) (Some rest) a c u w e h = over all rest a c u w e h
 
   -- a piece was read, and serving it ended the session
-  pub exchanged_stops : (most : ℕ) (left now : Option (List ℕ)) (s r : Held) (a b : S) (u v : Option (List ℕ)) (e : Ending) (got : List ℕ) → Consumes left now got → length got ≤ most → Stops step (s.pending ++ got) a b u v e → Exchanged step most left now s r a b u v (Err e)
-  exchanged_stops most left now s r a b u v Ends.Closed got c fits stops = record { got = got; taken = c; few = fits; stops = stops }
-  exchanged_stops most left now s r a b u v (Ends.Refused k) got c fits stops = record { got = got; taken = c; few = fits; stops = stops }
-  exchanged_stops most left now s r a b u v Ends.Write got c fits stops = record { got = got; taken = c; few = fits; stops = stops }
-  exchanged_stops most left now s r a b u v Ends.Done got c fits stops = absurd stops.sent
-  exchanged_stops most left now s r a b u v Ends.Cut got c fits stops = absurd stops.sent
-  exchanged_stops most left now s r a b u v Ends.Read got c fits stops = absurd stops.sent
-  exchanged_stops most left now s r a b u v Ends.Long got c fits stops = absurd stops.sent
-  exchanged_stops most left now s r a b u v Ends.Memory got c fits stops = absurd stops.sent
+  pub exchanged_stops : (most : ℕ) (left now : Option (List ℕ)) (s r : Held) (a b : S) (u v : Option (List ℕ)) (e : Ending) (got : List ℕ) → Consumes left now got → length got ≤ most → Stopped step (s.pending ++ got) a b u v e → Exchanged step most left now s r a b u v (Err e)
+  exchanged_stops most left now s r a b u v Ends.Closed got c fits stopped = record { got = got; taken = c; few = fits; stopped = stopped }
+  exchanged_stops most left now s r a b u v (Ends.Refused k) got c fits stopped = record { got = got; taken = c; few = fits; stopped = stopped }
+  exchanged_stops most left now s r a b u v Ends.Write got c fits stopped = record { got = got; taken = c; few = fits; stopped = stopped }
+  exchanged_stops most left now s r a b u v Ends.Done got c fits stopped = absurd stopped
+  exchanged_stops most left now s r a b u v Ends.Cut got c fits stopped = absurd stopped
+  exchanged_stops most left now s r a b u v Ends.Read got c fits stopped = absurd stopped
+  exchanged_stops most left now s r a b u v Ends.Long got c fits stopped = absurd stopped
+  exchanged_stops most left now s r a b u v Ends.Memory got c fits stopped = absurd stopped
 
   cut_is : (rest : List ℕ) → 0 < length rest → Ends.Cut ≡ ending_of (Open rest)
   cut_is [] some = absurd (omega arith)

@@ -1,5 +1,5 @@
 pub mod Replies
 pub mod Runs
 pub mod Stops
-pub mod Turns
 pub mod Sessions
+pub mod Turns

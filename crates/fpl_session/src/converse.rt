@@ -7,6 +7,7 @@ ghost use Rattle.fpl_session.specs.Sessions.{SessionOf};
 
 use crate::ending::Ending;
 use crate::exchange::exchange;
+use crate::outbox::Outbox;
 use crate::service::Service;
 use fpl_base::{Clock, Keeper, Sink, Source, Steps};
 use fpl_http::Decoder;
@@ -25,11 +26,13 @@ pub fn converse<R: Service<H, K, C, L>, H, K: Keeper, S: Source, W: Sink, C: Clo
     host: &mut H,
     keeper: &mut K,
     src: &mut S,
+    outbox: &mut Outbox,
     out: &mut W,
     clock: &mut C,
     steps: &mut Steps<L>,
 ) -> Ending
     requires room { 0 < length buffer.old }
+    requires empty { outbox.old ≡ [] }
     requires waiting { IsWaiting decoder.old }
     requires fresh { decoder.old.pending ≡ [] }
     requires ready { R.ready service.now (host.old, keeper.old, clock.old, steps.old) }
@@ -52,6 +55,7 @@ pub fn converse<R: Service<H, K, C, L>, H, K: Keeper, S: Source, W: Sink, C: Clo
             host,
             keeper,
             src,
+            outbox,
             out,
             clock,
             steps,

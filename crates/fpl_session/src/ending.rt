@@ -11,7 +11,7 @@ pub enum Ending {
     Refused(u16),
     /// A read failed.
     Read,
-    /// A write failed.
+    /// A write failed. Messages may have been answered whose responses were not taken, or not whole.
     Write,
     /// 2^32 bytes were taken, and no other ending stands in them.
     Long,

@@ -7,6 +7,7 @@ ghost use Rattle.fpl_session.specs.Replies.{Speaks};
 ghost use Rattle.fpl_session.specs.Turns.{Exchanged};
 
 use crate::ending::Ending;
+use crate::outbox::Outbox;
 use crate::piece::serve_piece;
 use crate::service::Service;
 use fpl_base::{Clock, Failed, Keeper, Sink, Source, Steps};
@@ -51,6 +52,7 @@ pub fn exchange<R: Service<H, K, C, L>, H, K: Keeper, S: Source, W: Sink, C: Clo
     host: &mut H,
     keeper: &mut K,
     src: &mut S,
+    outbox: &mut Outbox,
     out: &mut W,
     clock: &mut C,
     steps: &mut Steps<L>,
@@ -58,8 +60,10 @@ pub fn exchange<R: Service<H, K, C, L>, H, K: Keeper, S: Source, W: Sink, C: Clo
 ) -> Result<u64, Ending>
     requires most { 0 < most }
     requires room { 0 < length buffer.old }
+    requires empty { outbox.old ≡ [] }
     requires waiting { IsWaiting decoder.old }
     requires ready { R.ready service.now (host.old, keeper.old, clock.old, steps.old) }
+    ensures empty { outbox.new ≡ [] }
     ensures ready { R.ready service.now (host.new, keeper.new, clock.new, steps.new) }
     ensures exchanged { Exchanged (Speaks (R.answers service.now)) most (S.left src.old) (S.left src.new) decoder.old decoder.new
         (R.see (host.old, keeper.old, clock.old, steps.old)) (R.see (host.new, keeper.new, clock.new, steps.new))
@@ -80,6 +84,7 @@ pub fn exchange<R: Service<H, K, C, L>, H, K: Keeper, S: Source, W: Sink, C: Clo
             keeper,
             clock,
             steps,
+            outbox,
             out,
             &buffer[..count],
         ) {

@@ -1,12 +1,13 @@
 //! A session: the messages of a source, answered one after another into a sink, over any service.
 #![tactic(auto)]
 
+mod batch;
 mod converse;
 mod ending;
 mod exchange;
 mod opening;
+mod outbox;
 mod piece;
-mod respond;
 mod service;
 mod turn;
 

@@ -7,14 +7,16 @@ ghost use Rattle.fpl_session.specs.Sessions.{EndsAs, SessionOf, SessionOver};
 
 use crate::converse::converse;
 use crate::ending::Ending;
+use crate::outbox::Outbox;
 use crate::service::Service;
 use fpl_base::{Clock, Keeper, Memory, Sink, Source, Steps};
 use fpl_http::{Decoder, two_readings_are_one};
 use std::alloc::Global;
 use std::sync::ledger::Ledger;
 
-/// Answers the messages of a source into a sink, one after another, each by one write. It reads pieces of 65,536 bytes,
-/// and takes 2^32 bytes at most. A response that finds no memory is the fixed one of status 507, bytes that are no
+/// Answers the messages of a source into a sink, one after another. It reads pieces of 65,536 bytes, and takes 2^32 bytes
+/// at most. The answers to what a piece brought are written together, before the next read, and earlier where they are
+/// more than 65,536 bytes. A response that finds no memory is the fixed one of status 507, bytes that are no
 /// message are answered with the body `{"error":"bytes"}`, and nothing behind a message that closes is answered.
 pub fn session<R: Service<H, K, C, L>, H, K: Keeper, S: Source, W: Sink, C: Clock, L: Ledger>(
     alloc: Global,
@@ -70,7 +72,7 @@ fn open_session<R: Service<H, K, C, L>, H, K: Keeper, S: Source, W: Sink, C: Clo
     ensures write { result ≡ Ending.Write → Rose (W.faults out.old) (W.faults out.new) }
 {
     match buffers(alloc) {
-        Ok((mut decoder, mut buffer)) => converse(
+        Ok((mut decoder, mut buffer, mut outbox)) => converse(
             alloc,
             &mut decoder,
             &mut buffer,
@@ -78,6 +80,7 @@ fn open_session<R: Service<H, K, C, L>, H, K: Keeper, S: Source, W: Sink, C: Clo
             host,
             keeper,
             src,
+            &mut outbox,
             out,
             clock,
             steps,
@@ -88,11 +91,12 @@ fn open_session<R: Service<H, K, C, L>, H, K: Keeper, S: Source, W: Sink, C: Clo
 
 const PIECE: usize = 65_536;
 
-/// What a session needs: a decoder that holds nothing, and a place to read into.
-fn buffers(alloc: Global) -> Result<(Decoder, Vec<u8>), Memory>
-    ensures { IfOk result (λ p. IsWaiting p.0 × (p.0.pending ≡ []) × (0 < length p.1.items)) }
+/// What a session needs: a decoder that holds nothing, a place to read into, and an empty outbox.
+fn buffers(alloc: Global) -> Result<(Decoder, Vec<u8>, Outbox), Memory>
+    ensures { IfOk result (λ p. IsWaiting p.0 × (p.0.pending ≡ []) × (0 < length p.1.items) × (p.2 ≡ [])) }
 {
     let decoder = Decoder::new(alloc)?;
     let buffer = vec![in alloc; 0; PIECE]?;
-    Ok((decoder, buffer))
+    let outbox = Outbox::new(alloc)?;
+    Ok((decoder, buffer, outbox))
 }

@@ -1,13 +1,15 @@
 // The messages that stand whole in a piece.
-ghost use Rattle.std.specs.Prelude.{◌≡◌, ◌≤◌, ◌++◌, Some};
+ghost use Rattle.std.specs.Prelude.{◌≡◌, ◌≤◌, ◌++◌, [], Some};
 ghost use Rattle.fpl_base.specs.Causes.{Rose};
 ghost use Rattle.fpl_http.specs.Held.{IsWaiting};
 ghost use Rattle.fpl_session.specs.Replies.{Speaks};
 ghost use Rattle.fpl_session.specs.Turns.{PieceServed};
 
+use crate::batch::take_batch;
 use crate::ending::Ending;
+use crate::outbox::Outbox;
 use crate::service::Service;
-use crate::turn::{Turn, take_turn};
+use crate::turn::Turn;
 use fpl_base::{Clock, Keeper, Sink, Steps};
 use fpl_http::Decoder;
 use std::alloc::Global;
@@ -22,9 +24,12 @@ fn answer_all<R: Service<H, K, C, L>, H, K: Keeper, C: Clock, L: Ledger, W: Sink
     keeper: &mut K,
     clock: &mut C,
     steps: &mut Steps<L>,
+    outbox: &mut Outbox,
     out: &mut W,
 ) -> Option<Ending>
-    requires { R.ready service.now (host.old, keeper.old, clock.old, steps.old) }
+    requires empty { outbox.old ≡ [] }
+    requires ready { R.ready service.now (host.old, keeper.old, clock.old, steps.old) }
+    ensures empty { outbox.new ≡ [] }
     ensures ready { R.ready service.now (host.new, keeper.new, clock.new, steps.new) }
     ensures served { PieceServed (Speaks (R.answers service.now)) decoder.old.pending decoder.new
         (R.see (host.old, keeper.old, clock.old, steps.old)) (R.see (host.new, keeper.new, clock.new, steps.new))
@@ -33,10 +38,14 @@ fn answer_all<R: Service<H, K, C, L>, H, K: Keeper, C: Clock, L: Ledger, W: Sink
     ensures failed { result ≡ Some Ending.Write → Rose (W.faults out.old) (W.faults out.new) }
 {
     loop {
-        match take_turn(alloc, decoder, service, host, keeper, clock, steps, out) {
-            Turn::Answered => {}
-            Turn::Waits => return None,
-            Turn::Ended(ending) => return Some(ending),
+        match take_batch(
+            alloc, decoder, service, host, keeper, clock, steps, outbox, out,
+        ) {
+            Ok(Turn::Answered) => {}
+            Ok(Turn::Waits) => return None,
+            Ok(Turn::Closed) => return Some(Ending::Closed),
+            Ok(Turn::Refused(status)) => return Some(Ending::Refused(status)),
+            Err(_) => return Some(Ending::Write),
         }
     }
 }
@@ -50,11 +59,14 @@ pub fn serve_piece<R: Service<H, K, C, L>, H, K: Keeper, C: Clock, L: Ledger, W:
     keeper: &mut K,
     clock: &mut C,
     steps: &mut Steps<L>,
+    outbox: &mut Outbox,
     out: &mut W,
     piece: &[u8],
 ) -> Option<Ending>
+    requires empty { outbox.old ≡ [] }
     requires waiting { IsWaiting decoder.old }
     requires ready { R.ready service.now (host.old, keeper.old, clock.old, steps.old) }
+    ensures empty { outbox.new ≡ [] }
     ensures ready { R.ready service.now (host.new, keeper.new, clock.new, steps.new) }
     ensures served { PieceServed (Speaks (R.answers service.now)) (decoder.old.pending ++ piece.now) decoder.new
         (R.see (host.old, keeper.old, clock.old, steps.old)) (R.see (host.new, keeper.new, clock.new, steps.new))
@@ -66,7 +78,9 @@ pub fn serve_piece<R: Service<H, K, C, L>, H, K: Keeper, C: Clock, L: Ledger, W:
     while !rest.is_empty() {
         let count = decoder.feed(rest);
         rest = &rest[count..];
-        match answer_all(alloc, decoder, service, host, keeper, clock, steps, out) {
+        match answer_all(
+            alloc, decoder, service, host, keeper, clock, steps, outbox, out,
+        ) {
             Some(ending) => return Some(ending),
             None => {}
         }

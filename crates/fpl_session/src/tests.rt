@@ -1,13 +1,13 @@
 // Sessions over memory, with a small service in place of a host.
-ghost use Rattle.std.specs.Prelude.{◌≡◌, ◌≤◌, ◌<◌, ◌+◌, ◌-◌, ◌^◌, ◌++◌, ◌⊎◌, ℕ, Option, min, codes, IfOk, string_bytes};
+ghost use Rattle.std.specs.Prelude.{◌≡◌, ◌≤◌, ◌<◌, ◌+◌, ◌-◌, ◌^◌, ◌++◌, ◌⊎◌, ℕ, Option, None, min, codes, replicate, IfOk, string_bytes, ⊤};
 ghost use Rattle.std.specs.Fmt.{decimal};
 ghost use Rattle.fpl_base.specs.Moments.{Moments, Tells};
 ghost use Rattle.fpl_http.specs.Responses.{memory_text};
 
 use crate::{Ending, Reply, Service, session};
 use fpl_base::{
-    Clock, FaultySink, FaultySource, Keeper, Memory, MemoryClock, MemorySource, Moment, Plan,
-    Quiet, Sink, Source, Steps,
+    Clock, Failed, FaultySink, FaultySource, Keeper, Memory, MemoryClock, MemorySource, Moment,
+    Plan, Quiet, Sink, Source, Steps,
 };
 use fpl_http::Message;
 use std::alloc::{AllocError, Global};
@@ -100,7 +100,7 @@ const TWO: &[u8] = b"\r\nPOST /a HTTP/1.1\r\nContent-Length: 3\r\n\r\nabc\nGET /
 const SAID: &[u8] =
     b"HTTP/1.1 200 OK\r\nContent-Type: application/json\r\nContent-Length: 5\r\n\r\n[1,7]HTTP/1.1 200 OK\r\nContent-Type: application/json\r\nContent-Length: 5\r\n\r\n[2,8]";
 
-const ROWS: [Row; 9] = [
+const ROWS: [Row; 15] = [
     Row {
         stream: b"\r\n\n",
         piece: 99,
@@ -169,15 +169,71 @@ const ROWS: [Row; 9] = [
         ending: Ending::Write,
         said: b"HTTP/1.1 200 OK\r\nContent-Type: application/json\r\nContent-Length: 5\r\n\r\n[1,7]HTTP/1.1",
     },
-    // The second write fails.
+    // Two messages of one piece are answered by one write.
     Row {
         stream: TWO,
         piece: 99,
         read: 0,
         write: 2,
         room: 999,
+        ending: Ending::Done,
+        said: SAID,
+    },
+    Row {
+        stream: TWO,
+        piece: 99,
+        read: 0,
+        write: 1,
+        room: 999,
+        ending: Ending::Write,
+        said: b"",
+    },
+    // Each of two pieces brings a message, and the second write fails.
+    Row {
+        stream: TWO,
+        piece: 44,
+        read: 0,
+        write: 2,
+        room: 999,
         ending: Ending::Write,
         said: b"HTTP/1.1 200 OK\r\nContent-Type: application/json\r\nContent-Length: 5\r\n\r\n[1,7]",
+    },
+    Row {
+        stream: TWO,
+        piece: 44,
+        read: 0,
+        write: 3,
+        room: 999,
+        ending: Ending::Done,
+        said: SAID,
+    },
+    // A message that closes, a head that is none, and a body that is cut stand behind a message, and the one write fails.
+    Row {
+        stream: b"GET /a HTTP/1.1\r\n\r\nGET /b HTTP/1.0\r\n\r\n",
+        piece: 99,
+        read: 0,
+        write: 1,
+        room: 999,
+        ending: Ending::Write,
+        said: b"",
+    },
+    Row {
+        stream: b"GET /a HTTP/1.1\r\n\r\nGET\r\n\r\n",
+        piece: 99,
+        read: 0,
+        write: 1,
+        room: 999,
+        ending: Ending::Write,
+        said: b"",
+    },
+    Row {
+        stream: b"GET /a HTTP/1.1\r\n\r\nPOST /b HTTP/1.1\r\nContent-Length: 3\r\n\r\nab",
+        piece: 99,
+        read: 0,
+        write: 1,
+        room: 999,
+        ending: Ending::Write,
+        said: b"",
     },
     // The answer to bytes that are no message finds no room.
     Row {
@@ -216,6 +272,27 @@ fn sessions_end_as_is_due(rt: HostRuntime) -> Result<(), Fail> {
     Ok(())
 }
 
+// Whether a session over the two messages in pieces of this size ends so, where the sink has this much room, and the
+// sink took as much of the answers as there was room for.
+fn fills(rt: &HostRuntime, piece: usize, room: usize, ending: Ending) -> Result<bool, Memory> {
+    let alloc = rt.alloc();
+    let mut src = MemorySource::new(TWO, piece);
+    let mut out = FaultySink::new(alloc, room, plan_of(alloc, 0)?)?;
+    let ended = ran::<MemorySource, FaultySink, Brand>(alloc, &mut src, &mut out, Blank::new(1));
+    Ok(ended == ending && out.bytes().len() == room && SAID.starts_with(out.bytes()))
+}
+
+#[test]
+fn what_a_full_sink_took_is_a_front(rt: HostRuntime) -> Result<(), Fail> {
+    for piece in [44, 99] {
+        for room in 0..SAID.len() {
+            assert!(rt; fills(&rt, piece, room, Ending::Write)?);
+        }
+        assert!(rt; fills(&rt, piece, SAID.len(), Ending::Done)?);
+    }
+    Ok(())
+}
+
 fn said_in_pieces(rt: &HostRuntime, piece: usize) -> Result<bool, Memory> {
     let alloc = rt.alloc();
     let mut src = MemorySource::new(TWO, piece);
@@ -228,6 +305,112 @@ fn said_in_pieces(rt: &HostRuntime, piece: usize) -> Result<bool, Memory> {
 fn cuts_change_nothing(rt: HostRuntime) -> Result<(), Fail> {
     for piece in 1..TWO.len() {
         assert!(rt; said_in_pieces(&rt, piece)?);
+    }
+    Ok(())
+}
+
+/// A sink that counts its writes and the bytes that it takes, and never fails.
+#[derive(Clone, Copy)]
+struct Counter {
+    writes: u64,
+    bytes: u64,
+}
+
+impl Sink for Counter {
+    ghost taken = { λ _. None };
+
+    ghost faults = { λ _. 0 };
+
+    fn write(&mut self, bytes: &[u8]) -> Result<(), Failed> {
+        self.writes = self.writes.saturating_add(1);
+        self.bytes = self.bytes.saturating_add(bytes.len() as u64);
+        Ok(())
+    }
+}
+
+/// Answers each message with so many bytes.
+#[derive(Clone, Copy)]
+struct Lengthy(usize);
+
+impl<K: Keeper, C: Clock, L: Ledger> Service<Count, K, C, L> for Lengthy {
+    ghost State = { ℕ };
+
+    ghost see = { λ now. now.0.0 };
+
+    ghost answers = { λ service old m answer new. (new ≡ old) × ((answer ≡ (200, replicate service.0 120)) ⊎ (answer ≡ (507, memory_text))) };
+
+    ghost ready = { λ _ _. ⊤ };
+
+    fn reply(
+        &self,
+        alloc: Global,
+        _count: &mut Count,
+        _keeper: &mut K,
+        _clock: &mut C,
+        _steps: &mut Steps<L>,
+        _message: &Message<'_>,
+    ) -> Result<Reply, Memory> {
+        Ok(Reply {
+            status: 200,
+            body: vec![in alloc; b'x'; self.0]?,
+        })
+    }
+}
+
+const GET: &[u8] = b"GET /a HTTP/1.1\r\n\r\n";
+
+// What is written for so many messages in pieces of a size, each of which is answered with so many bytes.
+fn counted<L: Ledger>(
+    alloc: Global,
+    service: Lengthy,
+    messages: usize,
+    piece: usize,
+    blank: Blank,
+) -> Result<Counter, Memory>
+    requires name { blank.name ≡ L.name }
+    requires parts { blank.parts ≡ L.parts }
+    requires some { 0 < blank.parts }
+{
+    let mut stream = Vec::new(alloc);
+    for _ in 0..messages {
+        stream.extend_from_slice(GET)?;
+    }
+    let mut steps: Steps<L> = Steps::open(blank);
+    let mut clock = MemoryClock::new(Moment::new(7).unwrap(), &[]);
+    let mut src = MemorySource::new(stream.as_slice(), piece);
+    let mut out = Counter {
+        writes: 0,
+        bytes: 0,
+    };
+    let mut count = Count(0);
+    session(
+        alloc, &service, &mut count, &mut Quiet, &mut src, &mut out, &mut clock, &mut steps,
+    );
+    Ok(out)
+}
+
+// The bytes of the answers, the lengths of the messages and pieces, and how many writes and bytes come of them. An answer
+// has 69 bytes, the digits of its length, and its body.
+#[test]
+fn writes_are_as_few_as_may_be(rt: HostRuntime) -> Result<(), Fail> {
+    for (body, messages, piece, writes, bytes) in [
+        (9, 800, 99_999, 1, 63_200),
+        (9, 800, GET.len(), 800, 63_200),
+        (9, 800, 10 * GET.len(), 80, 63_200),
+        (9, 0, 99_999, 0, 0),
+        // The first 830 answers are more than 65,536 bytes.
+        (9, 830, 99_999, 1, 65_570),
+        (9, 831, 99_999, 2, 65_649),
+        // The first two are.
+        (33_000, 2, 99_999, 1, 66_148),
+        (33_000, 3, 99_999, 2, 99_222),
+        // Each is.
+        (70_000, 3, 99_999, 3, 210_222),
+        (500_000, 2, 99_999, 2, 1_000_150),
+    ] {
+        let counter = counted::<Brand>(rt.alloc(), Lengthy(body), messages, piece, Blank::new(1))?;
+        assert_eq!(rt; counter.writes, writes);
+        assert_eq!(rt; counter.bytes, bytes);
     }
     Ok(())
 }

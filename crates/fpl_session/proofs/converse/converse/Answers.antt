@@ -10,6 +10,7 @@ loop-taken-init g c = record {
   ready = c.requires.ready;
   heard = ([], Consumes-nil (g.S.Source.left c.args.src.now), refl, served_none (Speaks (g.R.Service.answers c.args.service.now)) [] c.args.decoder.now.pending (g.R.Service.see (c.args.host.now, c.args.keeper.now, c.args.clock.now, c.args.steps.now)) (g.W.Sink.taken c.args.out.now) (ap strip (sym c.requires.fresh)));
   waiting = c.requires.waiting;
+  empty = c.requires.empty;
   most = omega arith;
   read_later = omega arith;
   write_later = omega arith;
@@ -24,6 +25,7 @@ loop-taken-preserved g c =
       heard = talk_more (Speaks (g.R.Service.answers c.args.service.now)) got c.loop-taken.decoder c.exchange.new.decoder (g.S.Source.left c.args.src.now) (g.S.Source.left c.loop-taken.src) (g.S.Source.left c.exchange.new.src) c.loop-taken.taken c.in-Ok.count (g.R.Service.see (c.args.host.now, c.args.keeper.now, c.args.clock.now, c.args.steps.now)) (g.R.Service.see (c.loop-taken.host, c.loop-taken.keeper, c.loop-taken.clock, c.loop-taken.steps)) (g.R.Service.see (c.exchange.new.host, c.exchange.new.keeper, c.exchange.new.clock, c.exchange.new.steps)) (g.W.Sink.taken c.args.out.now) (g.W.Sink.taken c.loop-taken.out) (g.W.Sink.taken c.exchange.new.out)
           first long served heeds;
       waiting = heeds.waiting;
+      empty = c.in-Ok.ensures.empty;
       most = omega (arith, fits, c.loop-taken-test.true);
       read_later = omega (arith, c.loop-taken.invariant.read_later, c.in-Ok.ensures.read_later);
       write_later = omega (arith, c.loop-taken.invariant.write_later, c.in-Ok.ensures.write_later);

@@ -1,4 +1,4 @@
-use Rattle.std.proofs.Common.{◌≡◌, ◌≤◌, ◌-◌, ◌^◌, length, List, ℕ}
+use Rattle.std.proofs.Common.{◌≡◌, [], ◌≤◌, ◌-◌, ◌^◌, length, List, ℕ}
 use Rattle.std.specs.Io.KnownBytes.{Consumes}
 use Rattle.fpl_http.specs.Held.{IsWaiting}
 use Rattle.fpl_session.specs.Replies.{Speaks}
@@ -11,6 +11,7 @@ invariant-loop-taken g l = record {
   heard : (got : List ℕ) × Consumes (g.S.Source.left l.fn.src) (g.S.Source.left l.src) got × (length got ≡ l.taken)
       × Served (Speaks (g.R.Service.answers l.service)) got l.decoder.pending (g.R.Service.see (l.fn.host, l.fn.keeper, l.fn.clock, l.fn.steps)) (g.R.Service.see (l.host, l.keeper, l.clock, l.steps)) (g.W.Sink.taken l.fn.out) (g.W.Sink.taken l.out);
   waiting : IsWaiting l.decoder;
+  empty : l.outbox ≡ [];
   most : l.taken ≤ 2 ^ 32;
   read_later : g.S.Source.faults l.fn.src ≤ g.S.Source.faults l.src;
   write_later : g.W.Sink.faults l.fn.out ≤ g.W.Sink.faults l.out;

@@ -1,27 +1,36 @@
 use Rattle.std.proofs.Common.{arith, refl}
+use Rattle.fpl_session.specs.declared.ending.Ending.TheVariants as Ends
 use Rattle.fpl_session.specs.Replies.{Speaks}
-use Rattle.fpl_session.proofs.ServedLemmas.{served_none, served_then, stops_after}
+use Rattle.fpl_session.proofs.ServedLemmas.{served_none, served_then, stopped_after}
 use Rattle.fpl_session.proofs.piece.answer_all.Goals as goal
 
-pub loop-ending-init : goal.loop-ending-init
-loop-ending-init g c = record {
-  ready = c.requires;
+pub loop-status-init : goal.loop-status-init
+loop-status-init g c = record {
+  ready = c.requires.ready;
   served = served_none (Speaks (g.R.Service.answers c.args.service.now)) c.args.decoder.now.pending c.args.decoder.now.pending (g.R.Service.see (c.args.host.now, c.args.keeper.now, c.args.clock.now, c.args.steps.now)) (g.W.Sink.taken c.args.out.now) refl;
+  empty = c.requires.empty;
   later = omega arith;
 }
 
-pub loop-ending-preserved : goal.loop-ending-preserved
-loop-ending-preserved g c = record {
-  ready = c.in-Answered.ensures.ready;
-  served = served_then (Speaks (g.R.Service.answers c.args.service.now)) _ c.loop-ending.decoder.pending c.take_turn.new.decoder.pending _ (g.R.Service.see (c.loop-ending.host, c.loop-ending.keeper, c.loop-ending.clock, c.loop-ending.steps)) (g.R.Service.see (c.take_turn.new.host, c.take_turn.new.keeper, c.take_turn.new.clock, c.take_turn.new.steps)) _ (g.W.Sink.taken c.loop-ending.out) (g.W.Sink.taken c.take_turn.new.out) c.loop-ending.invariant.served c.in-Answered.ensures.turned.0;
-  later = omega (arith, c.loop-ending.invariant.later, c.in-Answered.ensures.later);
+pub loop-status-preserved : goal.loop-status-preserved
+loop-status-preserved g c = record {
+  ready = c.in-Ok-Answered.ensures.ready;
+  served = served_then (Speaks (g.R.Service.answers c.args.service.now)) _ c.loop-status.decoder.pending c.take_batch.new.decoder.pending _ (g.R.Service.see (c.loop-status.host, c.loop-status.keeper, c.loop-status.clock, c.loop-status.steps)) (g.R.Service.see (c.take_batch.new.host, c.take_batch.new.keeper, c.take_batch.new.clock, c.take_batch.new.steps)) _ (g.W.Sink.taken c.loop-status.out) (g.W.Sink.taken c.take_batch.new.out) c.loop-status.invariant.served (rw c.in-Ok-Answered.field-0-is at c.in-Ok-Answered.ensures.batched).0;
+  empty = c.in-Ok-Answered.ensures.empty;
+  later = omega (arith, c.loop-status.invariant.later, c.in-Ok-Answered.ensures.later);
 }
 
-pub returns-in-Waits-clause-served : goal.returns-in-Waits-clause-served
-returns-in-Waits-clause-served g c = (
-  served_then (Speaks (g.R.Service.answers c.args.service.now)) _ c.loop-ending.decoder.pending c.take_turn.new.decoder.pending _ (g.R.Service.see (c.loop-ending.host, c.loop-ending.keeper, c.loop-ending.clock, c.loop-ending.steps)) (g.R.Service.see (c.take_turn.new.host, c.take_turn.new.keeper, c.take_turn.new.clock, c.take_turn.new.steps)) _ (g.W.Sink.taken c.loop-ending.out) (g.W.Sink.taken c.take_turn.new.out) c.loop-ending.invariant.served c.in-Waits.ensures.turned.0,
-  c.in-Waits.ensures.turned.1,
+pub returns-in-Ok-Waits-clause-served : goal.returns-in-Ok-Waits-clause-served
+returns-in-Ok-Waits-clause-served g c = (
+  served_then (Speaks (g.R.Service.answers c.args.service.now)) _ c.loop-status.decoder.pending c.take_batch.new.decoder.pending _ (g.R.Service.see (c.loop-status.host, c.loop-status.keeper, c.loop-status.clock, c.loop-status.steps)) (g.R.Service.see (c.take_batch.new.host, c.take_batch.new.keeper, c.take_batch.new.clock, c.take_batch.new.steps)) _ (g.W.Sink.taken c.loop-status.out) (g.W.Sink.taken c.take_batch.new.out) c.loop-status.invariant.served (rw c.in-Ok-Waits.field-0-is at c.in-Ok-Waits.ensures.batched).0,
+  (rw c.in-Ok-Waits.field-0-is at c.in-Ok-Waits.ensures.batched).1,
 )
 
-pub returns-in-Ended-clause-served : goal.returns-in-Ended-clause-served
-returns-in-Ended-clause-served g c = stops_after (Speaks (g.R.Service.answers c.args.service.now)) _ c.loop-ending.decoder.pending _ (g.R.Service.see (c.loop-ending.host, c.loop-ending.keeper, c.loop-ending.clock, c.loop-ending.steps)) (g.R.Service.see (c.take_turn.new.host, c.take_turn.new.keeper, c.take_turn.new.clock, c.take_turn.new.steps)) _ (g.W.Sink.taken c.loop-ending.out) (g.W.Sink.taken c.take_turn.new.out) c.in-Ended.ending c.loop-ending.invariant.served c.in-Ended.ensures.turned
+pub returns-in-Ok-Closed-clause-served : goal.returns-in-Ok-Closed-clause-served
+returns-in-Ok-Closed-clause-served g c = stopped_after (Speaks (g.R.Service.answers c.args.service.now)) _ c.loop-status.decoder.pending _ (g.R.Service.see (c.loop-status.host, c.loop-status.keeper, c.loop-status.clock, c.loop-status.steps)) (g.R.Service.see (c.take_batch.new.host, c.take_batch.new.keeper, c.take_batch.new.clock, c.take_batch.new.steps)) _ (g.W.Sink.taken c.loop-status.out) (g.W.Sink.taken c.take_batch.new.out) Ends.Closed c.loop-status.invariant.served (rw c.in-Ok-Closed.field-0-is at c.in-Ok-Closed.ensures.batched)
+
+pub returns-in-Ok-Refused-clause-served : goal.returns-in-Ok-Refused-clause-served
+returns-in-Ok-Refused-clause-served g c = stopped_after (Speaks (g.R.Service.answers c.args.service.now)) _ c.loop-status.decoder.pending _ (g.R.Service.see (c.loop-status.host, c.loop-status.keeper, c.loop-status.clock, c.loop-status.steps)) (g.R.Service.see (c.take_batch.new.host, c.take_batch.new.keeper, c.take_batch.new.clock, c.take_batch.new.steps)) _ (g.W.Sink.taken c.loop-status.out) (g.W.Sink.taken c.take_batch.new.out) (Ends.Refused c.in-Ok-Refused.status) c.loop-status.invariant.served (rw c.in-Ok-Refused.field-0-is at c.in-Ok-Refused.ensures.batched)
+
+pub returns-in-Err-clause-served : goal.returns-in-Err-clause-served
+returns-in-Err-clause-served g c = stopped_after (Speaks (g.R.Service.answers c.args.service.now)) _ c.loop-status.decoder.pending _ (g.R.Service.see (c.loop-status.host, c.loop-status.keeper, c.loop-status.clock, c.loop-status.steps)) (g.R.Service.see (c.take_batch.new.host, c.take_batch.new.keeper, c.take_batch.new.clock, c.take_batch.new.steps)) _ (g.W.Sink.taken c.loop-status.out) (g.W.Sink.taken c.take_batch.new.out) Ends.Write c.loop-status.invariant.served c.in-Err.ensures.batched

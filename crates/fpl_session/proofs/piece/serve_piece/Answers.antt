@@ -10,6 +10,7 @@ loop-rest-init g c = record {
   ready = c.requires.ready;
   served = served_none (Speaks (g.R.Service.answers c.args.service.now)) _ _ (g.R.Service.see (c.args.host.now, c.args.keeper.now, c.args.clock.now, c.args.steps.now)) (g.W.Sink.taken c.args.out.now) refl;
   waiting = c.requires.waiting;
+  empty = c.requires.empty;
   later = omega arith;
 }
 
@@ -24,5 +25,6 @@ loop-rest-preserved g c = record {
   served = fed_more (Speaks (g.R.Service.answers c.args.service.now)) _ c.loop-rest.decoder.pending c.loop-rest.rest.now c.feed-count.new.self.pending c.answer_all.new.decoder.pending c.feed-count.result (length c.loop-rest.rest.now - c.feed-count.result) _ (g.R.Service.see (c.loop-rest.host, c.loop-rest.keeper, c.loop-rest.clock, c.loop-rest.steps)) (g.R.Service.see (c.answer_all.new.host, c.answer_all.new.keeper, c.answer_all.new.clock, c.answer_all.new.steps)) _ (g.W.Sink.taken c.loop-rest.out) (g.W.Sink.taken c.answer_all.new.out)
       (omega (arith, length-drop c.feed-count.result c.loop-rest.rest.now)) c.loop-rest.invariant.served c.feed-count.ensures.pending c.in-None.ensures.served.0;
   waiting = c.in-None.ensures.served.1;
+  empty = c.in-None.ensures.empty;
   later = omega (arith, c.loop-rest.invariant.later, c.in-None.ensures.later);
 }

@@ -1,4 +1,4 @@
-use Rattle.std.proofs.Common.{◌≤◌, ◌++◌, length}
+use Rattle.std.proofs.Common.{◌≡◌, ◌≤◌, ◌++◌, [], length}
 use Rattle.fpl_http.specs.Held.{IsWaiting}
 use Rattle.fpl_session.specs.Replies.{Speaks}
 use Rattle.fpl_session.specs.Runs.{Served}
@@ -9,6 +9,7 @@ invariant-loop-rest g l = record {
   ready : g.R.Service.ready l.service (l.host, l.keeper, l.clock, l.steps);
   served : Served (Speaks (g.R.Service.answers l.service)) (l.fn.decoder.pending ++ l.fn.piece) (l.decoder.pending ++ l.rest) (g.R.Service.see (l.fn.host, l.fn.keeper, l.fn.clock, l.fn.steps)) (g.R.Service.see (l.host, l.keeper, l.clock, l.steps)) (g.W.Sink.taken l.fn.out) (g.W.Sink.taken l.out);
   waiting : IsWaiting l.decoder;
+  empty : l.outbox ≡ [];
   later : g.W.Sink.faults l.fn.out ≤ g.W.Sink.faults l.out;
 }
 
