@@ -1,4 +1,4 @@
-use crate::{bonus, bps, line_points};
+use crate::{BonusLevels, bonus, bps, line_points};
 use fpl_base::{PlayerId, Position, Profile};
 use match_facts::line_ok;
 use rule_book::Line;
@@ -76,4 +76,37 @@ fn bonus_is_shared(rt: HostRuntime) {
             assert_eq!(rt; bonus(&table, i), wanted[i]);
         }
     }
+}
+
+// Four who took part, with the bonus of each; the levels of the first of them are those of a match of so many.
+#[test]
+fn levels_tell_the_bonus(rt: HostRuntime) {
+    let one = PlayerId::new(1).expect(&rt, "1 is a player");
+    for (numbers, wanted) in [
+        ([30, 30, 30, 20], [3, 3, 3, 0]),
+        ([30, 20, 20, 10], [3, 2, 2, 0]),
+        ([30, 20, 10, 10], [3, 2, 1, 1]),
+        ([10, 20, 30, 40], [0, 1, 2, 3]),
+        ([20, 40, 20, 30], [1, 3, 1, 2]),
+        ([-30, -20, -30, -30], [2, 3, 2, 2]),
+        ([5, 5, 5, 5], [3, 3, 3, 3]),
+    ] {
+        let table = [
+            (one, numbers[0]),
+            (one, numbers[1]),
+            (one, numbers[2]),
+            (one, numbers[3]),
+        ];
+        let mut levels = BonusLevels::new();
+        for count in 0..4usize {
+            levels.add(numbers[count]);
+            for i in 0..=count {
+                assert_eq!(rt; levels.bonus(numbers[i]), bonus(&table[..=count], i));
+            }
+        }
+        for i in 0..4usize {
+            assert_eq!(rt; levels.bonus(numbers[i]), wanted[i]);
+        }
+    }
+    assert_eq!(rt; BonusLevels::new().bonus(7), 3);
 }

@@ -1,4 +1,5 @@
 ghost use Rattle.std.specs.Prelude.{◌≡◌, ◌≤◌, ◌+◌, [], length, OnOk, OnErr, IsTrue, ◌↔◌};
+ghost use Rattle.std.specs.List.{zip};
 ghost use Rattle.std.specs.List.Sorted.{IsStrictlyIncreasing};
 ghost use Rattle.rule_book.specs.MatchFacts.{line_of, lines_of, with_line, players_in, is_finished, has_facts};
 ghost use Rattle.rule_book.specs.declared.line.Line.{Line};
@@ -7,6 +8,7 @@ ghost use Rattle.rule_book.specs.Refusals.{IsJudged, IsJudgedOrOut};
 
 use crate::judge::{judge_lock, judge_sheet};
 use crate::line_ok;
+use crate::reads::count_reads;
 use crate::sheet::Sheet;
 use crate::sheets::{Sheets, drop_line_in, put_line_in, put_sheet_in, set_finished_in};
 use fpl_base::{FixtureId, PlayerId, Refused, Rule, Steps};
@@ -145,6 +147,29 @@ impl MatchFacts {
         match self.sheets.get(&fixture) {
             Some(sheet) => sheet.line(player),
             None => None,
+        }
+    }
+
+    /// The players who have a line in a fixture, ascending, and beside them the line of each. Each line is one counted
+    /// read.
+    pub fn rows<L: Ledger>(
+        &self,
+        fixture: FixtureId,
+        steps: &mut Steps<L>,
+    ) -> (&[PlayerId], &[Line])
+        ensures rows { zip result.0.now result.1.now ≡ lines_of self.now fixture }
+        ensures paired { length result.1.now ≡ length result.0.now }
+        ensures ascending { IsStrictlyIncreasing result.0.now }
+        ensures few { length result.0.now ≤ 64 }
+        ensures counted { steps.new ≡ steps.old + length result.0.now }
+    {
+        match self.sheets.get(&fixture) {
+            Some(sheet) => {
+                let columns = sheet.columns();
+                count_reads(columns.0.len(), steps);
+                columns
+            }
+            None => (&[], &[]),
         }
     }
 

@@ -6,6 +6,7 @@ mod facts;
 mod judge;
 mod laws;
 mod ranges;
+mod reads;
 mod sheet;
 mod sheets;
 #[cfg(test)]

@@ -1,5 +1,6 @@
 // The facts of one fixture.
 ghost use Rattle.std.specs.Prelude.{◌≡◌, ◌≤◌, ◌<◌, [], length, IfOk, OnOk, OnErr, IsTrue, ◌↔◌};
+ghost use Rattle.std.specs.List.{zip};
 ghost use Rattle.std.specs.List.Sorted.{IsStrictlyIncreasing};
 ghost use Rattle.rule_book.specs.declared.line.Line.{Line};
 ghost use Rattle.rule_book.specs.MatchFacts.{line_in, players_in, with_line, without_line, by_player, tells_facts};
@@ -62,6 +63,16 @@ impl Sheet {
         ensures few { length result.now ≤ 64 }
     {
         self.players.as_slice()
+    }
+
+    /// The players who have a line, ascending, and beside them the line of each.
+    pub fn columns(&self) -> (&[PlayerId], &[Line])
+        ensures rows { zip result.0.now result.1.now ≡ self.now.lines }
+        ensures paired { length result.1.now ≡ length result.0.now }
+        ensures ascending { IsStrictlyIncreasing result.0.now }
+        ensures few { length result.0.now ≤ 64 }
+    {
+        (self.players.as_slice(), self.lines.as_slice())
     }
 
     pub fn line(&self, player: PlayerId) -> Option<Line>

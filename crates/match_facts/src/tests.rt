@@ -57,6 +57,34 @@ fn minutes(facts: &MatchFacts, fixture: FixtureId, player: PlayerId) -> Option<u
     Some(line.figures[0])
 }
 
+// Whether just these players stand in the rows of a fixture, in this order, with so many minutes each.
+fn rows_are(facts: &MatchFacts, fixture: FixtureId, expected: &[(PlayerId, u16)]) -> bool {
+    rows_read::<Brand>(facts, fixture, expected, Blank::new(1))
+}
+
+fn rows_read<L: Ledger>(
+    facts: &MatchFacts,
+    fixture: FixtureId,
+    expected: &[(PlayerId, u16)],
+    blank: Blank,
+) -> bool
+    requires name { blank.name ≡ L.name }
+    requires parts { blank.parts ≡ L.parts }
+    requires some { 0 < blank.parts }
+{
+    let mut steps: Steps<L> = Steps::open(blank);
+    let (players, lines) = facts.rows(fixture, &mut steps);
+    if players.len() != expected.len() {
+        return false;
+    }
+    for (place, row) in expected.iter().enumerate() {
+        if players[place] != row.0 || lines[place].figures[0] != row.1 {
+            return false;
+        }
+    }
+    true
+}
+
 // Whether just these players have a line in a fixture, in this order, with so many minutes each.
 fn stands(facts: &MatchFacts, fixture: FixtureId, expected: &[(PlayerId, u16)]) -> bool {
     let players = facts.players_of(fixture);
@@ -116,6 +144,7 @@ fn a_sheet_replaces_all(rt: HostRuntime) -> Result<(), Fail> {
         refused(not_locked)
     );
     assert!(rt; stands(&facts, first, &[(p4, 45), (p9, 90)]) && facts.finished(first));
+    assert!(rt; rows_are(&facts, first, &[(p4, 45), (p9, 90)]));
     facts.put_sheet(first, true, &[(p5, line(&[(1, 10)]))], false)?;
     assert!(rt; stands(&facts, first, &[(p5, 10)]) && !facts.finished(first));
     assert!(rt; stands(&facts, second, &[(p5, 5)]));

@@ -1,5 +1,5 @@
 // The players of a season, by ascending id in one table.
-ghost use Rattle.std.specs.Prelude.{◌≡◌, ◌<◌, ◌↔◌, None, IsTrue, [], length, slice_get, option_copied, OnOk, OnErr, IfOk, IfErr};
+ghost use Rattle.std.specs.Prelude.{◌≡◌, ◌<◌, ◌↔◌, None, IsTrue, [], length, slice_get, option_copied, OnOk, OnErr, IfOk, IfErr, IfSome};
 ghost use Rattle.rule_book.specs.Players.{ArePlayers, IsPrice, player_of, with_player, with_price, with_club, with_gone, price_refusal, player_refusal};
 ghost use Rattle.rule_book.specs.Refusals.{IsJudged, IsJudgedOrOut};
 ghost use Rattle.player_prices.specs.Places.{StandsAt, IsPlaceFor};
@@ -137,7 +137,25 @@ impl Players {
         ensures found { IfOk result (StandsAt self.now player) }
         ensures absent { IfErr result (IsPlaceFor self.now player) }
     {
+        if let Some(place) = self.counted_place(player) {
+            return Ok(place);
+        }
         self.rows.binary_search_by_key(&player, |row| row.id)
+    }
+
+    // Where the player stands if the ids count up by one from the first to his; `None` where nobody or another player
+    // stands there.
+    fn counted_place(&self, player: PlayerId) -> Option<usize>
+        ensures { IfSome result (StandsAt self.now player) }
+    {
+        let first = self.rows.first()?;
+        let place = player.get().checked_sub(first.id.get())? as usize;
+        let there = self.rows.get(place)?;
+        if there.id == player {
+            Some(place)
+        } else {
+            None
+        }
     }
 }
 

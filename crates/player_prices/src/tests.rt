@@ -49,6 +49,23 @@ fn players_stand_by_id(rt: HostRuntime) -> Result<(), Fail> {
 }
 
 #[test]
+fn players_are_found_among_gaps(rt: HostRuntime) -> Result<(), Fail> {
+    let mut players = Players::new(rt.alloc());
+    assert!(rt; players.get(id(1)?).is_none());
+    for number in [5, 6, 8, 20, 21] {
+        assert_eq!(rt; players.add(player(rt.alloc(), number, 55)?), Ok(()));
+    }
+    for number in [5, 6, 8, 20, 21] {
+        let there = players.get(id(number)?).ok_or("a player")?;
+        assert_eq!(rt; there.id, id(number)?);
+    }
+    for number in [1, 4, 7, 9, 10, 19, 22, 999999] {
+        assert!(rt; players.get(id(number)?).is_none());
+    }
+    Ok(())
+}
+
+#[test]
 fn refusals_come_in_order(rt: HostRuntime) -> Result<(), Fail> {
     let mut players = Players::new(rt.alloc());
     let too_dear = Err(Refused::Rule(Rule::PriceRange));

@@ -1,0 +1,38 @@
+-- What one more number does to the bonus by three levels.
+use Rattle.std.proofs.Common.{◌≡◌, ◌≤◌, ◌+◌, ◌-◌, ℕ, ℤ, Bool, true, false, cond, List, ◌++◌, Option, Some, None, option_to_list, int_lt, zero-add, arith}
+use Rattle.std.proofs.lemmas.List.Sums.{sum_by-append}
+use Rattle.line_scoring.specs.Levels.{numbers_at, greater, bonus_by, above, IsBelow}
+
+at_most_one : (b : Bool) → cond b 1 0 ≤ 1
+at_most_one true = omega arith
+at_most_one false = omega arith
+
+-- what stands at a level
+abbrev at_level : Option ℤ → ℤ → ℕ
+at_level level own = greater (option_to_list level) own
+
+alone : (other own : ℤ) → at_level (Some other) own ≡ above own other
+alone other own = zero-add (above own other)
+
+few : (level : Option ℤ) (own : ℤ) → at_level level own ≤ 1
+few None own = omega arith
+few (Some other) own = omega (arith, alone other own, at_most_one (int_lt own other))
+
+greater_behind : (level : Option ℤ) (numbers : List ℤ) (own : ℤ) → greater (option_to_list level ++ numbers) own ≡ at_level level own + greater numbers own
+greater_behind level numbers own = sum_by-append (above own) (option_to_list level) numbers
+
+greater_at : (a b c : Option ℤ) (own : ℤ) → greater (numbers_at a b c) own ≡ at_level a own + (at_level b own + at_level c own)
+greater_at a b c own = omega (arith, greater_behind a (option_to_list b ++ option_to_list c) own, greater_behind b (option_to_list c) own)
+
+module _ (a b c : Option ℤ) (n own : ℤ) (second : IsBelow b a) (third : IsBelow c b) where
+  pub new_first : IsBelow a (Some n) → bonus_by (numbers_at (Some n) a b) own ≡ bonus_by (numbers_at a b c) own - above own n
+  new_first below = omega (arith, greater_at (Some n) a b own, greater_at a b c own, alone n own, second own, third own, below own, few (Some n) own)
+
+  pub new_second : IsBelow (Some n) a → IsBelow b (Some n) → bonus_by (numbers_at a (Some n) b) own ≡ bonus_by (numbers_at a b c) own - above own n
+  new_second below over = omega (arith, greater_at a (Some n) b own, greater_at a b c own, alone n own, second own, third own, below own, over own, few a own)
+
+  pub new_third : IsBelow (Some n) b → IsBelow c (Some n) → bonus_by (numbers_at a b (Some n)) own ≡ bonus_by (numbers_at a b c) own - above own n
+  new_third below over = omega (arith, greater_at a b (Some n) own, greater_at a b c own, alone n own, second own, third own, below own, over own, few a own)
+
+  pub not_new : IsBelow (Some n) c → bonus_by (numbers_at a b c) own ≡ bonus_by (numbers_at a b c) own - above own n
+  not_new below = omega (arith, greater_at a b c own, alone n own, second own, third own, below own, few a own)
