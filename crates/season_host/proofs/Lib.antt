@@ -10,3 +10,4 @@ mod OnceFacts
 mod RunFacts
 mod Standing
 mod Sums
+mod WorthFacts

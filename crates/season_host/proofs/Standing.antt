@@ -1,58 +1,103 @@
--- The standing of a match, one more row at a time.
-use Rattle.std.proofs.Common.{◌≡◌, ◌<◌, ◌≤◌, ◌+◌, ◌∷◌, [], ◌++◌, ℕ, ℤ, suc, List, Bool, true, false, cond, length, get_or, filter, take, drop, Some, arith, length-append, refl, sym, ap, ◌∙◌}
-use Rattle.std.specs.List.{slice_get}
-use Rattle.std.proofs.lemmas.List.{take_more, take-append-drop}
-use Rattle.std.proofs.lemmas.List.Elements.{filter-append}
-use Rattle.std.proofs.lemmas.List.Filters.{length-filter_more}
-use Rattle.std.proofs.Math.Seq.{drop-cons, get_or-append_seam}
-use Rattle.std.proofs.lemmas.Option.{slice_get-get_or, slice_get-map}
-use Rattle.std.specs.Option.{option_map}
-use mir.Val.{bool_byte}
+-- The levels of a match, one more line at a time.
+use Rattle.std.proofs.Common.{◌≡◌, ◌<◌, ◌+◌, ◌-◌, ◌&&◌, ◌∷◌, [], ◌++◌, ℕ, ℤ, List, Bool, true, false, cond, if◌then◌else◌, zip, length, get_or, map, filter, take, zero-add, count_by, int_lt, arith, refl, sym, ap, ◌∙◌}
+use Rattle.std.proofs.lemmas.List.Sums.{sum_by-append}
+use Rattle.std.proofs.lemmas.Option.{slice_get_read}
+use Rattle.line_scoring.specs.Levels.{above, bonus_by}
 use Rattle.rule_book.specs.declared.line.Appearance.{Appearance}
-use Rattle.rule_book.specs.Bonus.{takes_part, standing}
+use Rattle.rule_book.specs.declared.line.Line.{Line}
+use Rattle.rule_book.specs.declared.player.Player.{Player}
+use Rattle.rule_book.specs.Bonus.{bonus_in, number_above, standing, takes_part}
 use Rattle.rule_book.specs.BonusPoints.{bps_of}
+use Rattle.rule_book.specs.MatchFacts.{Lines, is_finished, lines_of}
+use Rattle.rule_book.specs.PlayerFigures.{appearance, bonus_at, position_in}
+use Rattle.record_codec.specs.Book.{Facts}
+use Rattle.season_host.specs.Views.{line_shown}
+use Rattle.season_host.specs.Worth.{AreLevels, bare_line, with_bonus}
+use Rattle.season_host.specs.declared.shown.ShownLine.{ShownLine}
+use Rattle.season_host.proofs.Lists.{made_same, made_twice, take_next, zip_made}
 
--- whether a row took part, and what stands of it then
-abbrev pub took_part : Appearance → Bool
-took_part row = takes_part row.line
+-- he took part and has a greater number
+abbrev stands_above : List Player → ℤ → ℕ × Line → Bool
+stands_above people own row = takes_part row.1 && int_lt own (bps_of (position_in people row.0) row.1)
 
-abbrev pub entry_of : Appearance → ℕ × ℤ
-entry_of row = (row.player, bps_of row.position row.line)
+count_by-cons : {X : Type 0} (p : X → Bool) (x : X) (xs : List X) → count_by p (x ∷ xs) ≡ cond (p x) 1 0 + count_by p xs
+count_by-cons p x xs = sum_by-append (λ y. cond (p y) 1 0) (x ∷ []) xs ∙ ap (λ n. n + count_by p xs) (zero-add (cond (p x) 1 0))
 
--- one more element behind the first i
-pub take_one_more : {X : Type 0} (xs : List X) (i : ℕ) (x : X) → i < length xs → x ≡ get_or xs i x → take (i + 1) xs ≡ take i xs ++ x ∷ []
-take_one_more xs i x h e = take_more xs i x h ∙ ap (λ y. take i xs ++ y ∷ []) (sym e)
+count_by-last : {X : Type 0} (p : X → Bool) (xs : List X) (x : X) → count_by p (xs ++ x ∷ []) ≡ count_by p xs + cond (p x) 1 0
+count_by-last p xs x = sum_by-append (λ y. cond (p y) 1 0) xs (x ∷ []) ∙ ap (λ n. count_by p xs + n) (zero-add (cond (p x) 1 0))
 
-bool_byte-cond : (b : Bool) → bool_byte b ≡ cond b 1 0
-bool_byte-cond true = refl
-bool_byte-cond false = refl
+abbrev entry_of : Appearance → ℕ × ℤ
+entry_of a = (a.player, bps_of a.position a.line)
 
-pub bool_byte-le : (b : Bool) → bool_byte b ≤ 1
-bool_byte-le true = omega arith
-bool_byte-le false = omega arith
+kept_case : (took : Bool) (own : ℤ) (a : Appearance) (rest : List Appearance)
+    → number_above (map entry_of (cond took (a ∷ rest) rest)) own ≡ cond (took && int_lt own (bps_of a.position a.line)) 1 0 + number_above (map entry_of rest) own
+kept_case true own a rest = count_by-cons (λ r. int_lt own r.1) (entry_of a) (map entry_of rest)
+kept_case false own a rest = omega arith
 
-pub place_more : (rows : List Appearance) (i place : ℕ) (row : Appearance) (b : Bool) → i < length rows → row ≡ get_or rows i row → b ≡ took_part row
-    → place ≡ length (filter took_part (take i rows)) → place + bool_byte b ≡ length (filter took_part (take (i + 1) rows))
-place_more rows i place row b h e is_b is_place =
-    ap (λ (n : ℕ). n + bool_byte b) is_place
-    ∙ ap (λ (n : ℕ). length (filter took_part (take i rows)) + n) (bool_byte-cond b ∙ ap (λ c. cond c 1 0) (is_b ∙ ap took_part e))
-    ∙ sym (length-filter_more took_part rows i row h)
-
-at_seam : {X : Type 0} (xs : List X) (x : X) (ys : List X) → slice_get (xs ++ x ∷ ys) (length xs) ≡ Some x
-at_seam xs x ys =
-    let within : length xs < length (xs ++ x ∷ ys) = simp length-append (omega arith) in
-    slice_get-get_or (xs ++ x ∷ ys) (length xs) x within ∙ ap Some (get_or-append_seam xs x ys x)
-
--- a row that took part stands behind those before it that did
-pub standing_at : (rows : List Appearance) (i : ℕ) (row : Appearance) → i < length rows → row ≡ get_or rows i row → took_part row ≡ true
-    → slice_get (standing rows) (length (filter took_part (take i rows))) ≡ Some (entry_of row)
+-- who stands above in the standing of some lines is counted among the lines
+counted : (people : List Player) (own : ℤ) (lines : Lines) → number_above (standing (map (appearance people) lines)) own ≡ count_by (stands_above people own) lines
 unfolding standing
-standing_at rows i row h e took =
-    let front : List Appearance = filter took_part (take i rows) in
-    let back : List Appearance = filter took_part (drop (suc i) rows) in
-    let cut : rows ≡ take i rows ++ row ∷ drop (suc i) rows =
-    sym (take-append-drop i rows) ∙ ap (λ t. take i rows ++ t) (drop-cons rows i row h ∙ ap (λ y. y ∷ drop (suc i) rows) (sym e)) in
-    let those : filter took_part rows ≡ front ++ row ∷ back =
-    ap (filter took_part) cut ∙ filter-append took_part (take i rows) (row ∷ drop (suc i) rows) ∙ ap (λ b. front ++ cond b (row ∷ back) back) took in
-    slice_get-map entry_of (filter took_part rows) (length front) ∙ ap (λ xs. option_map entry_of (slice_get xs (length front))) those
-    ∙ ap (option_map entry_of) (at_seam front row back)
+counted people own [] = refl
+counted people own (row ∷ lines) =
+    kept_case (takes_part row.1) own (appearance people row) (filter (λ a. takes_part a.line) (map (appearance people) lines))
+    ∙ ap (λ n. cond (stands_above people own row) 1 0 + n) (counted people own lines)
+    ∙ sym (count_by-cons (stands_above people own) row lines)
+
+-- nobody has played yet
+pub no_levels : (facts : Facts) → AreLevels facts [] []
+unfolding standing
+no_levels facts own = refl
+
+levels_case : (took higher : Bool) (old new before after : ℕ) → (took ≡ true → new ≡ old - cond higher 1 0) → (took ≡ false → new ≡ old)
+    → old ≡ 3 - before → after ≡ before + cond (took && higher) 1 0 → new ≡ 3 - after
+levels_case true higher old new before after some none is more = omega (arith, some refl, is, more)
+levels_case false higher old new before after some none is more = omega (arith, none refl, is, more)
+
+-- the levels with one line more
+pub levels_more : (facts : Facts) (lines : Lines) (i : ℕ) (row : ℕ × Line) (old new : List ℤ) (number : ℤ) → i < length lines → row ≡ get_or lines i row
+    → number ≡ bps_of (position_in facts.players row.0) row.1
+    → (takes_part row.1 ≡ true → (own : ℤ) → bonus_by new own ≡ bonus_by old own - above own number) → (takes_part row.1 ≡ false → new ≡ old)
+    → AreLevels facts old (take i lines) → AreLevels facts new (take (i + 1) lines)
+levels_more facts lines i row old new number within is is_number some none so_far own =
+    let test : ℕ × Line → Bool = stands_above facts.players own in
+    let before : bonus_by old own ≡ 3 - count_by test (take i lines) = so_far own ∙ ap (λ (n : ℕ). 3 - n) (counted facts.players own (take i lines)) in
+    let more : count_by test (take (i + 1) lines) ≡ count_by test (take i lines) + cond (test row) 1 0 =
+    ap (count_by test) (take_next lines i row (slice_get_read lines (length lines) i row refl within is)) ∙ count_by-last test (take i lines) row in
+    let took : takes_part row.1 ≡ true → bonus_by new own ≡ bonus_by old own - cond (int_lt own (bps_of (position_in facts.players row.0) row.1)) 1 0 =
+    λ yes. some yes own ∙ ap (λ n. bonus_by old own - above own n) is_number in
+    levels_case (takes_part row.1) (int_lt own (bps_of (position_in facts.players row.0) row.1)) (bonus_by old own) (bonus_by new own)
+    (count_by test (take i lines)) (count_by test (take (i + 1) lines)) took (λ no. ap (λ levels. bonus_by levels own) (none no)) before more
+    ∙ ap (λ (n : ℕ). 3 - n) (sym (counted facts.players own (take (i + 1) lines)))
+
+-- the bonus by the levels is that of the match
+pub bonus_found : (facts : Facts) (f : ℕ) (row : ℕ × Line) (levels : List ℤ) (number : ℤ) (won : ℕ) → is_finished facts.matches f ≡ true
+    → AreLevels facts levels (lines_of facts.matches f) → number ≡ bps_of (position_in facts.players row.0) row.1
+    → won ≡ (if takes_part row.1 then bonus_by levels number else 0) → won ≡ bonus_at facts.players facts.matches f row
+bonus_found facts f row levels number won finished are is_number is_won =
+    is_won
+    ∙ ap (λ n. if takes_part row.1 then bonus_by levels n else 0) is_number
+    ∙ ap (λ n. if takes_part row.1 then n else 0) (are (bps_of (position_in facts.players row.0) row.1))
+    ∙ ap (λ b. if b then bonus_in (map (appearance facts.players) (lines_of facts.matches f)) (appearance facts.players row) else 0) (sym finished)
+
+-- before a match is finished its lines have no bonus
+pub shown_unfinished : (facts : Facts) (f : ℕ) → is_finished facts.matches f ≡ false
+    → map (bare_line facts) (lines_of facts.matches f) ≡ map (line_shown facts f) (lines_of facts.matches f)
+shown_unfinished facts f open_still =
+    let with : Bool → ℕ × Line → ShownLine = λ b row. record (bare_line facts row) {
+      bonus = if b then bonus_in (map (appearance facts.players) (lines_of facts.matches f)) (appearance facts.players row) else 0;
+    } in
+    ap (λ b. map (with b) (lines_of facts.matches f)) (sym open_still)
+
+-- once it is, they have that by its levels
+pub shown_finished : (facts : Facts) (f : ℕ) (levels : List ℤ) (lines : List Line) → is_finished facts.matches f ≡ true
+    → AreLevels facts levels (lines_of facts.matches f) → lines ≡ map (λ row. row.1) (lines_of facts.matches f)
+    → map (with_bonus levels) (zip lines (map (bare_line facts) (lines_of facts.matches f))) ≡ map (line_shown facts f) (lines_of facts.matches f)
+shown_finished facts f levels lines finished are those =
+    let rows = lines_of facts.matches f in
+    let pair : ℕ × Line → Line × ShownLine = λ row. (row.1, bare_line facts row) in
+    ap (λ ls. map (with_bonus levels) (zip ls (map (bare_line facts) rows))) those
+    ∙ ap (map (with_bonus levels)) (zip_made (λ row. row.1) (bare_line facts) rows)
+    ∙ made_twice (with_bonus levels) pair rows
+    ∙ made_same (λ row. with_bonus levels (pair row)) (line_shown facts f) rows
+    (λ row. ap (λ b. record (bare_line facts row) { bonus = b })
+    (bonus_found facts f row levels (bare_line facts row).bps (with_bonus levels (pair row)).bonus finished are refl refl))

@@ -1,36 +1,35 @@
 -- What the players of a match are worth, and what a player did by his lines so far.
-use Rattle.std.specs.Prelude.{◌≤◌, ◌≤ℤ◌, ◌*◌, ◌+◌, ◌||◌, ℕ, ℤ, pos, neg_ℤ, ◌+ℤ◌, Bool, List, map, fold, sum_by, if◌then◌else◌}
+use Rattle.std.specs.Prelude.{◌≡◌, ◌≤◌, ◌≤ℤ◌, ◌*◌, ◌+◌, ◌||◌, ℕ, ℤ, pos, neg_ℤ, ◌+ℤ◌, List, map, fold, sum_by, if◌then◌else◌}
 use Rattle.std.specs.List.{list_any}
 use Rattle.std.specs.Option.{option_map_or}
-use Rattle.fpl_base.specs.declared.kinds.Profile.{Profile}
-use Rattle.rule_book.specs.declared.line.Appearance.{Appearance}
+use Rattle.line_scoring.specs.Levels.{bonus_by}
 use Rattle.rule_book.specs.declared.line.Line.{Line}
 use Rattle.rule_book.specs.declared.team_score.Figures.{Figures}
-use Rattle.rule_book.specs.Bonus.{bonus_in}
+use Rattle.rule_book.specs.Bonus.{bonus_of, standing, takes_part}
 use Rattle.rule_book.specs.BonusPoints.{bps_of}
 use Rattle.rule_book.specs.Figures.{figure}
-use Rattle.rule_book.specs.MatchFacts.{line_of, lines_of}
-use Rattle.rule_book.specs.PlayerFigures.{appearance, played_with, points_at, figures_in}
+use Rattle.rule_book.specs.MatchFacts.{Lines, line_of}
+use Rattle.rule_book.specs.PlayerFigures.{appearance, played_with, points_at, figures_in, position_in}
 use Rattle.rule_book.specs.Points.{points_of}
 use Rattle.record_codec.specs.Book.{Facts}
 use Rattle.season_host.specs.declared.shown.ShownLine.{ShownLine}
 
--- the players of a fixture with their lines
-abbrev pub match_of : Facts → ℕ → List Appearance
-match_of facts f = map (appearance facts.players) (lines_of facts.matches f)
-
--- a line with this bonus
-abbrev pub line_with : Profile → Appearance → ℕ → ShownLine
-line_with profile row bonus = record {
-  player = row.player;
-  points = points_of profile row.position row.line;
-  bps = bps_of row.position row.line;
-  bonus = bonus;
+-- a player's line in a fixture, and what it is worth without bonus
+abbrev pub bare_line : Facts → ℕ × Line → ShownLine
+bare_line facts row = record {
+  player = row.0;
+  points = points_of facts.profile (position_in facts.players row.0) row.1;
+  bps = bps_of (position_in facts.players row.0) row.1;
+  bonus = 0;
 }
 
--- a line of a match and what it is worth: there is bonus once the match is finished
-abbrev pub line_in_match : Profile → Bool → List Appearance → Appearance → ShownLine
-line_in_match profile finished rows row = line_with profile row (if finished then bonus_in rows row else 0)
+-- levels that give each number the bonus that it has in a match of these lines
+abbrev pub AreLevels : Facts → List ℤ → Lines → Type 0
+AreLevels facts levels lines = (own : ℤ) → bonus_by levels own ≡ bonus_of (standing (map (appearance facts.players) lines)) own
+
+-- a line with its bonus by the levels of the match
+abbrev pub with_bonus : List ℤ → Line × ShownLine → ShownLine
+with_bonus levels row = record row.1 { bonus = if takes_part row.0 then bonus_by levels row.1.bps else 0 }
 
 -- what a player did in a gameweek
 abbrev pub gameweek_figures : Facts → ℕ → ℕ → Figures

@@ -1,14 +1,17 @@
 // What a player did in a gameweek.
-ghost use Rattle.std.specs.Prelude.{◌≡◌, ◌≤◌, ◌<◌, ◌≤ℤ◌, ◌+◌, ℕ, pos, negsuc, Some, IfOk, find, ◌==◌};
+ghost use Rattle.std.specs.Prelude.{◌≡◌, ◌<◌, ◌≤◌, ◌≤ℤ◌, ◌+◌, ℕ, Some, length, pos, negsuc, slice_get, true};
 ghost use Rattle.rule_book.specs.Calendar.{standing};
-ghost use Rattle.rule_book.specs.Figures.{IsLine, figure};
-ghost use Rattle.rule_book.specs.MatchFacts.{line_of};
+ghost use Rattle.rule_book.specs.Figures.{IsLine};
+ghost use Rattle.rule_book.specs.MatchFacts.{is_finished, line_of};
 ghost use Rattle.rule_book.specs.PlayerFigures.{bonus_at, played_with, points_at};
 ghost use Rattle.season_host.specs.Worth.{gameweek_figures, with_line, with_fixture, AreModest};
 
-use crate::sheets::{is_finished, line_of, lines_shown, position_of, profile_of};
-use crate::{Season, ShownLine};
-use fpl_base::{FixtureId, Gw, Memory, PlayerId, Steps};
+use crate::Season;
+use crate::sheets::{
+    bonus_of, is_finished, keep_lines, kept_bonus, levels_of, line_of, number_of, position_of,
+    profile_of,
+};
+use fpl_base::{FixtureId, Gw, PlayerId, Steps};
 use line_scoring::line_points;
 use rule_book::{Figures, Line};
 use std::alloc::Global;
@@ -17,12 +20,13 @@ use std::sync::ledger::Ledger;
 // What a player did in a gameweek, over his lines in the fixtures that now stand in it.
 pub(crate) fn gameweek_figures<L: Ledger>(
     alloc: Global,
-    season: &Season,
+    season: &mut Season,
     player: PlayerId,
     gameweek: Gw,
     steps: &mut Steps<L>,
-) -> Result<Figures, Memory>
-    ensures { IfOk result (λ figures. figures ≡ gameweek_figures season.now player gameweek) }
+) -> Figures
+    ensures figures { result ≡ gameweek_figures season.old player gameweek }
+    ensures same { season.new ≡ season.old }
 {
     let mut figures = Figures {
         points: 0,
@@ -30,31 +34,41 @@ pub(crate) fn gameweek_figures<L: Ledger>(
         goals: 0,
         conceded: 0,
     };
-    for fixture in season.calendar.standing(gameweek) {
-        figures = with_fixture(alloc, season, player, *fixture, &figures, steps)?;
+    for place in 0..season.calendar.standing(gameweek).len() {
+        let fixture = fixture_at(season, gameweek, place);
+        figures = with_fixture(alloc, season, player, fixture, &figures, steps);
     }
-    Ok(figures)
+    figures
+}
+
+// The fixture at a place, from 0, among those that stand in a gameweek.
+fn fixture_at(season: &Season, gameweek: Gw, place: usize) -> FixtureId
+    requires { place < length (standing season.now.calendar gameweek) }
+    ensures { slice_get (standing season.now.calendar gameweek) place ≡ Some result }
+{
+    season.calendar.standing(gameweek)[place]
 }
 
 // The figures with those of the player's line in a fixture, if he has one there.
 fn with_fixture<L: Ledger>(
     alloc: Global,
-    season: &Season,
+    season: &mut Season,
     player: PlayerId,
     fixture: FixtureId,
     figures: &Figures,
     steps: &mut Steps<L>,
-) -> Result<Figures, Memory>
+) -> Figures
     requires modest { AreModest 19 figures.now }
-    ensures value { IfOk result (λ more. more ≡ with_fixture season.now player fixture figures.now) }
-    ensures modest { (lines : ℕ) → AreModest lines figures.now → IfOk result (λ more. AreModest (lines + 1) more) }
+    ensures value { result ≡ with_fixture season.old player fixture figures.now }
+    ensures modest { (lines : ℕ) → AreModest lines figures.now → AreModest (lines + 1) result }
+    ensures same { season.new ≡ season.old }
 {
     match line_of(season, fixture, player, steps) {
         Some(line) => {
-            let points = points_of(alloc, season, player, fixture, &line, steps)?;
-            Ok(with_line(figures, &line, points))
+            let points = points_of(alloc, season, player, fixture, &line, steps);
+            with_line(figures, &line, points)
         }
-        None => Ok(*figures),
+        None => *figures,
     }
 }
 
@@ -85,54 +99,60 @@ fn has_played(line: &Line) -> bool
 // The points of a player's line in a fixture, with the bonus.
 fn points_of<L: Ledger>(
     alloc: Global,
-    season: &Season,
+    season: &mut Season,
     player: PlayerId,
     fixture: FixtureId,
     line: &Line,
     steps: &mut Steps<L>,
-) -> Result<i32, Memory>
-    requires his { line_of season.now.matches fixture player ≡ Some line.now }
+) -> i32
     requires line { IsLine line.now }
-    ensures value { IfOk result (λ points. points ≡ points_at season.now.profile season.now.players season.now.matches fixture (player, line.now)) }
-    ensures low { IfOk result (λ points. negsuc 9999 ≤ℤ points) }
-    ensures high { IfOk result (λ points. points ≤ℤ pos 10003) }
+    requires there { line_of season.old.matches fixture player ≡ Some line.now }
+    ensures value { result ≡ points_at season.old.profile season.old.players season.old.matches fixture (player, line.now) }
+    ensures same { season.new ≡ season.old }
+    ensures low { negsuc 9999 ≤ℤ result }
+    ensures high { result ≤ℤ pos 10003 }
 {
-    let won = bonus_of(alloc, season, player, fixture, line, steps)?;
-    let points = line_points(profile_of(season), position_of(season, player), line);
-    Ok(points + i32::from(won))
+    let won = bonus_at(alloc, season, player, fixture, line, steps);
+    line_points(profile_of(season), position_of(season, player), line) + i32::from(won)
 }
 
-// The bonus of a player's line in a fixture.
-fn bonus_of<L: Ledger>(
+// The bonus of a player who has this line in a fixture.
+fn bonus_at<L: Ledger>(
     alloc: Global,
-    season: &Season,
+    season: &mut Season,
     player: PlayerId,
     fixture: FixtureId,
     line: &Line,
     steps: &mut Steps<L>,
-) -> Result<u8, Memory>
-    requires { line_of season.now.matches fixture player ≡ Some line.now }
-    ensures value { IfOk result (λ won. won ≡ bonus_at season.now.players season.now.matches fixture (player, line.now)) }
-    ensures bound { IfOk result (λ won. won ≤ 3) }
+) -> u8
+    requires line { IsLine line.now }
+    requires there { line_of season.old.matches fixture player ≡ Some line.now }
+    ensures value { result ≡ bonus_at season.old.players season.old.matches fixture (player, line.now) }
+    ensures bound { result ≤ 3 }
+    ensures same { season.new ≡ season.old }
 {
     if !is_finished(season, fixture) {
-        return Ok(0);
+        return 0;
     }
-    let lines = lines_shown(alloc, season, fixture, steps)?;
-    match line_among(lines.as_slice(), player) {
-        Some(line) => Ok(line.bonus),
-        None => Ok(0),
+    keep_lines(alloc, season, fixture, steps);
+    match kept_bonus(season, fixture, player) {
+        Some(bonus) => bonus,
+        None => computed_bonus(season, player, fixture, line, steps),
     }
 }
 
-// The line of a player.
-fn line_among(lines: &[ShownLine], player: PlayerId) -> Option<ShownLine>
-    ensures { result ≡ find (λ line. line.player == player) lines.now }
+// The bonus of a player who has this line in a fixture that is finished, computed anew.
+fn computed_bonus<L: Ledger>(
+    season: &Season,
+    player: PlayerId,
+    fixture: FixtureId,
+    line: &Line,
+    steps: &mut Steps<L>,
+) -> u8
+    requires line { IsLine line.now }
+    requires finished { is_finished season.now.matches fixture ≡ true }
+    ensures { result ≡ bonus_at season.now.players season.now.matches fixture (player, line.now) }
 {
-    for line in lines {
-        if line.player == player {
-            return Some(*line);
-        }
-    }
-    None
+    let levels = levels_of(season, fixture, steps);
+    bonus_of(&levels, line, number_of(season, player, line))
 }

@@ -132,16 +132,17 @@ impl Host {
     }
 
     fn answer_view<L: Ledger>(
-        &self,
+        &mut self,
         caller: &Caller,
         now: Moment,
         view: View,
         steps: &mut Steps<L>,
     ) -> Answer
-        ensures answered { MayAnswerIn self.now.book caller.now now (request_of.View view) result self.now.book }
+        ensures answered { MayAnswerIn self.old.book caller.now now (request_of.View view) result self.new.book }
+        ensures operator { self.new.operator ≡ self.old.operator }
         ensures storeless { IsStoreless result }
     {
-        match &self.season {
+        match &mut self.season {
             Some(season) => answer_shown(self.alloc, season, view, steps),
             None => Answer::Rule(Rule::NoSeason),
         }
@@ -203,11 +204,12 @@ impl Host {
 // What a view of a season gets.
 fn answer_shown<L: Ledger>(
     alloc: Global,
-    season: &Season,
+    season: &mut Season,
     view: View,
     steps: &mut Steps<L>,
 ) -> Answer
-    ensures { IsShown (view_answer (Some season.now) view) result }
+    ensures shown { IsShown (view_answer (Some season.old) view) result }
+    ensures same { season.new ≡ season.old }
 {
     match show(alloc, season, view, steps) {
         Ok(Some(shown)) => Answer::Shown(shown),

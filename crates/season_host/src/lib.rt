@@ -21,6 +21,7 @@ mod shown;
 mod tests;
 mod there;
 mod views;
+mod worths;
 
 pub use answer::Answer;
 pub use host::{Host, OpenFault};

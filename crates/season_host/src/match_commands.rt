@@ -28,6 +28,7 @@ impl Season {
         }
         let locked = self.is_in_locked(fixture);
         facts_are_maps();
+        self.worths.forget(fixture);
         match self.matches.put_sheet(fixture, locked, lines, finished) {
             Ok(()) => Ok(()),
             Err(Refused::Rule(rule)) => Err(Answer::Rule(rule)),
@@ -52,6 +53,7 @@ impl Season {
         }
         let locked = self.is_in_locked(fixture);
         facts_are_maps();
+        self.worths.forget(fixture);
         match self.matches.put_line(fixture, locked, player, line) {
             Ok(()) => Ok(()),
             Err(Refused::Rule(rule)) => Err(Answer::Rule(rule)),
@@ -75,6 +77,7 @@ impl Season {
             return Err(Answer::Unknown);
         }
         facts_are_maps();
+        self.worths.forget(fixture);
         self.matches.drop_line(fixture, player);
         Ok(())
     }
@@ -92,6 +95,7 @@ impl Season {
         };
         let locked = self.is_in_locked(fixture);
         facts_are_maps();
+        self.worths.forget(fixture);
         match self.matches.set_finished(fixture, locked, finished) {
             Ok(()) => Ok(()),
             Err(Refused::Rule(rule)) => Err(Answer::Rule(rule)),

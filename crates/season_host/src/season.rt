@@ -1,3 +1,4 @@
+use crate::worths::Worths;
 use match_facts::MatchFacts;
 use player_prices::Players;
 use record_codec::Clubs;
@@ -11,16 +12,18 @@ pub struct Season {
     pub(crate) clubs: Clubs,
     pub(crate) players: Players,
     pub(crate) matches: MatchFacts,
+    // What views found, which no contract sees.
+    pub(crate) worths: Worths,
 }
 
 impl Model for Season {
     ghost use Rattle.fpl_base.specs.declared.kinds.Profile.TheVariants as profile;
     ghost use Rattle.record_codec.specs.Book.{Facts};
-    ghost use Rattle.season_host.specs.Kept.{AreFacts};
+    ghost use Rattle.season_host.specs.Kept.{AreFacts, AreWorths};
 
     ghost Value = { Facts };
 
     ghost view = { λ s. record { profile = profile.A; calendar = s.calendar; clubs = s.clubs; players = s.players; matches = s.matches } };
 
-    ghost invariant = { λ s. AreFacts (record { profile = profile.A; calendar = s.calendar; clubs = s.clubs; players = s.players; matches = s.matches }) };
+    ghost invariant = { λ s. AreFacts (record { profile = profile.A; calendar = s.calendar; clubs = s.clubs; players = s.players; matches = s.matches }) × AreWorths (record { profile = profile.A; calendar = s.calendar; clubs = s.clubs; players = s.players; matches = s.matches }) s.worths };
 }

@@ -1,22 +1,34 @@
 // The lines of a fixture, and what they are worth.
-ghost use Rattle.std.specs.Prelude.{◌≡◌, ◌≤◌, ℕ, List, Some, All, IfOk, IfSome, IsSome, true, false, map, slice_get};
-ghost use Rattle.fpl_base.specs.declared.kinds.Profile.{Profile};
-ghost use Rattle.rule_book.specs.Bonus.{takes_part, standing, bonus_in};
+ghost use Rattle.std.specs.Prelude.{◌≡◌, ◌-◌, ℤ, All, IfOk, IfSome, Some, length, true, false, map, if◌then◌else◌};
+ghost use Rattle.std.specs.List.{zip};
+ghost use Rattle.line_scoring.specs.Levels.{above, bonus_by};
+ghost use Rattle.rule_book.specs.declared.line.Line.{Line};
+ghost use Rattle.rule_book.specs.Bonus.{takes_part};
 ghost use Rattle.rule_book.specs.BonusPoints.{bps_of};
 ghost use Rattle.rule_book.specs.Figures.{IsLine};
 ghost use Rattle.rule_book.specs.MatchFacts.{line_of, lines_of, is_finished};
-ghost use Rattle.rule_book.specs.PlayerFigures.{appearance, position_in};
-ghost use Rattle.rule_book.specs.declared.line.Appearance.{Appearance};
-ghost use Rattle.rule_book.specs.declared.line.Line.{Line};
+ghost use Rattle.rule_book.specs.PlayerFigures.{bonus_at, position_in};
 ghost use Rattle.season_host.specs.Views.{line_shown};
-ghost use Rattle.season_host.specs.Worth.{match_of, line_with, line_in_match};
+ghost use Rattle.season_host.specs.Worth.{AreLevels, bare_line, with_bonus};
 
 use crate::{Season, ShownLine, ShownLines};
 use fpl_base::{FixtureId, Memory, PlayerId, Position, Profile, Steps};
-use line_scoring::{bonus, bps, line_points};
-use rule_book::{Appearance, Line};
+use line_scoring::{BonusLevels, bps, line_points};
+use rule_book::Line;
 use std::alloc::Global;
 use std::sync::ledger::Ledger;
+
+impl Season {
+    // Keeps these lines of a fixture, if there is memory for a copy.
+    fn keep_copy(&mut self, fixture: FixtureId, lines: &ShownLines)
+        requires { lines.now ≡ map (line_shown self.old fixture) (lines_of self.old.matches fixture) }
+        ensures { self.new ≡ self.old }
+    {
+        if let Ok(copy) = lines.copy() {
+            let _ = self.worths.keep(fixture, copy);
+        }
+    }
+}
 
 // By which rules the season is played.
 pub(crate) fn profile_of(season: &Season) -> Profile
@@ -56,8 +68,72 @@ pub(crate) fn is_finished(season: &Season, fixture: FixtureId) -> bool
     season.matches.finished(fixture)
 }
 
-// The lines of a fixture by player, and what they are worth.
+// The players of a fixture, ascending, and beside them the line of each, which is one that a player can have.
+fn rows_of<'a, L: Ledger>(
+    season: &'a Season,
+    fixture: FixtureId,
+    steps: &mut Steps<L>,
+) -> (&'a [PlayerId], &'a [Line])
+    ensures rows { zip result.0.now result.1.now ≡ lines_of season.now.matches fixture }
+    ensures paired { length result.1.now ≡ length result.0.now }
+    ensures in_range { All IsLine result.1.now }
+{
+    season.matches.rows(fixture, steps)
+}
+
+// The lines of a fixture by player, and what they are worth: a copy of what is kept, or else computed and kept.
 pub(crate) fn lines_shown<L: Ledger>(
+    alloc: Global,
+    season: &mut Season,
+    fixture: FixtureId,
+    steps: &mut Steps<L>,
+) -> Result<ShownLines, Memory>
+    ensures shown { IfOk result (λ lines. lines ≡ map (line_shown season.old fixture) (lines_of season.old.matches fixture)) }
+    ensures same { season.new ≡ season.old }
+{
+    match kept_lines(season, fixture)? {
+        Some(lines) => Ok(lines),
+        None => {
+            let lines = computed_lines(alloc, season, fixture, steps)?;
+            season.keep_copy(fixture, &lines);
+            Ok(lines)
+        }
+    }
+}
+
+// Keeps what the lines of a fixture are worth, unless it is kept already or memory is wanting.
+pub(crate) fn keep_lines<L: Ledger>(
+    alloc: Global,
+    season: &mut Season,
+    fixture: FixtureId,
+    steps: &mut Steps<L>,
+)
+    ensures { season.new ≡ season.old }
+{
+    if !season.worths.has(fixture) {
+        drop(lines_shown(alloc, season, fixture, steps));
+    }
+}
+
+// A copy of what is kept of a fixture, if anything is.
+fn kept_lines(season: &Season, fixture: FixtureId) -> Result<Option<ShownLines>, Memory>
+    ensures { IfOk result (λ kept. IfSome kept (λ lines. lines ≡ map (line_shown season.now fixture) (lines_of season.now.matches fixture))) }
+{
+    season.worths.copy(fixture)
+}
+
+// The bonus that is kept of a player's line in a fixture, if it is.
+pub(crate) fn kept_bonus(season: &Season, fixture: FixtureId, player: PlayerId) -> Option<u8>
+    ensures { IfSome result (λ bonus. (line : Line) → line_of season.now.matches fixture player ≡ Some line → bonus ≡ bonus_at season.now.players season.now.matches fixture (player, line)) }
+{
+    match season.worths.line(fixture, player) {
+        Some(kept) => Some(kept.bonus),
+        None => None,
+    }
+}
+
+// The lines of a fixture by player, and what they are worth, computed anew.
+fn computed_lines<L: Ledger>(
     alloc: Global,
     season: &Season,
     fixture: FixtureId,
@@ -65,130 +141,91 @@ pub(crate) fn lines_shown<L: Ledger>(
 ) -> Result<ShownLines, Memory>
     ensures { IfOk result (λ lines. lines ≡ map (line_shown season.now fixture) (lines_of season.now.matches fixture)) }
 {
-    let rows = rows_of(alloc, season, fixture, steps)?;
-    let finished = is_finished(season, fixture);
-    worth_of(alloc, profile_of(season), finished, rows.as_slice())
+    let (players, lines) = rows_of(season, fixture, steps);
+    let mut shown = Vec::with_capacity(alloc, players.len())?;
+    let mut levels = BonusLevels::new();
+    for (place, player) in players.iter().enumerate() {
+        let line = bare_line(season, *player, &lines[place]);
+        count_in(&mut levels, &lines[place], line.bps);
+        shown.push(line)?;
+    }
+    if is_finished(season, fixture) {
+        give_bonus(&levels, lines, &mut shown);
+    }
+    Ok(ShownLines::of(shown))
 }
 
-// The players of a fixture with their lines, ascending.
-fn rows_of<L: Ledger>(
-    alloc: Global,
+// The levels of a match: the greatest numbers of those who took part.
+pub(crate) fn levels_of<L: Ledger>(
     season: &Season,
     fixture: FixtureId,
     steps: &mut Steps<L>,
-) -> Result<Vec<Appearance>, Memory>
-    ensures those { IfOk result (λ rows. rows.items ≡ match_of season.now fixture) }
-    ensures in_range { IfOk result (λ rows. All (λ (row : Appearance). IsLine row.line) rows.items) }
+) -> BonusLevels
+    ensures { AreLevels season.now result (lines_of season.now.matches fixture) }
 {
-    let mut rows = Vec::new(alloc);
-    for player in season.matches.players_of(fixture) {
-        rows.push(row_of(season, fixture, *player, steps))?;
+    let (players, lines) = rows_of(season, fixture, steps);
+    let mut levels = BonusLevels::new();
+    for (place, player) in players.iter().enumerate() {
+        let number = number_of(season, *player, &lines[place]);
+        count_in(&mut levels, &lines[place], number);
     }
-    Ok(rows)
+    levels
 }
 
-// A player of a fixture, who has a line there, with the line.
-fn row_of<L: Ledger>(
-    season: &Season,
-    fixture: FixtureId,
-    player: PlayerId,
-    steps: &mut Steps<L>,
-) -> Appearance
-    requires { IsSome (line_of season.now.matches fixture player) }
-    ensures row { IfSome (line_of season.now.matches fixture player) (λ line. result ≡ appearance season.now.players (player, line)) }
-    ensures in_range { IsLine result.line }
+// A player's number in the bonus points system for a line of his.
+pub(crate) fn number_of(season: &Season, player: PlayerId, line: &Line) -> i32
+    requires { IsLine line.now }
+    ensures { result ≡ bps_of (position_in season.now.players player) line.now }
 {
-    match line_of(season, fixture, player, steps) {
-        Some(line) => Appearance {
-            player,
-            position: position_of(season, player),
-            line,
-        },
-        None => unreachable!(),
-    }
+    bps(position_of(season, player), line)
 }
 
-// What the lines of a match are worth.
-fn worth_of(
-    alloc: Global,
-    profile: Profile,
-    finished: bool,
-    rows: &[Appearance],
-) -> Result<ShownLines, Memory>
-    requires { All (λ (row : Appearance). IsLine row.line) rows.now }
-    ensures { IfOk result (λ lines. lines ≡ map (line_in_match profile finished rows.now) rows.now) }
+// A line and what it is worth without bonus.
+fn bare_line(season: &Season, player: PlayerId, line: &Line) -> ShownLine
+    requires { IsLine line.now }
+    ensures { result ≡ bare_line season.now (player, line.now) }
 {
-    let table = table_of(alloc, finished, rows)?;
-    let mut lines = ShownLines::new(alloc);
-    let mut place = 0usize;
-    for row in rows {
-        let won = bonus_of(table.as_slice(), finished, row, place);
-        lines.push(line_with(profile, row, won))?;
-        place += has_minutes(row) as usize;
-    }
-    Ok(lines)
-}
-
-// Of a match that is finished, those who took part, with their numbers in the bonus points system.
-fn table_of(
-    alloc: Global,
-    finished: bool,
-    rows: &[Appearance],
-) -> Result<Vec<(PlayerId, i32)>, Memory>
-    requires { All (λ (row : Appearance). IsLine row.line) rows.now }
-    ensures { IfOk result (λ table. finished ≡ true → table.items ≡ standing rows.now) }
-{
-    if finished {
-        standing_of(alloc, rows)
-    } else {
-        Ok(Vec::new(alloc))
-    }
-}
-
-// Those who took part in a match, with their numbers in the bonus points system.
-#[tactic(auto, unfolding(rule_book::specs::Bonus::standing))]
-fn standing_of(alloc: Global, rows: &[Appearance]) -> Result<Vec<(PlayerId, i32)>, Memory>
-    requires { All (λ (row : Appearance). IsLine row.line) rows.now }
-    ensures { IfOk result (λ table. table.items ≡ standing rows.now) }
-{
-    let mut table = Vec::new(alloc);
-    for row in rows {
-        if has_minutes(row) {
-            table.push((row.player, bps(row.position, &row.line)))?;
-        }
-    }
-    Ok(table)
-}
-
-fn has_minutes(row: &Appearance) -> bool
-    ensures { result ≡ takes_part row.now.line }
-{
-    row.line.figures[0] >= 1
-}
-
-// The bonus of a row, which stands at this place of the standing if it took part. There is none before the match is
-// finished.
-fn bonus_of(table: &[(PlayerId, i32)], finished: bool, row: &Appearance, place: usize) -> u8
-    requires { finished ≡ true → takes_part row.now.line ≡ true → slice_get table.now place ≡ Some (row.now.player, bps_of row.now.position row.now.line) }
-    ensures none { finished ≡ false → result ≡ 0 }
-    ensures value { finished ≡ true → (rows : List Appearance) → table.now ≡ standing rows → result ≡ bonus_in rows row.now }
-{
-    if finished && has_minutes(row) {
-        bonus(table, place)
-    } else {
-        0
-    }
-}
-
-// A line with this bonus.
-fn line_with(profile: Profile, row: &Appearance, bonus: u8) -> ShownLine
-    requires { IsLine row.now.line }
-    ensures { result ≡ line_with profile row.now bonus }
-{
+    let position = position_of(season, player);
     ShownLine {
-        player: row.player,
-        points: line_points(profile, row.position, &row.line),
-        bps: bps(row.position, &row.line),
-        bonus,
+        player,
+        points: line_points(profile_of(season), position, line),
+        bps: bps(position, line),
+        bonus: 0,
     }
+}
+
+// Counts a line of this number in, if its player took part.
+fn count_in(levels: &mut BonusLevels, line: &Line, number: i32)
+    ensures part { takes_part line.now ≡ true → (own : ℤ) → bonus_by levels.new own ≡ bonus_by levels.old own - above own number }
+    ensures none { takes_part line.now ≡ false → levels.new ≡ levels.old }
+{
+    if has_minutes(line) {
+        levels.add(number);
+    }
+}
+
+// Gives each line of a match that is finished its bonus.
+fn give_bonus(levels: &BonusLevels, lines: &[Line], shown: &mut [ShownLine])
+    requires { length shown.old ≡ length lines.now }
+    ensures { shown.new ≡ map (with_bonus levels.now) (zip lines.now shown.old) }
+{
+    for (place, line) in lines.iter().enumerate() {
+        shown[place].bonus = bonus_of(levels, line, shown[place].bps);
+    }
+}
+
+// The bonus of a line of this number.
+pub(crate) fn bonus_of(levels: &BonusLevels, line: &Line, number: i32) -> u8
+    ensures { result ≡ (if takes_part line.now then bonus_by levels.now number else 0) }
+{
+    if !has_minutes(line) {
+        return 0;
+    }
+    levels.bonus(number)
+}
+
+fn has_minutes(line: &Line) -> bool
+    ensures { result ≡ takes_part line.now }
+{
+    line.figures[0] >= 1
 }

@@ -1,5 +1,5 @@
 // What views show.
-ghost use Rattle.std.specs.Prelude.{◌≡◌, ◌++◌, ◌∷◌, [], List, OnErr, OnOk};
+ghost use Rattle.std.specs.Prelude.{◌≡◌, ◌++◌, ◌==◌, ◌∷◌, [], List, IfOk, OnErr, OnOk, find};
 
 use fpl_base::{Memory, PlayerId};
 use record_codec::{Clubs, Moments};
@@ -54,6 +54,13 @@ impl ShownLines {
         }
     }
 
+    /// These lines.
+    pub fn of(items: Vec<ShownLine>) -> Self
+        ensures { result ≡ items.items }
+    {
+        ShownLines { items }
+    }
+
     /// The list with this line at its end; unchanged after want of memory.
     pub fn push(&mut self, item: ShownLine) -> Result<(), Memory>
         ensures ok { OnOk result (self.new ≡ self.old ++ item ∷ []) }
@@ -69,6 +76,34 @@ impl ShownLines {
     {
         self.items.as_slice()
     }
+
+    // Another list of the same lines.
+    pub(crate) fn copy(&self) -> Result<Self, Memory>
+        ensures { IfOk result (λ copy. copy ≡ self.now) }
+    {
+        let alloc = *self.items.allocator();
+        let items = Vec::from_slice(alloc, self.items.as_slice())?;
+        Ok(ShownLines { items })
+    }
+
+    // The line of a player.
+    pub(crate) fn line(&self, player: PlayerId) -> Option<ShownLine>
+        ensures { result ≡ find (λ line. line.player == player) self.now }
+    {
+        line_in(self.items.as_slice(), player)
+    }
+}
+
+// The line of a player among lines.
+fn line_in(lines: &[ShownLine], player: PlayerId) -> Option<ShownLine>
+    ensures { result ≡ find (λ line. line.player == player) lines.now }
+{
+    for line in lines {
+        if line.player == player {
+            return Some(*line);
+        }
+    }
+    None
 }
 
 /// A fixture as it stands.

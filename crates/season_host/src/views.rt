@@ -16,20 +16,22 @@ use std::alloc::Global;
 use std::sync::ledger::Ledger;
 
 /// What a view shows; `None` exactly where an id is not there, or the gameweek is not locked. Each line of a match that
-/// it reads is a counted read.
+/// it reads is a counted read; what the lines of a match are worth is kept for later views, which do not read them
+/// until the match, or who may play, changes.
 pub fn show<L: Ledger>(
     alloc: Global,
-    season: &Season,
+    season: &mut Season,
     view: View,
     steps: &mut Steps<L>,
 ) -> Result<Option<Shown>, Memory>
-    ensures { IfOk result (λ shown. shown ≡ shown_of season.now view) }
+    ensures shown { IfOk result (λ shown. shown ≡ shown_of season.old view) }
+    ensures same { season.new ≡ season.old }
 {
     match view {
         View::Season => Ok(Some(Shown::Season(season_shown(alloc, season)?))),
         View::Player { player } => player_shown(season, player),
         View::PlayerGameweek { player, gameweek } => {
-            gameweek_shown(alloc, season, player, gameweek, steps)
+            Ok(gameweek_shown(alloc, season, player, gameweek, steps))
         }
         View::Fixture { fixture } => fixture_shown(alloc, season, fixture, steps),
     }
@@ -100,21 +102,19 @@ fn copy_of_player(player: &Player) -> Result<Player, Memory>
 
 fn gameweek_shown<L: Ledger>(
     alloc: Global,
-    season: &Season,
+    season: &mut Season,
     player: u32,
     gameweek: u32,
     steps: &mut Steps<L>,
-) -> Result<Option<Shown>, Memory>
-    ensures { IfOk result (λ shown. shown ≡ shown_of season.now (view.PlayerGameweek player gameweek)) }
+) -> Option<Shown>
+    ensures shown { result ≡ shown_of season.old (view.PlayerGameweek player gameweek) }
+    ensures same { season.new ≡ season.old }
 {
-    let Some(there) = player_there(season, player) else {
-        return Ok(None);
-    };
-    let Some(locked) = locked_gameweek(season, gameweek) else {
-        return Ok(None);
-    };
-    let figures = gameweek_figures(alloc, season, there.id, locked, steps)?;
-    Ok(Some(Shown::PlayerGameweek(figures)))
+    let there = player_there(season, player)?;
+    let id = there.id;
+    let locked = locked_gameweek(season, gameweek)?;
+    let figures = gameweek_figures(alloc, season, id, locked, steps);
+    Some(Shown::PlayerGameweek(figures))
 }
 
 // The gameweek of this number, if it is locked.
@@ -130,11 +130,12 @@ fn locked_gameweek(season: &Season, number: u32) -> Option<Gw>
 
 fn fixture_shown<L: Ledger>(
     alloc: Global,
-    season: &Season,
+    season: &mut Season,
     fixture: u32,
     steps: &mut Steps<L>,
 ) -> Result<Option<Shown>, Memory>
-    ensures { IfOk result (λ shown. shown ≡ shown_of season.now (view.Fixture fixture)) }
+    ensures shown { IfOk result (λ shown. shown ≡ shown_of season.old (view.Fixture fixture)) }
+    ensures same { season.new ≡ season.old }
 {
     match fixture_there(season, fixture) {
         Some(there) => Ok(Some(Shown::Fixture(ShownFixture {

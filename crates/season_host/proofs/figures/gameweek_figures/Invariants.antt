@@ -1,11 +1,13 @@
 use Rattle.std.proofs.Common.{◌≡◌, take}
 use Rattle.std.specs.List.{flat_map}
+use Rattle.rule_book.specs.Calendar.{standing}
 use Rattle.rule_book.specs.PlayerFigures.{line_beside}
 use Rattle.season_host.specs.Worth.{figures_by, AreModest}
 use Rattle.season_host.proofs.figures.gameweek_figures.Given as goal
 
-abbrev pub invariant-loop-fixture : goal.invariant-loop-fixture
-invariant-loop-fixture g l = record {
-  value : l.figures ≡ figures_by l.season l.player (flat_map (line_beside l.season.matches l.player) (take l.fixture-index l.fixture-items));
-  modest : AreModest l.fixture-index l.figures;
+abbrev pub invariant-loop-place : goal.invariant-loop-place
+invariant-loop-place g l = record {
+  same : l.season ≡ l.fn.season;
+  value : l.figures ≡ figures_by l.fn.season l.player (flat_map (line_beside l.fn.season.matches l.player) (take l.place (standing l.fn.season.calendar l.gameweek)));
+  modest : AreModest l.place l.figures;
 }

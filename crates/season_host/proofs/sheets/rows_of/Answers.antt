@@ -1,30 +1,9 @@
-use Rattle.std.proofs.Common.{◌≡◌, Some, refl, sym, ap, ◌∙◌}
-use Rattle.std.proofs.lemmas.List.Elements.{All-push}
-use Rattle.std.proofs.lemmas.Option.{MatchOption-at_some}
-use Rattle.rule_book.specs.declared.line.Appearance.{Appearance}
-use Rattle.rule_book.specs.Figures.{IsLine}
-use Rattle.rule_book.specs.MatchFacts.{lines_of, players_in}
-use Rattle.rule_book.specs.PlayerFigures.{appearance}
-use Rattle.season_host.specs.Worth.{match_of}
-use Rattle.season_host.proofs.Found.{row_at}
-use Rattle.season_host.proofs.Lists.{made_more}
+use Rattle.std.proofs.Common.{sym, ap, ◌∙◌}
+use Rattle.rule_book.specs.MatchFacts.{line_in}
+use Rattle.season_host.proofs.Found.{all_in_range}
 use Rattle.season_host.proofs.sheets.rows_of.Goals as goal
 
-pub row_of-requires : goal.row_of-requires
-row_of-requires g c =
-    let those = c.players_of-player-items.ensures.players ∙ ap (λ facts. players_in (lines_of facts.matches c.args.fixture)) c.season.view_is in
-    let row = row_at c.args.season.now.players (lines_of c.args.season.now.matches c.args.fixture) c.loop-player.player-index c.player-item.result
-    c.players_of-player-items.result.now c.players_of-player-items.ensures.ascending those c.loop-player-test.true c.player-item.is in
-    rw row.found refl
-
-pub loop-player-preserved : goal.loop-player-preserved
-loop-player-preserved g c =
-    let those = c.players_of-player-items.ensures.players ∙ ap (λ facts. players_in (lines_of facts.matches c.args.fixture)) c.season.view_is in
-    let row = row_at c.args.season.now.players (lines_of c.args.season.now.matches c.args.fixture) c.loop-player.player-index c.player-item.result
-    c.players_of-player-items.result.now c.players_of-player-items.ensures.ascending those c.loop-player-test.true c.player-item.is in
-    let is = MatchOption-at_some _ (λ line. c.row_of.result ≡ appearance c.args.season.now.players (c.player-item.result, line)) row.line row.found c.row_of.ensures.row in
-    record {
-      rows = made_more (match_of c.args.season.now c.args.fixture) c.loop-player.player-index c.row_of.result c.loop-player.rows.items c.push.new.self.items
-          (row.here ∙ ap Some (sym is)) c.loop-player.invariant.rows c.in_ok-push.ensures.items;
-      in_range = rw c.in_ok-push.ensures.items (All-push (λ (row : Appearance). IsLine row.line) c.loop-player.rows.items c.row_of.result c.loop-player.invariant.in_range c.row_of.ensures.in_range);
-    }
+pub returns-clause-in_range : goal.returns-clause-in_range
+returns-clause-in_range g c =
+    all_in_range c.rows.result.0.now c.rows.result.1.now c.rows.ensures.ascending c.rows.ensures.paired
+    (λ p line at. c.season.invariant.0.lines_in_range c.args.fixture p line (ap (λ rows. line_in rows p) (sym c.rows.ensures.rows) ∙ at))
