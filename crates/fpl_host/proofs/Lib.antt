@@ -1,4 +1,5 @@
 pub mod DeskLemmas
+pub mod OnceFacts
 pub mod PipeLemmas
 pub mod RunLemmas
 pub mod Taken

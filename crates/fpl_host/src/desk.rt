@@ -12,7 +12,7 @@ ghost use Rattle.fpl_host.specs.Replying.{Asking, IsAsked, IsReply, Judges, Serv
 use fpl_base::{Caller, Clock, Keeper, Key, Memory, Steps};
 use fpl_http::Message;
 use fpl_json::{
-    Found, ReadFault, Route, Routes, answer_text, caller_text, key_text, malformed_text,
+    Found, ReadFault, Route, Routes, Scratch, answer_text, caller_text, key_text, malformed_text,
     method_text, read_request, unknown_text,
 };
 use fpl_session::{Reply, Service};
@@ -24,6 +24,13 @@ use std::sync::ledger::Ledger;
 #[derive(Drop)]
 pub struct Desk {
     routes: Routes,
+}
+
+/// The host, and the place in which bodies are read, which is kept from message to message.
+#[derive(Drop)]
+pub struct HostWithScratch {
+    pub host: Host,
+    pub scratch: Scratch,
 }
 
 /// What a message asks, or the reply that refuses it before the host judges it.
@@ -42,13 +49,19 @@ impl Desk {
     }
 
     // What a message asks of a host.
-    fn asked(&self, alloc: Global, host: &Host, message: &Message<'_>) -> Result<Asked, Memory>
+    fn asked(
+        &self,
+        alloc: Global,
+        host: &Host,
+        scratch: &mut Scratch,
+        message: &Message<'_>,
+    ) -> Result<Asked, Memory>
         ensures { (asking : Asking) × IsAsked host.now (request_seen message.now) asking × IfOk result (Asks asking) }
     {
         match self.routes.find(message.method, message.target) {
             Found::Unknown => refused(alloc, 404, unknown_text()),
             Found::Method => refused(alloc, 405, method_text()),
-            Found::Route { route, ids } => { asked_by(alloc, host, message, route, &ids) }
+            Found::Route { route, ids } => { asked_by(alloc, host, scratch, message, route, &ids) }
         }
     }
 }
@@ -57,6 +70,7 @@ impl Desk {
 fn asked_by(
     alloc: Global,
     host: &Host,
+    scratch: &mut Scratch,
     message: &Message<'_>,
     route: Route,
     ids: &[u32; 2],
@@ -65,7 +79,7 @@ fn asked_by(
 {
     match caller_of(alloc, host, message)? {
         None => refused(alloc, 401, key_text()),
-        Some(caller) => asked_as(alloc, &caller, route, ids, message.body),
+        Some(caller) => asked_as(alloc, scratch, &caller, route, ids, message.body),
     }
 }
 
@@ -92,6 +106,7 @@ fn owner_of(alloc: Global, host: &Host, bytes: &[u8]) -> Result<Option<Caller>, 
 // What a caller asks by a route.
 fn asked_as(
     alloc: Global,
+    scratch: &mut Scratch,
     caller: &Caller,
     route: Route,
     ids: &[u32; 2],
@@ -100,7 +115,7 @@ fn asked_as(
     ensures { IfOk result (Asks (asked_by (Some caller.now) route ids.now body.now)) }
 {
     if route.is_for(*caller) {
-        read(alloc, caller, route, ids, body)
+        read(alloc, scratch, caller, route, ids, body)
     } else {
         refused(alloc, 403, caller_text())
     }
@@ -151,6 +166,7 @@ fn refused(alloc: Global, status: u16, body: &'static [u8]) -> Result<Asked, Mem
 // What a caller asks by a route and a body.
 fn read(
     alloc: Global,
+    scratch: &mut Scratch,
     caller: &Caller,
     route: Route,
     ids: &[u32; 2],
@@ -158,7 +174,7 @@ fn read(
 ) -> Result<Asked, Memory>
     ensures { IfOk result (Asks (unless_malformed caller.now (request_of route ids.now body.now))) }
 {
-    match read_request(alloc, route, [ids[0], ids[1]], body) {
+    match read_request(alloc, scratch, route, [ids[0], ids[1]], body) {
         Ok(request) => Ok(Asked::By(*caller, request)),
         Err(ReadFault::Malformed { field }) => {
             let body = malformed_text(alloc, field.name())?;
@@ -168,10 +184,10 @@ fn read(
     }
 }
 
-impl<K: Keeper, C: Clock, L: Ledger> Service<Host, K, C, L> for Desk {
+impl<K: Keeper, C: Clock, L: Ledger> Service<HostWithScratch, K, C, L> for Desk {
     ghost State = { Served };
 
-    ghost see = { λ now. record { host = now.0; moments = C.left now.2 } };
+    ghost see = { λ now. record { host = now.0.host; moments = C.left now.2 } };
 
     ghost answers = { λ _ old message reply new. IsReply old message reply new };
 
@@ -180,16 +196,24 @@ impl<K: Keeper, C: Clock, L: Ledger> Service<Host, K, C, L> for Desk {
     fn reply(
         &self,
         alloc: Global,
-        host: &mut Host,
+        host: &mut HostWithScratch,
         keeper: &mut K,
         clock: &mut C,
         steps: &mut Steps<L>,
         message: &Message<'_>,
     ) -> Result<Reply, Memory> {
-        match self.asked(alloc, host, message)? {
+        match self.asked(alloc, &host.host, &mut host.scratch, message)? {
             Asked::Refused(reply) => Ok(reply),
             Asked::By(caller, request) => {
-                judged(alloc, host, keeper, clock, steps, caller, &request)
+                judged(
+                    alloc,
+                    &mut host.host,
+                    keeper,
+                    clock,
+                    steps,
+                    caller,
+                    &request,
+                )
             }
         }
     }

@@ -4,9 +4,10 @@ ghost use Rattle.fpl_base.specs.Causes.{Rose};
 ghost use Rattle.record_codec.specs.Book.{empty_book};
 ghost use Rattle.fpl_host.specs.Pipe.{Pipes, status_of};
 
-use crate::desk::Desk;
+use crate::desk::{Desk, HostWithScratch};
 use crate::status::{CUT, DONE, MEMORY, READ_FAULT, REFUSED, TOO_LONG, WRITE_FAULT};
 use fpl_base::{Clock, Keeper, Key, Memory, Sink, Source, Steps};
+use fpl_json::Scratch;
 use fpl_session::{Ending, session};
 use season_host::Host;
 use std::alloc::Global;
@@ -34,18 +35,24 @@ pub fn pipe<S: Source, W: Sink, C: Clock, K: Keeper, L: Ledger>(
     }
 }
 
-// A desk, and a host without a season.
+// A desk, and a host without a season, with a scratch.
 fn opened<K: Keeper, L: Ledger>(
     alloc: Global,
     key: &Key,
     keeper: &mut K,
     steps: &mut Steps<L>,
-) -> Result<(Desk, Host), Memory>
-    ensures { IfOk result (λ opened. opened.1 ≡ record { operator = key.now; book = empty_book }) }
+) -> Result<(Desk, HostWithScratch), Memory>
+    ensures { IfOk result (λ opened. opened.1.host ≡ record { operator = key.now; book = empty_book }) }
 {
     let desk = Desk::new(alloc)?;
     match Host::open(alloc, keeper, key, steps) {
-        Ok(host) => Ok((desk, host)),
+        Ok(host) => Ok((
+            desk,
+            HostWithScratch {
+                host,
+                scratch: Scratch::new(alloc),
+            },
+        )),
         Err(_) => Err(Memory),
     }
 }

@@ -1,27 +1,29 @@
--- Bodies that are objects, and such as are none.
-use Rattle.std.proofs.Common.{◌≡◌, refl, ℕ, List, true, inl, inr}
+-- Bodies that are texts, and objects.
+use Rattle.std.proofs.Common.{◌≡◌, ℕ, List, refl, true, inl, inr}
 use Rattle.std.proofs.lemmas.Bool.{cases_Bool}
 use Rattle.std.proofs.lemmas.Str.{is_utf8-from_IsUtf8, IsUtf8-from_is_utf8}
-use Rattle.std.specs.Prelude.{IsUtf8, Option, Some, None, Ok, Err, is_some}
+use Rattle.std.specs.Prelude.{IsUtf8, Option, Some, None, Ok, Err, is_some, option_and_then}
 use Rattle.std.specs.Option.{option_map}
 use Rattle.std.specs.Str.{is_utf8}
 use Rattle.serde_json.specs.Data.{Data, Members}
 use Rattle.serde_json.specs.Find.{as_object}
 use Rattle.serde_json.specs.Read.{read}
 use Rattle.fpl_json.specs.declared.field.FieldName.TheVariants as field
-use Rattle.fpl_json.specs.Members.{object_of, or_wrong}
+use Rattle.fpl_json.specs.Members.{if_object, object_of, or_wrong}
 
--- a text that reads as an object is it
-pub object_there : (bytes : List ℕ) (d : Data) → IsUtf8 bytes → read bytes ≡ Some d → is_some (as_object d) ≡ true → object_of bytes ≡ Ok d
-object_there bytes d text e is = rw (is_utf8-from_IsUtf8 bytes text, e) (found (as_object d) is)
+-- data that is an object is the object that it reads as
+pub object_there : (o : Option Data) (d : Data) → o ≡ Some d → is_some (as_object d) ≡ true → or_wrong field.Body (option_and_then if_object o) ≡ Ok d
+object_there o d e is = rw e (found (as_object d) is)
   where
-    found : (o : Option Members) → is_some o ≡ true → or_wrong field.Body (option_map (λ _. d) o) ≡ Ok d
+    found : (m : Option Members) → is_some m ≡ true → or_wrong field.Body (option_map (λ _. d) m) ≡ Ok d
     found None is = absurd (cc is)
     found (Some m) is = refl
 
--- a text that reads as nothing is none
-pub object_none : (bytes : List ℕ) → (IsUtf8 bytes → read bytes ≡ None) → object_of bytes ≡ Err field.Body
-object_none bytes h = elim (cases_Bool (is_utf8 bytes)) [
-  | inl valid ↦ rw (valid, h (IsUtf8-from_is_utf8 bytes valid)) refl
+pub object_of_text : (bytes : List ℕ) → IsUtf8 bytes → object_of bytes ≡ or_wrong field.Body (option_and_then if_object (read bytes))
+object_of_text bytes text = rw (is_utf8-from_IsUtf8 bytes text) refl
+
+pub object_of_no_text : (bytes : List ℕ) → (IsUtf8 bytes → ⊥) → object_of bytes ≡ Err field.Body
+object_of_no_text bytes none = elim (cases_Bool (is_utf8 bytes)) [
+  | inl valid ↦ absurd (none (IsUtf8-from_is_utf8 bytes valid))
   | inr bad ↦ rw bad refl
 ]

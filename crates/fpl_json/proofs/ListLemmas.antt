@@ -3,10 +3,10 @@ use Rattle.std.proofs.Common.{◌≡◌, ◌∙◌, ap, sym, refl, append-nil, �
 use Rattle.std.proofs.lemmas.List.{append_assoc, at_drop_more, drop_all}
 use Rattle.std.specs.Prelude.{Result, Ok, Err}
 use Rattle.serde_json.specs.Data.{Data}
-use Rattle.serde_json.specs.View.{view, items_view}
-use Rattle.serde_json.specs.declared.value.Value.{Value}
 use Rattle.fpl_json.specs.declared.field.FieldName.{FieldName}
+use Rattle.fpl_json.specs.declared.tree.Tree.{Tree}
 use Rattle.fpl_json.specs.Members.{◌>>=◌, each}
+use Rattle.fpl_json.specs.Trees.{items_view, view}
 
 -- these, and then what is read
 abbrev pub with_front : {X : Type 0} → List X → Result (List X) FieldName → Result (List X) FieldName
@@ -24,7 +24,7 @@ module _ {X : Type 0} where
   joined front x (Err e) = refl
 
   -- one more was read
-  pub each_more : (read_one : Data → Result X FieldName) (front : List X) (vs : List Value) (i : ℕ) (v : Value) (x : X) (all : Result (List X) FieldName)
+  pub each_more : (read_one : Data → Result X FieldName) (front : List X) (vs : List Tree) (i : ℕ) (v : Tree) (x : X) (all : Result (List X) FieldName)
       → i < length vs → get_or vs i v ≡ v → read_one (view v) ≡ Ok x
       → with_front front (each read_one (items_view (drop i vs))) ≡ all
       → with_front (front ++ x ∷ []) (each read_one (items_view (drop (i + 1) vs))) ≡ all
@@ -36,7 +36,7 @@ module _ {X : Type 0} where
       ∙ inv
 
   -- the first wrong one ends the reading
-  pub each_wrong : (read_one : Data → Result X FieldName) (front : List X) (vs : List Value) (i : ℕ) (v : Value) (e : FieldName) (all : Result (List X) FieldName)
+  pub each_wrong : (read_one : Data → Result X FieldName) (front : List X) (vs : List Tree) (i : ℕ) (v : Tree) (e : FieldName) (all : Result (List X) FieldName)
       → i < length vs → get_or vs i v ≡ v → read_one (view v) ≡ Err e
       → with_front front (each read_one (items_view (drop i vs))) ≡ all → all ≡ Err e
   each_wrong read_one front vs i v e all lt is wrong inv =
@@ -46,6 +46,6 @@ module _ {X : Type 0} where
       ∙ ap (λ (r : Result X FieldName). with_front front (r >>= λ y. each read_one (items_view (drop (i + 1) vs)) >>= λ xs. Ok (y ∷ xs))) wrong
 
   -- nothing is left
-  pub each_end : (read_one : Data → Result X FieldName) (front : List X) (vs : List Value) (i : ℕ) (all : Result (List X) FieldName)
+  pub each_end : (read_one : Data → Result X FieldName) (front : List X) (vs : List Tree) (i : ℕ) (all : Result (List X) FieldName)
       → length vs ≤ i → with_front front (each read_one (items_view (drop i vs))) ≡ all → all ≡ Ok front
   each_end read_one front vs i all le inv = sym inv ∙ rw (drop_all i vs le) (ap Ok (append-nil front))

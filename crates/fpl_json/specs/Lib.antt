@@ -1,9 +1,12 @@
 pub mod Answers
 pub mod Callers
 pub mod FieldNames
+pub mod KeptPlaces
 pub mod MemberData
 pub mod Members
 pub mod Requests
 pub mod RuleData
 pub mod ShownData
 pub mod Targets
+pub mod Tokens
+pub mod Trees

@@ -9,13 +9,13 @@ use Rattle.fpl_base.specs.Texts.{is_name}
 use Rattle.serde_json.specs.Data.{Data, Items, no_items, item}
 use Rattle.serde_json.specs.Find.{get, as_array, as_bool, as_null, as_number, as_object, as_str, as_u64}
 use Rattle.serde_json.specs.Read.{read}
-use Rattle.serde_json.specs.View.{view}
-use Rattle.serde_json.specs.declared.value.Value.{Value}
 use Rattle.fpl_json.specs.declared.field.FieldName.{FieldName}
 use Rattle.fpl_json.specs.declared.field.FieldName.TheVariants as field
 use Rattle.fpl_json.specs.declared.field.ReadFault.{ReadFault}
 use Rattle.fpl_json.specs.declared.field.ReadFault.TheVariants as fault
+use Rattle.fpl_json.specs.declared.tree.Tree.{Tree}
 use Rattle.fpl_json.specs.FieldNames.{name_of}
+use Rattle.fpl_json.specs.Trees.{view}
 
 -- The first wrong member.
 
@@ -138,7 +138,7 @@ abbrev pub GivesItems : {X : Type 0} → Result (Vec X Global) ReadFault → Res
 GivesItems (Ok v) given = given ≡ Ok v.items
 GivesItems (Err e) given = FailsWith e given
 
--- the same of a value, seen as its data
-abbrev pub GivesObject : Result Value ReadFault → Result Data FieldName → Type 0
-GivesObject (Ok value) given = given ≡ Ok (view value)
+-- the same of a tree, seen as its data
+abbrev pub GivesObject : Result Tree ReadFault → Result Data FieldName → Type 0
+GivesObject (Ok tree) given = given ≡ Ok (view tree)
 GivesObject (Err e) given = FailsWith e given

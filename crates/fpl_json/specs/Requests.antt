@@ -1,11 +1,11 @@
 -- What is asked by a route, its ids and a body.
-use Rattle.std.specs.Prelude.{ℕ, Bool, true, not, ◌==◌, ◌&&◌, ◌≤◌, List, [], ◌∷◌, length, if◌then◌else◌, Option, Some, None, Result, Ok, Err, slice_index, ⊤}
+use Rattle.std.specs.Prelude.{ℕ, Bool, true, not, ◌==◌, ◌&&◌, List, [], ◌∷◌, length, if◌then◌else◌, Option, Some, None, Result, Ok, Err, slice_index}
 use Rattle.std.specs.List.{list_any}
 use Rattle.std.specs.Option.{option_map_or}
 use Rattle.rule_book.specs.declared.line.Line.{Line}
 use Rattle.record_codec.specs.declared.command.Command.{Command}
 use Rattle.record_codec.specs.declared.command.Command.TheVariants as command
-use Rattle.season_host.specs.Commands.{IsCommand, club_ids}
+use Rattle.season_host.specs.Commands.{club_ids}
 use Rattle.season_host.specs.declared.request.Request.{Request}
 use Rattle.season_host.specs.declared.request.Request.TheVariants as request
 use Rattle.season_host.specs.declared.request.View.{View}
@@ -152,8 +152,3 @@ ordered asked f body =
 -- what is asked: a view, whatever its body is, or a command
 abbrev pub request_of : Route → List ℕ → List ℕ → Result Request FieldName
 request_of asked ids body = option_map_or (λ seen. Ok (request.View seen)) (view_of asked ids) (ordered asked (slice_index ids 0) body)
-
--- what can be asked
-abbrev pub IsRequest : Request → Type 0
-IsRequest (request.View seen) = ⊤
-IsRequest (request.Command number c) = (1 ≤ number) × (number ≤ 9223372036854775807) × IsCommand c

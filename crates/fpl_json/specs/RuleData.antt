@@ -63,6 +63,10 @@ abbrev pub with_kept : Option (List ℕ × ℕ) → Members → Members
 with_kept None ms = ms
 with_kept (Some kept) ms = put kept.0 (count kept.1) ms
 
+-- the members of a refusal by this rule
+abbrev pub refusal_members : Rule → Members
+refusal_members r = with_kept (kept_of r) (member (codes "error") (string (codes "rule")) (member (codes "rule") (count (number_of r)) no_members))
+
 -- a refusal by this rule
 abbrev pub rule_data : Rule → Data
-rule_data r = object (with_kept (kept_of r) (member (codes "error") (string (codes "rule")) (member (codes "rule") (count (number_of r)) no_members)))
+rule_data r = object (refusal_members r)

@@ -1,5 +1,5 @@
 -- The targets that are served, and what is served there.
-use Rattle.std.specs.Prelude.{◌≡◌, ◌⊎◌, ◌≤◌, ℕ, zero, suc, List, [], ◌∷◌, Option, Some, None, Result, Ok, Err, codes, Bool, true, false, ◌==◌, length, drop, slice_index, if◌then◌else◌}
+use Rattle.std.specs.Prelude.{◌≡◌, ◌⊎◌, ◌≤◌, ℕ, zero, suc, List, [], ◌∷◌, Option, Some, None, Result, Ok, Err, codes, Bool, true, false, ◌==◌, length, drop, if◌then◌else◌}
 use Rattle.std.specs.Fmt.{decimal}
 use Rattle.std.specs.Str.{IsUtf8}
 use Rattle.std.specs.Str.{bytes_eq}
@@ -48,8 +48,8 @@ IsId segment id = (id ≤ 4294967295) × (segment ≡ decimal id)
 -- the ids of a target: its second segment, or its second and its fourth; else 0
 abbrev pub AreIds : Ids → List ℕ → List ℕ → Type 0
 AreIds ids.None target ns = ns ≡ 0 ∷ 0 ∷ []
-AreIds ids.One target ns = IsId (segment_at 1 target) (slice_index ns 0) × (slice_index ns 1 ≡ 0)
-AreIds ids.Two target ns = IsId (segment_at 1 target) (slice_index ns 0) × IsId (segment_at 3 target) (slice_index ns 1)
+AreIds ids.One target ns = (a : ℕ) × IsId (segment_at 1 target) a × (ns ≡ a ∷ 0 ∷ [])
+AreIds ids.Two target ns = (a b : ℕ) × IsId (segment_at 1 target) a × IsId (segment_at 3 target) b × (ns ≡ a ∷ b ∷ [])
 
 -- The table.
 
@@ -119,3 +119,7 @@ abbrev pub IsFound : List ℕ → List ℕ → Found → Type 0
 IsFound method target (found.Route route ns) = (place : Place) × Fits place target ns × (route_at place method ≡ Some route)
 IsFound method target found.Method = (place : Place) × (ns : List ℕ) × Fits place target ns × (route_at place method ≡ None)
 IsFound method target found.Unknown = (place : Place) (ns : List ℕ) → Fits place target ns → ⊥
+
+-- a method and a target ask for one thing
+abbrev pub OneFound : Type 0
+OneFound = (method target : List ℕ) (a b : Found) → IsFound method target a → IsFound method target b → a ≡ b

@@ -1,8 +1,5 @@
 // Answers and their exact texts, each with its status in front.
-use crate::{
-    answer_text, bytes_text, caller_text, key_text, malformed_text, memory_text, method_text,
-    unknown_text,
-};
+use crate::{answer_text, caller_text, key_text, malformed_text, method_text, unknown_text};
 use fpl_base::{
     ClubId, CupId, EntryId, FixtureId, Gw, LeagueId, Moment, Name, PlayerId, Position, RecordKey,
     Rule, Tenths,
@@ -158,6 +155,49 @@ fn a_season_is_shown(rt: HostRuntime) -> Result<(), Fail> {
     Ok(())
 }
 
+fn long_and_short_names(alloc: Global) -> Result<Clubs, Fail> {
+    let mut clubs = Clubs::new(alloc);
+    for (number, text) in [
+        (1, r#"a"b\c"#),
+        (12, "Ødegaard"),
+        (123, r#"Wolverhampton "Wolves" 1877"#),
+        (255, "A name that is longer than any vector"),
+    ] {
+        clubs.push((club(number)?, name(alloc, text.as_bytes())?))?;
+    }
+    Ok(clubs)
+}
+
+// Names with and without a quotation mark or a backslash, and moments of each length.
+#[test]
+fn a_season_of_odd_names_is_shown(rt: HostRuntime) -> Result<(), Fail> {
+    let mut deadlines = Moments::new(rt.alloc());
+    for number in [
+        0,
+        59,
+        5400,
+        86_399,
+        10_000_000,
+        100_000_000,
+        1_691_775_000,
+        253_402_300_799,
+    ] {
+        deadlines.push(moment(number)?)?;
+    }
+    let answer = Answer::Shown(Shown::Season(ShownSeason {
+        clubs: long_and_short_names(rt.alloc())?,
+        deadlines,
+        locked: 19,
+        split: 20,
+    }));
+    let line = line_of(rt.alloc(), &answer)?;
+    assert_eq!(rt;
+        line.as_str(),
+        r#"200 {"clubs":[{"id":1,"name":"a\"b\\c"},{"id":12,"name":"Ødegaard"},{"id":123,"name":"Wolverhampton \"Wolves\" 1877"},{"id":255,"name":"A name that is longer than any vector"}],"deadlines":[0,59,5400,86399,10000000,100000000,1691775000,253402300799],"locked":19,"split":20}"#
+    );
+    Ok(())
+}
+
 fn a_player(alloc: Global, text: &[u8]) -> Result<Answer, Fail> {
     Ok(Answer::Shown(Shown::Player(Player {
         id: player(7)?,
@@ -248,6 +288,51 @@ fn a_finished_fixture_is_shown(rt: HostRuntime) -> Result<(), Fail> {
     Ok(())
 }
 
+fn long_and_short_lines(alloc: Global) -> Result<ShownLines, Fail> {
+    let mut lines = ShownLines::new(alloc);
+    for (number, points, bps, bonus) in [
+        (4, -7, -12, 0),
+        (23, 0, 9, 1),
+        (340, 10, 99, 2),
+        (4050, 100, 108, 3),
+        (56_007, -10, -345, 0),
+        (600_890, 999, 1000, 0),
+        (999_999, -2_147_483_648, 2_147_483_647, 255),
+    ] {
+        lines.push(ShownLine {
+            player: player(number)?,
+            points,
+            bps,
+            bonus,
+        })?;
+    }
+    Ok(lines)
+}
+
+// Numbers of each length, and below 0.
+#[test]
+fn numbers_of_all_lengths_are_shown(rt: HostRuntime) -> Result<(), Fail> {
+    let answer = a_fixture(Some(gameweek(38)?), long_and_short_lines(rt.alloc())?)?;
+    let line = line_of(rt.alloc(), &answer)?;
+    let mut want = String::from_str(
+        rt.alloc(),
+        r#"200 {"away":2,"finished":true,"gameweek":38,"home":1,"id":1,"kickoff":5400,"lines":["#,
+    )?;
+    for shown in [
+        r#"{"bonus":0,"bps":-12,"player":4,"points":-7},"#,
+        r#"{"bonus":1,"bps":9,"player":23,"points":0},"#,
+        r#"{"bonus":2,"bps":99,"player":340,"points":10},"#,
+        r#"{"bonus":3,"bps":108,"player":4050,"points":100},"#,
+        r#"{"bonus":0,"bps":-345,"player":56007,"points":-10},"#,
+        r#"{"bonus":0,"bps":1000,"player":600890,"points":999},"#,
+        r#"{"bonus":255,"bps":2147483647,"player":999999,"points":-2147483648}]}"#,
+    ] {
+        want.push_str(shown)?;
+    }
+    assert_eq!(rt; line.as_str(), want.as_str());
+    Ok(())
+}
+
 #[test]
 fn a_fixture_without_a_gameweek_is_shown(rt: HostRuntime) -> Result<(), Fail> {
     let answer = a_fixture(None, ShownLines::new(rt.alloc()))?;
@@ -276,8 +361,6 @@ fn fixed_texts_say_one_word(rt: HostRuntime) -> Result<(), Fail> {
         (caller_text(), r#"{"error":"caller"}"#),
         (unknown_text(), r#"{"error":"unknown"}"#),
         (method_text(), r#"{"error":"method"}"#),
-        (memory_text(), r#"{"error":"memory"}"#),
-        (bytes_text(), r#"{"error":"bytes"}"#),
     ] {
         assert_eq!(rt; text, want.as_bytes());
     }

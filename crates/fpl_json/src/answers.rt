@@ -1,16 +1,17 @@
 // Answers: the status and the body of each.
-ghost use Rattle.std.specs.Prelude.{◌≡◌, IfOk, string_bytes};
-ghost use Rattle.serde_json.specs.View.{view};
+#![tactic(auto, unfolding(serde_json::proofs::OnLiterals::serde_json_on_literals))]
+
+ghost use Rattle.std.specs.Prelude.{◌≡◌, ◌≤◌, ◌++◌, codes, decimal, length, IfOk};
+ghost use Rattle.json.specs.Filled.{Placed};
 ghost use Rattle.serde_json.specs.Written.{compact_text};
 ghost use Rattle.fpl_json.specs.Answers.{answer_data, damaged_data, done_data, done_status, status_of};
 
-use crate::rules::rule_value;
-use crate::shown_values::shown_value;
-use crate::texts::error_value;
+use crate::place::{place, place_count, zeros};
+use crate::rules::rule_text;
+use crate::shown::shown_text;
 use fpl_base::{Memory, RecordKey};
 use record_codec::Made;
 use season_host::Answer;
-use serde_json::{Value, json};
 use std::alloc::{AllocError, Global};
 
 /// What goes back to a caller: the status of HTTP, and a body of JSON without spaces whose members stand in the
@@ -27,11 +28,8 @@ pub fn answer_text(alloc: Global, answer: &Answer) -> Result<Reply, Memory>
     ensures body { IfOk result (λ reply. reply.body.items ≡ compact_text (answer_data answer.now)) }
 {
     let status = status(answer);
-    let body = answer_json(alloc, answer)?;
-    Ok(Reply {
-        status,
-        body: body.into_bytes(),
-    })
+    let body = answer_body(alloc, answer)?;
+    Ok(Reply { status, body })
 }
 
 fn status(answer: &Answer) -> u16
@@ -59,45 +57,90 @@ fn status_of_done(made: Made) -> u16
     }
 }
 
-fn answer_json(alloc: Global, answer: &Answer) -> Result<String, AllocError>
-    ensures { IfOk result (λ s. string_bytes s ≡ compact_text (answer_data answer.now)) }
-{
-    answer_value(alloc, answer)?.to_string(alloc)
-}
-
-fn answer_value(alloc: Global, answer: &Answer) -> Result<Value, AllocError>
-    ensures { IfOk result (λ v. view v ≡ answer_data answer.now) }
+fn answer_body(alloc: Global, answer: &Answer) -> Result<Vec<u8>, AllocError>
+    ensures { IfOk result (λ body. body.items ≡ compact_text (answer_data answer.now)) }
 {
     match answer {
-        Answer::Done { number, made } => done_value(alloc, *number, *made),
-        Answer::Shown(shown) => shown_value(alloc, shown),
-        Answer::Rule(rule) => rule_value(alloc, *rule),
-        Answer::Unknown => error_value(alloc, "unknown"),
-        Answer::Keeper => error_value(alloc, "keeper"),
-        Answer::Damaged(key) => damaged_value(alloc, *key),
-        Answer::Memory => error_value(alloc, "memory"),
+        Answer::Done { number, made } => done_text(alloc, *number, *made),
+        Answer::Shown(shown) => shown_text(alloc, shown),
+        Answer::Rule(rule) => rule_text(alloc, rule),
+        Answer::Unknown => Vec::from_slice(alloc, br#"{"error":"unknown"}"#),
+        Answer::Keeper => Vec::from_slice(alloc, br#"{"error":"keeper"}"#),
+        Answer::Damaged(key) => damaged_text(alloc, *key),
+        Answer::Memory => Vec::from_slice(alloc, br#"{"error":"memory"}"#),
     }
 }
 
-fn done_value(alloc: Global, number: u64, made: Made) -> Result<Value, AllocError>
-    ensures { IfOk result (λ v. view v ≡ done_data number made) }
+fn done_text(alloc: Global, number: u64, made: Made) -> Result<Vec<u8>, AllocError>
+    ensures { IfOk result (λ text. text.items ≡ compact_text (done_data number made)) }
+{
+    let mut text = zeros(alloc, 64)?;
+    let end = place_done(text.as_mut_slice(), number, made);
+    text.truncate(end);
+    Ok(text)
+}
+
+fn place_done(block: &mut [u8], number: u64, made: Made) -> usize
+    requires { 64 ≤ length block.old }
+    ensures { Placed block.old block.new 0 (compact_text (done_data number made)) result }
 {
     match made {
-        Made::Nothing => json!(in alloc; {"done": number}),
-        Made::Entry(entry) => json!(in alloc; {"done": number, "entry": entry.get()}),
-        Made::League(league) => json!(in alloc; {"done": number, "league": league.get()}),
-        Made::Cup(cup) => json!(in alloc; {"cup": cup.get(), "done": number}),
+        Made::Nothing => {
+            let at = place(block, 0, br#"{"done":"#);
+            let at = place_count(block, at, number);
+            place(block, at, b"}")
+        }
+        Made::Entry(entry) => place_made(block, number, br#","entry":"#, u64::from(entry.get())),
+        Made::League(league) => place_made(
+            block,
+            number,
+            br#","league":"#,
+            u64::from(league.get()),
+        ),
+        Made::Cup(cup) => {
+            let at = place(block, 0, br#"{"cup":"#);
+            let at = place_count(block, at, u64::from(cup.get()));
+            let at = place(block, at, br#","done":"#);
+            let at = place_count(block, at, number);
+            place(block, at, b"}")
+        }
     }
 }
 
-fn damaged_value(alloc: Global, key: RecordKey) -> Result<Value, AllocError>
-    ensures { IfOk result (λ v. view v ≡ damaged_data key) }
+/// What was done, and the number of what it made behind these bytes.
+#[inline(always)]
+fn place_made(block: &mut [u8], number: u64, name: &[u8], made: u64) -> usize
+    requires short { length name.now ≤ 12 }
+    requires room { 64 ≤ length block.old }
+    ensures { Placed block.old block.new 0 (codes "{\"done\":" ++ (decimal number ++ (name.now ++ (decimal made ++ codes "}")))) result }
 {
-    json!(in alloc; {
-        "a": key.a,
-        "b": key.b,
-        "c": key.c,
-        "error": "damaged",
-        "kind": key.kind
-    })
+    let at = place(block, 0, br#"{"done":"#);
+    let at = place_count(block, at, number);
+    let at = place(block, at, name);
+    let at = place_count(block, at, made);
+    place(block, at, b"}")
+}
+
+fn damaged_text(alloc: Global, key: RecordKey) -> Result<Vec<u8>, AllocError>
+    ensures { IfOk result (λ text. text.items ≡ compact_text (damaged_data key)) }
+{
+    let mut text = zeros(alloc, 128)?;
+    let end = place_damaged(text.as_mut_slice(), key);
+    text.truncate(end);
+    Ok(text)
+}
+
+fn place_damaged(block: &mut [u8], key: RecordKey) -> usize
+    requires { 128 ≤ length block.old }
+    ensures { Placed block.old block.new 0 (compact_text (damaged_data key)) result }
+{
+    let at = place(block, 0, br#"{"a":"#);
+    let at = place_count(block, at, u64::from(key.a));
+    let at = place(block, at, br#","b":"#);
+    let at = place_count(block, at, u64::from(key.b));
+    let at = place(block, at, br#","c":"#);
+    let at = place_count(block, at, u64::from(key.c));
+    let at = place(block, at, br#","error":"damaged","kind":"#);
+    let at = place_count(block, at, u64::from(key.kind));
+    place(block, at, b"}")
 }

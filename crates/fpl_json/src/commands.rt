@@ -1,19 +1,19 @@
 // The commands, each by its members in their order.
 ghost use Rattle.std.specs.Prelude.{◌≢◌, IfOk};
-ghost use Rattle.serde_json.specs.View.{view};
 ghost use Rattle.season_host.specs.Commands.{IsCommand};
 ghost use Rattle.fpl_json.specs.Members.{Gives};
 ghost use Rattle.fpl_json.specs.Requests.{command_of, deadline, drop, finish, fixture, gone, guest, move, player, player_club, price, put, season, sheet};
+ghost use Rattle.fpl_json.specs.Trees.{view};
 
 use crate::lists::{clubs, deadlines, lines, player_line};
 use crate::members::{
     club_id, fixture_id, gameweek, moment, place, player_id, position, price, title, truth, whole,
     wrong,
 };
+use crate::tree::Tree;
 use crate::{FieldName, ReadFault, Route};
 use fpl_base::ClubId;
 use record_codec::Command;
-use serde_json::Value;
 use std::alloc::Global;
 
 /// The command of a route at a fixture, where its target names one. A view orders nothing.
@@ -21,7 +21,7 @@ pub(crate) fn read_command(
     alloc: Global,
     route: Route,
     fixture_there: u32,
-    value: &Value,
+    value: &Tree<'_>,
 ) -> Result<Command, ReadFault>
     ensures gives { Gives result (command_of route fixture_there (view value.now)) }
     ensures readable { IfOk result IsCommand }
@@ -45,7 +45,7 @@ pub(crate) fn read_command(
     }
 }
 
-fn season(alloc: Global, value: &Value) -> Result<Command, ReadFault>
+fn season(alloc: Global, value: &Tree<'_>) -> Result<Command, ReadFault>
     ensures gives { Gives result (season (view value.now)) }
     ensures readable { IfOk result IsCommand }
 {
@@ -60,7 +60,7 @@ fn season(alloc: Global, value: &Value) -> Result<Command, ReadFault>
     })
 }
 
-fn deadline(value: &Value) -> Result<Command, ReadFault>
+fn deadline(value: &Tree<'_>) -> Result<Command, ReadFault>
     ensures gives { Gives result (deadline (view value.now)) }
     ensures readable { IfOk result IsCommand }
 {
@@ -69,7 +69,7 @@ fn deadline(value: &Value) -> Result<Command, ReadFault>
     Ok(Command::Deadline { gameweek, deadline })
 }
 
-fn player(alloc: Global, value: &Value) -> Result<Command, ReadFault>
+fn player(alloc: Global, value: &Tree<'_>) -> Result<Command, ReadFault>
     ensures gives { Gives result (player (view value.now)) }
     ensures readable { IfOk result IsCommand }
 {
@@ -87,7 +87,7 @@ fn player(alloc: Global, value: &Value) -> Result<Command, ReadFault>
     })
 }
 
-fn new_price(value: &Value) -> Result<Command, ReadFault>
+fn new_price(value: &Tree<'_>) -> Result<Command, ReadFault>
     ensures gives { Gives result (price (view value.now)) }
     ensures readable { IfOk result IsCommand }
 {
@@ -96,7 +96,7 @@ fn new_price(value: &Value) -> Result<Command, ReadFault>
     Ok(Command::Price { player, price })
 }
 
-fn new_club(value: &Value) -> Result<Command, ReadFault>
+fn new_club(value: &Tree<'_>) -> Result<Command, ReadFault>
     ensures gives { Gives result (player_club (view value.now)) }
     ensures readable { IfOk result IsCommand }
 {
@@ -105,7 +105,7 @@ fn new_club(value: &Value) -> Result<Command, ReadFault>
     Ok(Command::Club { player, club })
 }
 
-fn gone(value: &Value) -> Result<Command, ReadFault>
+fn gone(value: &Tree<'_>) -> Result<Command, ReadFault>
     ensures gives { Gives result (gone (view value.now)) }
     ensures readable { IfOk result IsCommand }
 {
@@ -114,7 +114,7 @@ fn gone(value: &Value) -> Result<Command, ReadFault>
     Ok(Command::Gone { player, gone })
 }
 
-fn fixture(value: &Value) -> Result<Command, ReadFault>
+fn fixture(value: &Tree<'_>) -> Result<Command, ReadFault>
     ensures gives { Gives result (fixture (view value.now)) }
     ensures readable { IfOk result IsCommand }
 {
@@ -133,7 +133,7 @@ fn fixture(value: &Value) -> Result<Command, ReadFault>
 }
 
 // The guest club, which is not the home club.
-fn guest(value: &Value, home: ClubId) -> Result<ClubId, ReadFault>
+fn guest(value: &Tree<'_>, home: ClubId) -> Result<ClubId, ReadFault>
     ensures gives { Gives result (guest home (view value.now)) }
     ensures other { IfOk result (λ away. home ≢ away) }
 {
@@ -145,7 +145,7 @@ fn guest(value: &Value, home: ClubId) -> Result<ClubId, ReadFault>
     }
 }
 
-fn moved(fixture: u32, value: &Value) -> Result<Command, ReadFault>
+fn moved(fixture: u32, value: &Tree<'_>) -> Result<Command, ReadFault>
     ensures gives { Gives result (move fixture (view value.now)) }
     ensures readable { IfOk result IsCommand }
 {
@@ -158,7 +158,7 @@ fn moved(fixture: u32, value: &Value) -> Result<Command, ReadFault>
     })
 }
 
-fn sheet(alloc: Global, fixture: u32, value: &Value) -> Result<Command, ReadFault>
+fn sheet(alloc: Global, fixture: u32, value: &Tree<'_>) -> Result<Command, ReadFault>
     ensures gives { Gives result (sheet fixture (view value.now)) }
     ensures readable { IfOk result IsCommand }
 {
@@ -171,7 +171,7 @@ fn sheet(alloc: Global, fixture: u32, value: &Value) -> Result<Command, ReadFaul
     })
 }
 
-fn put(alloc: Global, fixture: u32, value: &Value) -> Result<Command, ReadFault>
+fn put(alloc: Global, fixture: u32, value: &Tree<'_>) -> Result<Command, ReadFault>
     ensures gives { Gives result (put fixture (view value.now)) }
     ensures readable { IfOk result IsCommand }
 {
@@ -183,7 +183,7 @@ fn put(alloc: Global, fixture: u32, value: &Value) -> Result<Command, ReadFault>
     })
 }
 
-fn dropped(fixture: u32, value: &Value) -> Result<Command, ReadFault>
+fn dropped(fixture: u32, value: &Tree<'_>) -> Result<Command, ReadFault>
     ensures gives { Gives result (drop fixture (view value.now)) }
     ensures readable { IfOk result IsCommand }
 {
@@ -191,7 +191,7 @@ fn dropped(fixture: u32, value: &Value) -> Result<Command, ReadFault>
     Ok(Command::Drop { fixture, player })
 }
 
-fn finished(fixture: u32, value: &Value) -> Result<Command, ReadFault>
+fn finished(fixture: u32, value: &Tree<'_>) -> Result<Command, ReadFault>
     ensures gives { Gives result (finish fixture (view value.now)) }
     ensures readable { IfOk result IsCommand }
 {

@@ -7,22 +7,29 @@ mod answer_tests;
 mod answers;
 mod commands;
 mod field;
+mod laws;
 mod lists;
 mod members;
+mod named;
+mod number;
+mod parse;
+mod place;
 mod requests;
 mod route;
 mod routes;
 mod rules;
-mod shown_values;
+mod shown;
 #[cfg(test)]
 mod tests;
 mod texts;
+mod tree;
+mod written;
 
 pub use answers::{Reply, answer_text};
 pub use field::{FieldName, ReadFault};
+pub use json::Scratch;
+pub use laws::targets_ask_one_thing;
 pub use requests::read_request;
 pub use route::{Found, Route};
 pub use routes::Routes;
-pub use texts::{
-    bytes_text, caller_text, key_text, malformed_text, memory_text, method_text, unknown_text,
-};
+pub use texts::{caller_text, key_text, malformed_text, method_text, unknown_text};

@@ -1,6 +1,5 @@
 // Readers of the lists that commands hold.
 ghost use Rattle.std.specs.Prelude.{◌≡◌, ◌≤◌, ◌==◌, ◌&&◌, IfOk, Result, length, nat_le};
-ghost use Rattle.serde_json.specs.View.{view, items_view};
 ghost use Rattle.std.specs.List.{list_any};
 ghost use Rattle.season_host.specs.Commands.{club_ids};
 ghost use Rattle.rule_book.specs.Ranks.{AllDiffer};
@@ -8,13 +7,14 @@ ghost use Rattle.fpl_json.specs.declared.field.FieldName.{FieldName};
 ghost use Rattle.fpl_json.specs.declared.field.FieldName.TheVariants as field;
 ghost use Rattle.fpl_json.specs.Members.{Gives, GivesItems, each, entry, under};
 ghost use Rattle.fpl_json.specs.Requests.{club, clubs, deadlines, differ, line, lines, player_line};
+ghost use Rattle.fpl_json.specs.Trees.{items_view, view};
 
 use crate::members::{club_id, entry, items, moment_entry, player_id, title, wrong};
+use crate::tree::Tree;
 use crate::{FieldName, ReadFault};
 use fpl_base::{ClubId, Name, PlayerId};
 use record_codec::{Clubs, Lines, Moments};
 use rule_book::Line;
-use serde_json::Value;
 use std::alloc::Global;
 
 // Whatever is wrong inside of a list, the list is named.
@@ -35,7 +35,7 @@ fn is_long(count: usize, low: usize, high: usize) -> bool
 }
 
 /// The deadlines of a season.
-pub(crate) fn deadlines(alloc: Global, value: &Value) -> Result<Moments, ReadFault>
+pub(crate) fn deadlines(alloc: Global, value: &Tree<'_>) -> Result<Moments, ReadFault>
     ensures gives { Gives result (deadlines (view value.now)) }
     ensures long { IfOk result (λ ms. (1 ≤ length ms) × (length ms ≤ 38)) }
 {
@@ -48,7 +48,7 @@ pub(crate) fn deadlines(alloc: Global, value: &Value) -> Result<Moments, ReadFau
     }
 }
 
-fn each_moment(alloc: Global, values: &[Value]) -> Result<Moments, ReadFault>
+fn each_moment(alloc: Global, values: &[Tree<'_>]) -> Result<Moments, ReadFault>
     ensures { Gives result (each (entry field.Deadlines 0 253402300799) (items_view values.now)) }
 {
     let mut list = Moments::new(alloc);
@@ -60,7 +60,7 @@ fn each_moment(alloc: Global, values: &[Value]) -> Result<Moments, ReadFault>
 }
 
 /// The clubs of a season.
-pub(crate) fn clubs(alloc: Global, value: &Value) -> Result<Clubs, ReadFault>
+pub(crate) fn clubs(alloc: Global, value: &Tree<'_>) -> Result<Clubs, ReadFault>
     ensures gives { Gives result (clubs (view value.now)) }
     ensures long { IfOk result (λ cs. (1 ≤ length cs) × (length cs ≤ 20)) }
     ensures differ { IfOk result (λ cs. AllDiffer (club_ids cs)) }
@@ -74,7 +74,7 @@ pub(crate) fn clubs(alloc: Global, value: &Value) -> Result<Clubs, ReadFault>
     }
 }
 
-fn each_club(alloc: Global, values: &[Value]) -> Result<Clubs, ReadFault>
+fn each_club(alloc: Global, values: &[Tree<'_>]) -> Result<Clubs, ReadFault>
     ensures { Gives result (each club (items_view values.now)) }
 {
     let mut list = Clubs::new(alloc);
@@ -85,7 +85,7 @@ fn each_club(alloc: Global, values: &[Value]) -> Result<Clubs, ReadFault>
     Ok(list)
 }
 
-fn club(alloc: Global, value: &Value) -> Result<(ClubId, Name), ReadFault>
+fn club(alloc: Global, value: &Tree<'_>) -> Result<(ClubId, Name), ReadFault>
     ensures { Gives result (club (view value.now)) }
 {
     let id = club_id(value, FieldName::Id)?;
@@ -115,7 +115,7 @@ fn has_id(clubs: &[(ClubId, Name)], id: ClubId) -> bool
 }
 
 /// A player with his figures.
-pub(crate) fn player_line(alloc: Global, value: &Value) -> Result<(PlayerId, Line), ReadFault>
+pub(crate) fn player_line(alloc: Global, value: &Tree<'_>) -> Result<(PlayerId, Line), ReadFault>
     ensures { Gives result (player_line (view value.now)) }
 {
     let player = player_id(value, FieldName::Player)?;
@@ -124,7 +124,7 @@ pub(crate) fn player_line(alloc: Global, value: &Value) -> Result<(PlayerId, Lin
 }
 
 #[tactic(auto, using(crate::proofs::EntryLemmas::under_entry))]
-fn line(alloc: Global, value: &Value) -> Result<Line, ReadFault>
+fn line(alloc: Global, value: &Tree<'_>) -> Result<Line, ReadFault>
     ensures { Gives result (line (view value.now)) }
 {
     let values = items(value, FieldName::Figures)?;
@@ -135,10 +135,10 @@ fn line(alloc: Global, value: &Value) -> Result<Line, ReadFault>
     }
 }
 
-fn each_figure(alloc: Global, values: &[Value]) -> Result<Vec<u16>, ReadFault>
+fn each_figure(alloc: Global, values: &[Tree<'_>]) -> Result<Vec<u16>, ReadFault>
     ensures { GivesItems result (each (entry field.Figures 0 65535) (items_view values.now)) }
 {
-    let mut list = Vec::new(alloc);
+    let mut list = Vec::with_capacity(alloc, values.len().min(28))?;
     for value in values {
         let one = entry(value, FieldName::Figures, 0, 65_535)?;
         list.push(one as u16)?;
@@ -147,7 +147,7 @@ fn each_figure(alloc: Global, values: &[Value]) -> Result<Vec<u16>, ReadFault>
 }
 
 /// Players with their figures.
-pub(crate) fn lines(alloc: Global, value: &Value) -> Result<Lines, ReadFault>
+pub(crate) fn lines(alloc: Global, value: &Tree<'_>) -> Result<Lines, ReadFault>
     ensures gives { Gives result (lines (view value.now)) }
     ensures long { IfOk result (λ ls. length ls ≤ 100) }
 {
@@ -160,7 +160,7 @@ pub(crate) fn lines(alloc: Global, value: &Value) -> Result<Lines, ReadFault>
     }
 }
 
-fn each_line(alloc: Global, values: &[Value]) -> Result<Lines, ReadFault>
+fn each_line(alloc: Global, values: &[Tree<'_>]) -> Result<Lines, ReadFault>
     ensures { Gives result (each player_line (items_view values.now)) }
 {
     let mut list = Lines::new(alloc);

@@ -1,12 +1,12 @@
 // Readers of members, each by its name. A fault names the member.
 ghost use Rattle.std.specs.Prelude.{◌≡◌, ◌≤◌, IfOk, Ok, Err, MatchResult};
-ghost use Rattle.serde_json.specs.View.{view, items_view};
 ghost use Rattle.fpl_json.specs.declared.field.ReadFault.TheVariants as fault;
 ghost use Rattle.fpl_json.specs.Members.{Gives, entry, items, moment, number_in, place, place_in, position_in, position_of, text, title, truth, whole};
+ghost use Rattle.fpl_json.specs.Trees.{items_view, view};
 
+use crate::tree::Tree;
 use crate::{FieldName, ReadFault};
 use fpl_base::{ClubId, FixtureId, Gw, Moment, Name, PlayerId, Position};
-use serde_json::Value;
 use std::alloc::Global;
 
 pub(crate) fn wrong(which: FieldName) -> ReadFault
@@ -18,14 +18,19 @@ pub(crate) fn wrong(which: FieldName) -> ReadFault
 // Numbers.
 
 // The whole number that a value is, where it is in the range.
-fn number_in(value: &Value, low: u64, high: u64) -> Option<u64>
+fn number_in(value: &Tree<'_>, low: u64, high: u64) -> Option<u64>
     ensures { result ≡ number_in low high (view value.now) }
 {
     let n = value.as_u64()?;
     if low <= n && n <= high { Some(n) } else { None }
 }
 
-pub(crate) fn whole(value: &Value, which: FieldName, low: u64, high: u64) -> Result<u64, ReadFault>
+pub(crate) fn whole(
+    value: &Tree<'_>,
+    which: FieldName,
+    low: u64,
+    high: u64,
+) -> Result<u64, ReadFault>
     ensures gives { Gives result (whole which low high (view value.now)) }
     ensures low { IfOk result (λ n. low ≤ n) }
     ensures high { IfOk result (λ n. n ≤ high) }
@@ -36,42 +41,42 @@ pub(crate) fn whole(value: &Value, which: FieldName, low: u64, high: u64) -> Res
     }
 }
 
-pub(crate) fn club_id(value: &Value, which: FieldName) -> Result<ClubId, ReadFault>
+pub(crate) fn club_id(value: &Tree<'_>, which: FieldName) -> Result<ClubId, ReadFault>
     ensures { Gives result (whole which 1 255 (view value.now)) }
 {
     let n = whole(value, which, 1, 255)?;
     ClubId::new(n as u8).ok_or(wrong(which))
 }
 
-pub(crate) fn player_id(value: &Value, which: FieldName) -> Result<PlayerId, ReadFault>
+pub(crate) fn player_id(value: &Tree<'_>, which: FieldName) -> Result<PlayerId, ReadFault>
     ensures { Gives result (whole which 1 999999 (view value.now)) }
 {
     let n = whole(value, which, 1, 999_999)?;
     PlayerId::new(n as u32).ok_or(wrong(which))
 }
 
-pub(crate) fn fixture_id(value: &Value, which: FieldName) -> Result<FixtureId, ReadFault>
+pub(crate) fn fixture_id(value: &Tree<'_>, which: FieldName) -> Result<FixtureId, ReadFault>
     ensures { Gives result (whole which 1 999999 (view value.now)) }
 {
     let n = whole(value, which, 1, 999_999)?;
     FixtureId::new(n as u32).ok_or(wrong(which))
 }
 
-pub(crate) fn gameweek(value: &Value, which: FieldName) -> Result<Gw, ReadFault>
+pub(crate) fn gameweek(value: &Tree<'_>, which: FieldName) -> Result<Gw, ReadFault>
     ensures { Gives result (whole which 1 38 (view value.now)) }
 {
     let n = whole(value, which, 1, 38)?;
     Gw::new(n as u8).ok_or(wrong(which))
 }
 
-pub(crate) fn price(value: &Value, which: FieldName) -> Result<u16, ReadFault>
+pub(crate) fn price(value: &Tree<'_>, which: FieldName) -> Result<u16, ReadFault>
     ensures { Gives result (whole which 0 65535 (view value.now)) }
 {
     let n = whole(value, which, 0, 65_535)?;
     Ok(n as u16)
 }
 
-pub(crate) fn moment(value: &Value, which: FieldName) -> Result<Moment, ReadFault>
+pub(crate) fn moment(value: &Tree<'_>, which: FieldName) -> Result<Moment, ReadFault>
     ensures { Gives result (moment which (view value.now)) }
 {
     let n = whole(value, which, 0, 253_402_300_799)?;
@@ -79,7 +84,7 @@ pub(crate) fn moment(value: &Value, which: FieldName) -> Result<Moment, ReadFaul
 }
 
 /// The moment that a value is, as an item of the list of this name.
-pub(crate) fn moment_entry(value: &Value, list: FieldName) -> Result<Moment, ReadFault>
+pub(crate) fn moment_entry(value: &Tree<'_>, list: FieldName) -> Result<Moment, ReadFault>
     ensures { Gives result (entry list 0 253402300799 (view value.now)) }
 {
     let n = entry(value, list, 0, 253_402_300_799)?;
@@ -87,7 +92,12 @@ pub(crate) fn moment_entry(value: &Value, list: FieldName) -> Result<Moment, Rea
 }
 
 /// The number that a value is, as an item of the list of this name.
-pub(crate) fn entry(value: &Value, list: FieldName, low: u64, high: u64) -> Result<u64, ReadFault>
+pub(crate) fn entry(
+    value: &Tree<'_>,
+    list: FieldName,
+    low: u64,
+    high: u64,
+) -> Result<u64, ReadFault>
     ensures gives { Gives result (entry list low high (view value.now)) }
     ensures low { IfOk result (λ n. low ≤ n) }
     ensures high { IfOk result (λ n. n ≤ high) }
@@ -96,7 +106,7 @@ pub(crate) fn entry(value: &Value, list: FieldName, low: u64, high: u64) -> Resu
 }
 
 /// A gameweek, or null for none.
-pub(crate) fn place(value: &Value, which: FieldName) -> Result<Option<Gw>, ReadFault>
+pub(crate) fn place(value: &Tree<'_>, which: FieldName) -> Result<Option<Gw>, ReadFault>
     ensures { Gives result (place which (view value.now)) }
 {
     match value.get(which.name()) {
@@ -105,7 +115,7 @@ pub(crate) fn place(value: &Value, which: FieldName) -> Result<Option<Gw>, ReadF
     }
 }
 
-fn place_in(value: &Value) -> Option<Option<Gw>>
+fn place_in(value: &Tree<'_>) -> Option<Option<Gw>>
     ensures { result ≡ place_in (view value.now) }
 {
     if value.is_null() {
@@ -117,7 +127,7 @@ fn place_in(value: &Value) -> Option<Option<Gw>>
 
 // Other kinds.
 
-pub(crate) fn truth(value: &Value, which: FieldName) -> Result<bool, ReadFault>
+pub(crate) fn truth(value: &Tree<'_>, which: FieldName) -> Result<bool, ReadFault>
     ensures { Gives result (truth which (view value.now)) }
 {
     match value.get(which.name()) {
@@ -126,7 +136,7 @@ pub(crate) fn truth(value: &Value, which: FieldName) -> Result<bool, ReadFault>
     }
 }
 
-fn text(value: &Value, which: FieldName) -> Result<&str, ReadFault>
+fn text<'a>(value: &Tree<'a>, which: FieldName) -> Result<&'a str, ReadFault>
     ensures { MatchResult result (λ s. text which (view value.now) ≡ Ok s.now) (λ e. (e ≡ fault.Malformed which) × (text which (view value.now) ≡ Err which)) }
 {
     match value.get(which.name()) {
@@ -136,7 +146,7 @@ fn text(value: &Value, which: FieldName) -> Result<&str, ReadFault>
 }
 
 /// A name.
-pub(crate) fn title(alloc: Global, value: &Value, which: FieldName) -> Result<Name, ReadFault>
+pub(crate) fn title(alloc: Global, value: &Tree<'_>, which: FieldName) -> Result<Name, ReadFault>
     ensures { Gives result (title which (view value.now)) }
 {
     let text = text(value, which)?;
@@ -146,7 +156,7 @@ pub(crate) fn title(alloc: Global, value: &Value, which: FieldName) -> Result<Na
     }
 }
 
-pub(crate) fn position(value: &Value, which: FieldName) -> Result<Position, ReadFault>
+pub(crate) fn position(value: &Tree<'_>, which: FieldName) -> Result<Position, ReadFault>
     ensures { Gives result (position_in which (view value.now)) }
 {
     let text = text(value, which)?;
@@ -160,7 +170,10 @@ fn position_of(letter: &[u8]) -> Option<Position>
 }
 
 /// The items of a list.
-pub(crate) fn items(value: &Value, which: FieldName) -> Result<&[Value], ReadFault>
+pub(crate) fn items<'t, 'a>(
+    value: &'t Tree<'a>,
+    which: FieldName,
+) -> Result<&'t [Tree<'a>], ReadFault>
     ensures { MatchResult result (λ xs. items which (view value.now) ≡ Ok (items_view xs.now)) (λ e. (e ≡ fault.Malformed which) × (items which (view value.now) ≡ Err which)) }
 {
     let Some(one) = value.get(which.name()) else {

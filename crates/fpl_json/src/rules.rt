@@ -1,40 +1,54 @@
 // Refusals by a rule of the game.
-ghost use Rattle.std.specs.Prelude.{◌≡◌, IfOk, option_map};
-ghost use Rattle.serde_json.specs.Data.{object, string, number, unsigned, member, no_members};
-ghost use Rattle.serde_json.specs.View.{view, members_view};
-ghost use Rattle.fpl_json.specs.RuleData.{kept_of, rule_data};
+ghost use Rattle.std.specs.Prelude.{◌≡◌, IfOk};
+ghost use Rattle.serde_json.specs.Data.{object};
+ghost use Rattle.serde_json.specs.Written.{compact_text};
+ghost use Rattle.fpl_base.specs.RuleNumbers.{number_of};
+ghost use Rattle.fpl_json.specs.KeptPlaces.{members_with};
+ghost use Rattle.fpl_json.specs.RuleData.{refusal_members, rule_data};
+ghost use Rattle.fpl_json.specs.Tokens.{Appends, tokens_of};
 
+use crate::written::{write_count, write_text};
 use fpl_base::Rule;
-use serde_json::{Map, Value};
+use json::Writer;
 use std::alloc::{AllocError, Global};
 
-/// The value that a refusal keeps, under its name.
-fn kept(rule: Rule) -> Option<(&'static str, u64)>
-    ensures { option_map (λ kept. (kept.0.now, kept.1)) result ≡ kept_of rule }
+/// The value that a refusal keeps, under its name, and where that stands among the names of the other members.
+#[derive(Drop)]
+enum Kept {
+    Nothing,
+    BeforeError(&'static str, u64),
+    BeforeRule(&'static str, u64),
+    AfterRule(&'static str, u64),
+}
+
+fn kept_by(rule: Rule) -> Kept
+    ensures { members_with result (number_of rule) ≡ refusal_members rule }
 {
     match rule {
-        Rule::NumberGap { last } | Rule::NumberUsed { last } | Rule::NumberOld { last } => Some((
-            "last", last,
-        )),
+        Rule::NumberGap { last } | Rule::NumberUsed { last } | Rule::NumberOld { last } =>
+            Kept::BeforeRule("last", last),
         Rule::DeadlineOrder { gameweek }
         | Rule::DeadlinePassed { gameweek }
         | Rule::ChipUsed { gameweek }
         | Rule::StartPassed { gameweek }
-        | Rule::GameweekFull { gameweek } => Some(("gameweek", u64::from(gameweek.get()))),
+        | Rule::GameweekFull { gameweek } => Kept::BeforeRule(
+            "gameweek",
+            u64::from(gameweek.get()),
+        ),
         Rule::KickoffEarly { fixture }
         | Rule::HasFacts { fixture }
         | Rule::NotLocked { fixture }
-        | Rule::FixtureThere { fixture } => Some(("fixture", u64::from(fixture.get()))),
+        | Rule::FixtureThere { fixture } => Kept::BeforeRule("fixture", u64::from(fixture.get())),
         Rule::PlayerThere { player }
         | Rule::PlayerGone { player }
         | Rule::Twice { player }
         | Rule::NotHeld { player }
         | Rule::Held { player }
         | Rule::PositionSwap { player }
-        | Rule::LineTwice { player } => Some(("player", u64::from(player.get()))),
-        Rule::ClubLimit { club } => Some(("club", u64::from(club.get()))),
-        Rule::OverBudget { short_by } => Some(("short_by", u64::from(short_by))),
-        Rule::LineRange { field } => Some(("field", u64::from(field))),
+        | Rule::LineTwice { player } => Kept::BeforeRule("player", u64::from(player.get())),
+        Rule::ClubLimit { club } => Kept::BeforeError("club", u64::from(club.get())),
+        Rule::OverBudget { short_by } => Kept::AfterRule("short_by", u64::from(short_by)),
+        Rule::LineRange { field } => Kept::BeforeRule("field", u64::from(field)),
         Rule::NoSeason
         | Rule::SeasonThere
         | Rule::SeasonOver
@@ -61,23 +75,52 @@ fn kept(rule: Rule) -> Option<(&'static str, u64)>
         | Rule::KeyThere
         | Rule::PlayersFull
         | Rule::FixturesFull
-        | Rule::CupsFull => None,
+        | Rule::CupsFull => Kept::Nothing,
     }
 }
 
-pub(crate) fn rule_value(alloc: Global, rule: Rule) -> Result<Value, AllocError>
-    ensures { IfOk result (λ v. view v ≡ rule_data rule) }
+/// The text of a refusal.
+pub(crate) fn rule_text(alloc: Global, rule: &Rule) -> Result<Vec<u8>, AllocError>
+    ensures { IfOk result (λ text. text.items ≡ compact_text (rule_data rule.now)) }
 {
-    let mut members = Map::new(alloc);
-    serde_json::put(
-        &mut members,
-        alloc,
-        "error",
-        Value::try_from_str(alloc, "rule")?,
-    )?;
-    serde_json::put(&mut members, alloc, "rule", Value::from(rule.number()))?;
-    if let Some((name, value)) = kept(rule) {
-        serde_json::put(&mut members, alloc, name, Value::from(value))?;
+    let mut out = Writer::new(Vec::with_capacity(alloc, 128)?);
+    write_rule(&mut out, rule)?;
+    Ok(out.into_inner())
+}
+
+fn write_rule(out: &mut Writer, rule: &Rule) -> Result<(), AllocError>
+    ensures { Appends result out.old out.new (tokens_of (rule_data rule.now)) }
+{
+    write_refusal(out, &kept_by(*rule), u64::from(rule.number()))
+}
+
+fn write_refusal(out: &mut Writer, kept: &Kept, number: u64) -> Result<(), AllocError>
+    ensures { Appends result out.old out.new (tokens_of (object (members_with kept.now number))) }
+{
+    out.begin_object()?;
+    match kept {
+        Kept::Nothing => {
+            write_text(out, "error", "rule")?;
+            write_count(out, "rule", number)?;
+            out.end_object()
+        }
+        Kept::BeforeError(name, value) => {
+            write_count(out, name, *value)?;
+            write_text(out, "error", "rule")?;
+            write_count(out, "rule", number)?;
+            out.end_object()
+        }
+        Kept::BeforeRule(name, value) => {
+            write_text(out, "error", "rule")?;
+            write_count(out, name, *value)?;
+            write_count(out, "rule", number)?;
+            out.end_object()
+        }
+        Kept::AfterRule(name, value) => {
+            write_text(out, "error", "rule")?;
+            write_count(out, "rule", number)?;
+            write_count(out, name, *value)?;
+            out.end_object()
+        }
     }
-    Ok(Value::Object(members))
 }

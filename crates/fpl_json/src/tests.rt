@@ -1,4 +1,4 @@
-use crate::{FieldName, Found, ReadFault, Route, Routes, read_request};
+use crate::{FieldName, Found, ReadFault, Route, Routes, Scratch, read_request};
 use fpl_base::{Memory, Position};
 use record_codec::Command;
 use season_host::Request;
@@ -203,9 +203,91 @@ const TWICE: &str =
 const NESTED: &str =
     "[[[[[[[[[[[[[[[[[[[[[[[[[[[[[[[[[[[[[[[[[[[[[[[[[[[[[[[[[[[[[[[[[[[[[[[[[[[[[[[[[[[[[[[[[[[[[[[[[[[[[[[[[[[[[[[[[[[[[[[[[[[[[[[[]]]]]]]]]]]]]]]]]]]]]]]]]]]]]]]]]]]]]]]]]]]]]]]]]]]]]]]]]]]]]]]]]]]]]]]]]]]]]]]]]]]]]]]]]]]]]]]]]]]]]]]]]]]]]]]]]]]]]]]]]]]]]]]]";
 
+#[test]
+fn texts_are_read_as_json_has_them(rt: HostRuntime) {
+    for (body, field) in [
+        (r#"{"\u006eumber":1,"player":1,"price":1}"#, None),
+        (r#" { "number" : 1 , "player" : 1 , "price" : 1 } "#, None),
+        (r#"{"number":1,"player":1,"price":1,"x":1e308}"#, None),
+        (
+            r#"{"number":9223372036854775807,"player":1,"price":1}"#,
+            None,
+        ),
+        (NESTED_127, None),
+        (NESTED_128, Some(FieldName::Body)),
+        ("", Some(FieldName::Body)),
+        (
+            r#"{"number":1,"player":1,"price":1,"x":1e999}"#,
+            Some(FieldName::Body),
+        ),
+        (
+            r#"{"number":1,"player":1,"price":1,"x":[{"y":-1e999}]}"#,
+            Some(FieldName::Body),
+        ),
+        (
+            r#"{"number":1,"player":1,"price":1}{}"#,
+            Some(FieldName::Body),
+        ),
+        (
+            r#"{"number":1,"player":1,"price":01}"#,
+            Some(FieldName::Body),
+        ),
+        (
+            r#"{"number":1,"player":1,"price":1,}"#,
+            Some(FieldName::Body),
+        ),
+        (
+            r#"{"number":9223372036854775808,"player":1,"price":1}"#,
+            Some(FieldName::Number),
+        ),
+        (
+            r#"{"number":18446744073709551616,"player":1,"price":1}"#,
+            Some(FieldName::Number),
+        ),
+        (
+            r#"{"number":1,"player":1,"price":1,"number":"x"}"#,
+            Some(FieldName::Number),
+        ),
+        (
+            r#"{"number":1,"player":-1,"price":1}"#,
+            Some(FieldName::Player),
+        ),
+    ] {
+        assert_eq!(rt;
+            fault(rt.alloc(), Route::Prices, body),
+            field.map(|field| ReadFault::Malformed { field })
+        );
+    }
+}
+
+const NESTED_127: &str =
+    r#"{"number":1,"player":1,"price":1,"x":[[[[[[[[[[[[[[[[[[[[[[[[[[[[[[[[[[[[[[[[[[[[[[[[[[[[[[[[[[[[[[[[[[[[[[[[[[[[[[[[[[[[[[[[[[[[[[[[[[[[[[[[[[[[[[[[[[[[[[[[[[[[[[]]]]]]]]]]]]]]]]]]]]]]]]]]]]]]]]]]]]]]]]]]]]]]]]]]]]]]]]]]]]]]]]]]]]]]]]]]]]]]]]]]]]]]]]]]]]]]]]]]]]]]]]]]]]]]]]]]]]]]]]]]]]]]}"#;
+
+const NESTED_128: &str =
+    r#"{"number":1,"player":1,"price":1,"x":[[[[[[[[[[[[[[[[[[[[[[[[[[[[[[[[[[[[[[[[[[[[[[[[[[[[[[[[[[[[[[[[[[[[[[[[[[[[[[[[[[[[[[[[[[[[[[[[[[[[[[[[[[[[[[[[[[[[[[[[[[[[[[[]]]]]]]]]]]]]]]]]]]]]]]]]]]]]]]]]]]]]]]]]]]]]]]]]]]]]]]]]]]]]]]]]]]]]]]]]]]]]]]]]]]]]]]]]]]]]]]]]]]]]]]]]]]]]]]]]]]]]]]]]]]]]]]}"#;
+
+#[test]
+fn a_body_that_is_no_text_is_malformed(rt: HostRuntime) {
+    assert_eq!(rt;
+        fault_of(
+            rt.alloc(),
+            Route::Prices,
+            &[b'{', b'"', 0xff, b'"', b':', b'1', b'}']
+        ),
+        Some(ReadFault::Malformed {
+            field: FieldName::Body
+        })
+    );
+}
+
 // Why a body is not read, if it is not.
 fn fault(alloc: Global, route: Route, body: &str) -> Option<ReadFault> {
-    match read_request(alloc, route, [1, 0], body.as_bytes()) {
+    fault_of(alloc, route, body.as_bytes())
+}
+
+fn fault_of(alloc: Global, route: Route, body: &[u8]) -> Option<ReadFault> {
+    let mut scratch = Scratch::new(alloc);
+    match read_request(alloc, &mut scratch, route, [1, 0], body) {
         Ok(_) => None,
         Err(fault) => Some(fault),
     }
@@ -219,10 +301,17 @@ fn a_player_is_read_as_he_stands(rt: HostRuntime) {
             r#"{"number":6,"id":9,"name":"Zoë","position":"M","club":3,"price":55}"#
         )
     );
+    assert!(rt;
+        is_read(
+            rt.alloc(),
+            r#"{"price":54,"number":6,"id":9,"name":"Z\u006f\u00EB","position":"\u004d","club":3,"price":55}"#
+        )
+    );
 }
 
 fn is_read(alloc: Global, body: &str) -> bool {
-    match read_request(alloc, Route::Players, [0, 0], body.as_bytes()) {
+    let mut scratch = Scratch::new(alloc);
+    match read_request(alloc, &mut scratch, Route::Players, [0, 0], body.as_bytes()) {
         Ok(Request::Command { number, command }) => number == 6 && is_zoe(&command),
         Ok(Request::View(_)) => false,
         Err(_) => false,

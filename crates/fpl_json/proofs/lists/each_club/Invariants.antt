@@ -1,7 +1,7 @@
 use Rattle.std.proofs.Common.{◌≡◌, drop}
-use Rattle.serde_json.specs.View.{items_view}
 use Rattle.fpl_json.specs.Members.{each}
 use Rattle.fpl_json.specs.Requests.{club}
+use Rattle.fpl_json.specs.Trees.{items_view}
 use Rattle.fpl_json.proofs.ListLemmas.{with_front}
 use Rattle.fpl_json.proofs.lists.each_club.Given as goal
 

@@ -1,7 +1,7 @@
 use Rattle.std.proofs.Common.{◌≡◌, drop}
-use Rattle.serde_json.specs.View.{items_view}
 use Rattle.fpl_json.specs.declared.field.FieldName.TheVariants as field
 use Rattle.fpl_json.specs.Members.{each, entry}
+use Rattle.fpl_json.specs.Trees.{items_view}
 use Rattle.fpl_json.proofs.ListLemmas.{with_front}
 use Rattle.fpl_json.proofs.lists.each_figure.Given as goal
 

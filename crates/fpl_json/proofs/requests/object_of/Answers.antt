@@ -1,12 +1,16 @@
-use Rattle.std.proofs.Common.{rules, ◌∙◌, sym}
-use Rattle.serde_json.specs.View.{view}
-use Rattle.fpl_json.proofs.BodyLemmas.{object_there, object_none}
+use Rattle.std.proofs.Common.{subst, ap, sym, ◌∙◌}
+use Rattle.std.specs.Prelude.{option_and_then}
+use Rattle.serde_json.specs.Read.{read}
+use Rattle.fpl_json.specs.declared.field.FieldName.TheVariants as field
+use Rattle.fpl_json.specs.Members.{GivesObject, if_object, or_wrong}
+use Rattle.fpl_json.proofs.BodyLemmas.{object_of_text, object_of_no_text}
 use Rattle.fpl_json.proofs.requests.object_of.Goals as goal
 
-pub returns-then-is_object : goal.returns-then-is_object
-returns-then-is_object c =
-    object_there c.args.body.now (view c.in-Ok.value) c.in-Ok.ensures.ok.0 c.in-Ok.ensures.ok.1 (sym c.is_object.ensures ∙ c.if-is_object.true)
+pub returns-in-Ok : goal.returns-in-Ok
+returns-in-Ok c =
+    let is = ap (λ s. or_wrong field.Body (option_and_then if_object (read s))) c.in-Ok.ensures.cases.0
+    ∙ sym (object_of_text c.args.body.now c.in-Ok.ensures.cases.1) in
+    subst (GivesObject c.object_in.result) is c.object_in.ensures
 
-pub returns-else-is_memory : goal.returns-else-is_memory
-returns-else-is_memory c =
-    rw c.wrong-else-is_memory.ensures (object_none c.args.body.now (c.in-Err.ensures.err (search rules)))
+pub returns-in-Err : goal.returns-in-Err
+returns-in-Err c = rw c.wrong.ensures (object_of_no_text c.args.body.now c.in-Err.ensures.cases.0)
