@@ -5,3 +5,4 @@ pub mod Maps
 pub mod Placed
 pub mod Repeats
 pub mod SheetEntries
+pub mod TableLemmas

@@ -1,3 +1,5 @@
 pub mod Columns
 pub mod Entries
 pub mod Laws
+pub mod Lending
+pub mod Tables

@@ -10,11 +10,11 @@ use crate::judge::{judge_lock, judge_sheet};
 use crate::line_ok;
 use crate::reads::count_reads;
 use crate::sheet::Sheet;
-use crate::sheets::{Sheets, drop_line_in, put_line_in, put_sheet_in, set_finished_in};
+use crate::sheets::{drop_line_in, put_line_in, put_sheet_in, set_finished_in};
+use crate::table::Table;
 use fpl_base::{FixtureId, PlayerId, Refused, Rule, Steps};
 use rule_book::Line;
 use std::alloc::Global;
-use std::collections::BTreeMap;
 use std::marker::Model;
 use std::sync::ledger::Ledger;
 
@@ -22,7 +22,7 @@ use std::sync::ledger::Ledger;
 #[derive(Drop)]
 pub struct MatchFacts {
     alloc: Global,
-    sheets: Sheets,
+    sheets: Table,
 }
 
 impl Model for MatchFacts {
@@ -31,9 +31,9 @@ impl Model for MatchFacts {
 
     ghost Value = { facts.MatchFacts };
 
-    ghost view = { λ m. m.sheets.entries };
+    ghost view = { λ m. m.sheets };
 
-    ghost invariant = { λ m. AreSorted m.sheets.entries };
+    ghost invariant = { λ m. AreSorted m.sheets };
 }
 
 impl MatchFacts {
@@ -43,7 +43,7 @@ impl MatchFacts {
     {
         MatchFacts {
             alloc,
-            sheets: BTreeMap::new(alloc),
+            sheets: Table::new(alloc),
         }
     }
 
@@ -104,7 +104,7 @@ impl MatchFacts {
     fn has_room(&self, fixture: FixtureId, player: PlayerId) -> bool
         ensures { (line : Line) → IsTrue result ↔ (length (with_line (lines_of self.now fixture) player line) ≤ 64) }
     {
-        match self.sheets.get(&fixture) {
+        match self.sheets.get(fixture) {
             Some(sheet) => sheet.has_room(player),
             None => true,
         }
@@ -144,7 +144,7 @@ impl MatchFacts {
         ensures counted { steps.new ≡ steps.old + 1 }
     {
         steps.tick();
-        match self.sheets.get(&fixture) {
+        match self.sheets.get(fixture) {
             Some(sheet) => sheet.line(player),
             None => None,
         }
@@ -163,7 +163,7 @@ impl MatchFacts {
         ensures few { length result.0.now ≤ 64 }
         ensures counted { steps.new ≡ steps.old + length result.0.now }
     {
-        match self.sheets.get(&fixture) {
+        match self.sheets.get(fixture) {
             Some(sheet) => {
                 let columns = sheet.columns();
                 count_reads(columns.0.len(), steps);
@@ -179,7 +179,7 @@ impl MatchFacts {
         ensures ascending { IsStrictlyIncreasing result.now }
         ensures few { length result.now ≤ 64 }
     {
-        match self.sheets.get(&fixture) {
+        match self.sheets.get(fixture) {
             Some(sheet) => sheet.players(),
             None => &[],
         }
@@ -189,7 +189,7 @@ impl MatchFacts {
     pub fn finished(&self, fixture: FixtureId) -> bool
         ensures { result ≡ is_finished self.now fixture }
     {
-        match self.sheets.get(&fixture) {
+        match self.sheets.get(fixture) {
             Some(sheet) => sheet.finished(),
             None => false,
         }
@@ -199,7 +199,7 @@ impl MatchFacts {
     pub fn has_facts(&self, fixture: FixtureId) -> bool
         ensures { result ≡ has_facts self.now fixture }
     {
-        match self.sheets.get(&fixture) {
+        match self.sheets.get(fixture) {
             Some(sheet) => sheet.tells_facts(),
             None => false,
         }

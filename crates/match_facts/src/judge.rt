@@ -1,5 +1,5 @@
 // The refusals of what is handed in on a match, in their order.
-ghost use Rattle.std.specs.Prelude.{◌≡◌, ◌≤◌, ◌==◌, length, OnOk};
+ghost use Rattle.std.specs.Prelude.{◌≡◌, ◌≤◌, ◌==◌, All, length, OnOk};
 ghost use Rattle.std.specs.List.{list_any};
 ghost use Rattle.rule_book.specs.MatchFacts.{players_in};
 ghost use Rattle.rule_book.specs.MatchCalls.{not_locked, lines_range, sheet_refusal};
@@ -43,12 +43,25 @@ pub fn judge_sheet(fixture: FixtureId, locked: bool, lines: &[(PlayerId, Line)])
 fn first_twice(lines: &[(PlayerId, Line)]) -> Option<PlayerId>
     ensures { result ≡ first_repeat (players_in lines.now) }
 {
+    let mut greatest = 0;
     'lines: for (place, line) in lines.iter().enumerate() {
-        if has_line(&lines[..place], line.0) {
+        if is_among(&lines[..place], greatest, line.0) {
             return Some(line.0);
         }
+        greatest = greatest.max(line.0.get());
     }
     None
+}
+
+// Whether a player is among them, none of whom has a greater id than this one: mostly they ascend.
+fn is_among(lines: &[(PlayerId, Line)], greatest: u32, player: PlayerId) -> bool
+    requires { All (λ row. row.0 ≤ greatest) lines.now }
+    ensures { result ≡ list_any (λ row. row.0 == player) lines.now }
+{
+    if player.get() > greatest {
+        return false;
+    }
+    has_line(lines, player)
 }
 
 // Whether a player is among them.

@@ -9,6 +9,7 @@ mod ranges;
 mod reads;
 mod sheet;
 mod sheets;
+mod table;
 #[cfg(test)]
 mod tests;
 

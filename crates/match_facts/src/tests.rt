@@ -99,6 +99,60 @@ fn stands(facts: &MatchFacts, fixture: FixtureId, expected: &[(PlayerId, u16)]) 
     true
 }
 
+// Whether a line of player 1 was put into a fixture, with so many minutes.
+fn put(facts: &mut MatchFacts, id: u32, minutes: u16) -> bool {
+    match (FixtureId::new(id), PlayerId::new(1)) {
+        (Some(fixture), Some(player)) => facts
+            .put_line(fixture, true, player, &line(&[(1, minutes)]))
+            .is_ok(),
+        _ => false,
+    }
+}
+
+// Whether one was put into each fixture, with the last two digits of its id as minutes.
+fn put_all(facts: &mut MatchFacts, ids: &[u32]) -> bool {
+    for id in ids {
+        if !put(facts, *id, (*id % 100) as u16) {
+            return false;
+        }
+    }
+    true
+}
+
+// Takes the line of player 1 in a fixture away.
+fn drop_from(facts: &mut MatchFacts, id: u32) {
+    if let (Some(fixture), Some(player)) = (FixtureId::new(id), PlayerId::new(1)) {
+        facts.drop_line(fixture, player);
+    }
+}
+
+// The minutes of player 1 in a fixture.
+fn played(facts: &MatchFacts, id: u32) -> Option<u16> {
+    minutes(facts, FixtureId::new(id)?, PlayerId::new(1)?)
+}
+
+// Whether each fixture has the line that was put into it.
+fn all_stand(facts: &MatchFacts, ids: &[u32]) -> bool {
+    for id in ids {
+        if played(facts, *id) != Some((*id % 100) as u16) {
+            return false;
+        }
+    }
+    true
+}
+
+// Whether none of the fixtures has facts.
+fn none_stands(facts: &MatchFacts, ids: &[u32]) -> bool {
+    for id in ids {
+        if let Some(fixture) = FixtureId::new(*id) {
+            if facts.has_facts(fixture) {
+                return false;
+            }
+        }
+    }
+    true
+}
+
 fn refused(rule: Rule) -> Result<(), Refused> {
     Err(Refused::Rule(rule))
 }
@@ -228,4 +282,32 @@ fn the_mark_stands_by_itself(rt: HostRuntime) -> Result<(), Fail> {
     facts.set_finished(first, true, false)?;
     assert_eq!(rt; facts.has_facts(first), false);
     Ok(())
+}
+
+#[test]
+fn fixtures_are_found_beside_gaps(rt: HostRuntime) {
+    let mut facts = MatchFacts::new(rt.alloc());
+    let ids = [999_999, 40, 12, 11, 9, 8, 7];
+    assert!(rt; put_all(&mut facts, &ids));
+    assert!(rt; all_stand(&facts, &ids));
+    assert!(rt; none_stands(&facts, &[1, 6, 10, 13, 39, 41, 999_998]));
+    drop_from(&mut facts, 10);
+    assert!(rt; all_stand(&facts, &ids));
+}
+
+#[test]
+fn fixtures_are_found_behind_one_that_went(rt: HostRuntime) {
+    let mut facts = MatchFacts::new(rt.alloc());
+    let ids = [1, 2, 3, 4, 5, 6, 7, 8];
+    assert!(rt; put_all(&mut facts, &ids));
+    assert!(rt; all_stand(&facts, &ids) && none_stands(&facts, &[9, 10]));
+    drop_from(&mut facts, 4);
+    assert!(rt; all_stand(&facts, &[1, 2, 3, 5, 6, 7, 8]) && none_stands(&facts, &[4, 9]));
+    drop_from(&mut facts, 1);
+    assert!(rt; all_stand(&facts, &[2, 3, 5, 6, 7, 8]) && none_stands(&facts, &[1, 4, 9]));
+    assert!(rt; put(&mut facts, 6, 90));
+    assert_eq!(rt; played(&facts, 6), Some(90));
+    assert!(rt; all_stand(&facts, &[2, 3, 5, 7, 8]));
+    assert!(rt; put_all(&mut facts, &ids));
+    assert!(rt; all_stand(&facts, &ids) && none_stands(&facts, &[9]));
 }

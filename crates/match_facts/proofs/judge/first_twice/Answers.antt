@@ -1,22 +1,26 @@
 use Rattle.std.proofs.Common.{◌≡◌, ◌∙◌, false, true, Some, sym, ap, below_more, arith}
+use Rattle.std.specs.Prelude.{max}
 use Rattle.rule_book.specs.MatchFacts.{players_in}
 use Rattle.rule_book.specs.Repeats.{is_repeat}
-use Rattle.match_facts.proofs.Repeats.{repeat_found, no_repeat, is_repeat-players, player_at, length-players}
+use Rattle.match_facts.proofs.Repeats.{repeat_found, no_repeat, is_repeat-players, player_at, length-players, below_next}
 use Rattle.match_facts.proofs.judge.first_twice.Goals as goal
 
-pub returns-then-has_line : goal.returns-then-has_line
-returns-then-has_line c =
+pub returns-then-is_among : goal.returns-then-is_among
+returns-then-is_among c =
     let player = player_at c.args.lines.now c.lines.place c.index-lines-place.result c.lines-test.true c.index-lines-place.is in
     let here : is_repeat (players_in c.args.lines.now) c.lines.place ≡ true =
-    is_repeat-players c.args.lines.now c.lines.place c.index-lines-place.result.0 player ∙ sym c.has_line.ensures ∙ c.if-has_line.true in
-    ap Some player ∙ sym (repeat_found (players_in c.args.lines.now) c.lines.place (omega (arith, c.lines-test.true, length-players c.args.lines.now)) here c.lines.invariant)
+    is_repeat-players c.args.lines.now c.lines.place c.index-lines-place.result.0 player ∙ sym c.is_among.ensures ∙ c.if-is_among.true in
+    ap Some player ∙ sym (repeat_found (players_in c.args.lines.now) c.lines.place (omega (arith, c.lines-test.true, length-players c.args.lines.now)) here c.lines.invariant.once)
 
 pub lines-preserved : goal.lines-preserved
 lines-preserved c =
     let player = player_at c.args.lines.now c.lines.place c.index-lines-place.result c.lines-test.true c.index-lines-place.is in
     let here : is_repeat (players_in c.args.lines.now) c.lines.place ≡ false =
-    is_repeat-players c.args.lines.now c.lines.place c.index-lines-place.result.0 player ∙ sym c.has_line.ensures ∙ c.if-has_line.false in
-    below_more (λ k. is_repeat (players_in c.args.lines.now) k ≡ false) c.lines.place c.lines.invariant here
+    is_repeat-players c.args.lines.now c.lines.place c.index-lines-place.result.0 player ∙ sym c.is_among.ensures ∙ c.if-is_among.false in
+    record {
+      once = below_more (λ k. is_repeat (players_in c.args.lines.now) k ≡ false) c.lines.place c.lines.invariant.once here;
+      below = below_next c.args.lines.now c.lines.place c.lines.greatest c.max-greatest.result c.index-lines-place.result c.lines-test.true c.index-lines-place.is (c.max-greatest.ensures ∙ ap (λ n. max c.lines.greatest n) c.get.ensures.value) c.lines.invariant.below;
+    }
 
 pub returns : goal.returns
-returns c = sym (no_repeat (players_in c.args.lines.now) (λ k lt. c.lines.invariant k (omega (arith, lt, c.lines-test.false, length-players c.args.lines.now))))
+returns c = sym (no_repeat (players_in c.args.lines.now) (λ k lt. c.lines.invariant.once k (omega (arith, lt, c.lines-test.false, length-players c.args.lines.now))))

@@ -1,0 +1,14 @@
+use Rattle.std.proofs.Common.{Some, sym, ap, ◌∙◌}
+use Rattle.match_facts.specs.Columns.{IsPlace, IsGap}
+use Rattle.match_facts.proofs.ColumnLemmas.{line_here, none_here}
+use Rattle.match_facts.proofs.table.Table.get.Goals as goal
+
+pub returns-in-Ok : goal.returns-in-Ok
+returns-in-Ok c =
+    let place : IsPlace c.self.inside.fixtures.items c.args.fixture c.in-Ok.place = rw c.deref.ensures.value at c.in-Ok.ensures in
+    rw (← c.self.view_is) (ap Some c.index.ensures ∙ sym (line_here c.self.inside.fixtures.items c.self.inside.sheets.items c.args.fixture c.in-Ok.place _ c.self.invariant.ascending c.self.invariant.paired place))
+
+pub returns-in-Err : goal.returns-in-Err
+returns-in-Err c =
+    let gap : IsGap c.self.inside.fixtures.items c.args.fixture c.in-Err.field-0 = rw c.deref.ensures.value at c.in-Err.ensures in
+    rw (← c.self.view_is) (sym (none_here c.self.inside.fixtures.items c.self.inside.sheets.items c.args.fixture c.in-Err.field-0 gap))
