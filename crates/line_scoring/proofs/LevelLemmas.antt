@@ -1,5 +1,5 @@
 -- What one more number does to the bonus by three levels.
-use Rattle.std.proofs.Common.{◌≡◌, ◌≤◌, ◌+◌, ◌-◌, ℕ, ℤ, Bool, true, false, cond, List, ◌++◌, Option, Some, None, option_to_list, int_lt, zero-add, arith}
+use Rattle.std.proofs.Common.{◌≡◌, ◌<◌, ◌≤◌, ◌+◌, ◌-◌, ℕ, ℤ, Bool, true, false, cond, List, ◌++◌, Option, Some, None, option_to_list, int_lt, zero-add, arith}
 use Rattle.std.proofs.lemmas.List.Sums.{sum_by-append}
 use Rattle.line_scoring.specs.Levels.{numbers_at, greater, bonus_by, above, IsBelow}
 
@@ -36,3 +36,7 @@ module _ (a b c : Option ℤ) (n own : ℤ) (second : IsBelow b a) (third : IsBe
 
   pub not_new : IsBelow (Some n) c → bonus_by (numbers_at a b c) own ≡ bonus_by (numbers_at a b c) own - above own n
   not_new below = omega (arith, greater_at a b c own, alone n own, second own, third own, below own, few a own)
+
+-- three stand above whoever is below the lowest of the levels
+pub nothing_won : (a b c : Option ℤ) (own : ℤ) → IsBelow b a → IsBelow c b → 0 < at_level c own → 0 ≡ bonus_by (numbers_at a b c) own
+nothing_won a b c own second third some = omega (arith, greater_at a b c own, second own, third own, some)

@@ -35,10 +35,20 @@ impl BonusLevels {
         }
     }
 
+    /// Whether it makes a difference that one more has this number.
+    pub fn counts(&self, number: i32) -> bool
+        ensures { result ≡ false → (own : ℤ) → bonus_by self.now own ≡ bonus_by self.now own - above own number }
+    {
+        is_above(number, &self.third)
+    }
+
     /// One more took part, and has this number.
     pub fn add(&mut self, number: i32)
         ensures { (own : ℤ) → bonus_by self.new own ≡ bonus_by self.old own - above own number }
     {
+        if !is_above(number, &self.third) {
+            return;
+        }
         if is_above(number, &self.first) {
             self.third = self.second;
             self.second = self.first;
@@ -46,7 +56,7 @@ impl BonusLevels {
         } else if is_above(number, &self.second) {
             self.third = self.second;
             self.second = Some(number);
-        } else if is_above(number, &self.third) {
+        } else {
             self.third = Some(number);
         }
     }
@@ -55,7 +65,10 @@ impl BonusLevels {
     pub fn bonus(&self, own: i32) -> u8
         ensures { result ≡ bonus_by self.now own }
     {
-        3 - (count_by(&self.first, own) + count_by(&self.second, own) + count_by(&self.third, own))
+        if count_by(&self.third, own) > 0 {
+            return 0;
+        }
+        3 - (count_by(&self.first, own) + count_by(&self.second, own))
     }
 }
 

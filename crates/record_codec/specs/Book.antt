@@ -1,5 +1,5 @@
 -- The book of a season: all that is so, and what each caller did last. Whatever is shown is computed anew from it.
-use Rattle.std.specs.Prelude.{ℕ, List, [], ◌∷◌, Option, Some, None}
+use Rattle.std.specs.Prelude.{ℕ, List, [], ◌∷◌, Option, None}
 use Rattle.std.specs.Option.{option_map_or}
 use Rattle.fpl_base.specs.declared.kinds.Caller.{Caller}
 use Rattle.fpl_base.specs.declared.kinds.Caller.TheVariants.{Operator, Entry}

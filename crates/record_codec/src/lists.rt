@@ -86,6 +86,15 @@ impl Lines {
         }
     }
 
+    /// No lines, with room for so many.
+    pub fn with_room(alloc: Global, room: usize) -> Result<Self, Memory>
+        ensures { IfOk result (λ lines. lines ≡ []) }
+    {
+        Ok(Lines {
+            items: Vec::with_capacity(alloc, room)?,
+        })
+    }
+
     /// The list with this line at its end; unchanged after want of memory.
     pub fn push(&mut self, item: (PlayerId, Line)) -> Result<(), Memory>
         ensures ok { OnOk result (self.new ≡ self.old ++ item ∷ []) }
