@@ -44,6 +44,22 @@ written_more f xs old now i x new d within as_long so_far is_x is_new =
     ap (λ ys. set ys i new) cut ∙ ap (λ k. set (front ++ y ∷ rest) k new) (sym long) ∙ set-append_seam front y rest new
     ∙ sym (append_assoc front (new ∷ []) rest) ∙ ap (λ ys. ys ++ rest) made
 
+-- so with a list that is written over by what a function makes of each of its own
+pub each_more : {Y : Type 0} (f : Y → Y) (old now : List Y) (i : ℕ) (new d : Y)
+    → i < length old → now ≡ map f (take i old) ++ drop i old → new ≡ f (get_or now i d) → set now i new ≡ map f (take (i + 1) old) ++ drop (i + 1) old
+each_more f old now i new d within so_far is_new =
+    let front = map f (take i old) in
+    let rest = drop (i + 1) old in
+    let next : suc i ≡ i + 1 = omega arith in
+    let there = get_or now i d in
+    let y = get_or old i there in
+    let long : length front ≡ i = omega (arith, length-map (take i old) f, length-take i old) in
+    let cut : now ≡ front ++ y ∷ rest = so_far ∙ ap (λ t. front ++ t) (drop-cons old i there within) ∙ ap (λ k. front ++ y ∷ drop k old) next in
+    let read : there ≡ y = ap (λ ys. get_or ys i d) cut ∙ ap (λ k. get_or (front ++ y ∷ rest) k d) (sym long) ∙ get_or-append_seam front y rest d in
+    let made : front ++ new ∷ [] ≡ map f (take (i + 1) old) = mapped_more f old i there new front (front ++ new ∷ []) within read is_new refl refl in
+    ap (λ ys. set ys i new) cut ∙ ap (λ k. set (front ++ y ∷ rest) k new) (sym long) ∙ set-append_seam front y rest new
+    ∙ sym (append_assoc front (new ∷ []) rest) ∙ ap (λ ys. ys ++ rest) made
+
 -- all rows of two columns
 pub all_rows : {X Y : Type 0} (xs : List X) (ys : List Y) (i : ℕ) → length xs ≤ i → take i (zip xs ys) ≡ zip xs ys
 all_rows xs ys i past = take_all i (zip xs ys) (omega (arith, length-zip xs ys))

@@ -1,5 +1,5 @@
 -- The levels of a match, one more line at a time.
-use Rattle.std.proofs.Common.{◌≡◌, ◌<◌, ◌+◌, ◌-◌, ◌&&◌, ◌∷◌, [], ◌++◌, ℕ, ℤ, List, Bool, true, false, cond, if◌then◌else◌, zip, length, get_or, map, filter, take, zero-add, count_by, int_lt, arith, refl, sym, ap, ◌∙◌}
+use Rattle.std.proofs.Common.{◌≡◌, ◌<◌, ◌+◌, ◌-◌, ◌&&◌, ◌∷◌, [], ◌++◌, ℕ, ℤ, List, Bool, true, false, cond, if◌then◌else◌, length, get_or, map, filter, take, zero-add, count_by, int_lt, arith, refl, sym, ap, ◌∙◌}
 use Rattle.std.proofs.lemmas.List.Sums.{sum_by-append}
 use Rattle.std.proofs.lemmas.Option.{slice_get_read}
 use Rattle.line_scoring.specs.Levels.{above, bonus_by}
@@ -11,16 +11,17 @@ use Rattle.rule_book.specs.BonusPoints.{bps_of}
 use Rattle.rule_book.specs.MatchFacts.{Lines, is_finished, lines_of}
 use Rattle.rule_book.specs.PlayerFigures.{appearance, bonus_at, position_in}
 use Rattle.record_codec.specs.Book.{Facts}
+use Rattle.season_host.specs.Levels.{higher, is_higher, with_bonus_among}
 use Rattle.season_host.specs.Views.{line_shown}
 use Rattle.season_host.specs.Worth.{AreLevels, bare_line, with_bonus}
 use Rattle.season_host.specs.declared.shown.ShownLine.{ShownLine}
-use Rattle.season_host.proofs.Lists.{made_same, made_twice, take_next, zip_made}
+use Rattle.season_host.proofs.Lists.{made_same, take_next}
 
 -- he took part and has a greater number
-abbrev stands_above : List Player → ℤ → ℕ × Line → Bool
+abbrev pub stands_above : List Player → ℤ → ℕ × Line → Bool
 stands_above people own row = takes_part row.1 && int_lt own (bps_of (position_in people row.0) row.1)
 
-count_by-cons : {X : Type 0} (p : X → Bool) (x : X) (xs : List X) → count_by p (x ∷ xs) ≡ cond (p x) 1 0 + count_by p xs
+pub count_by-cons : {X : Type 0} (p : X → Bool) (x : X) (xs : List X) → count_by p (x ∷ xs) ≡ cond (p x) 1 0 + count_by p xs
 count_by-cons p x xs = sum_by-append (λ y. cond (p y) 1 0) (x ∷ []) xs ∙ ap (λ n. n + count_by p xs) (zero-add (cond (p x) 1 0))
 
 count_by-last : {X : Type 0} (p : X → Bool) (xs : List X) (x : X) → count_by p (xs ++ x ∷ []) ≡ count_by p xs + cond (p x) 1 0
@@ -35,7 +36,7 @@ kept_case true own a rest = count_by-cons (λ r. int_lt own r.1) (entry_of a) (m
 kept_case false own a rest = omega arith
 
 -- who stands above in the standing of some lines is counted among the lines
-counted : (people : List Player) (own : ℤ) (lines : Lines) → number_above (standing (map (appearance people) lines)) own ≡ count_by (stands_above people own) lines
+pub counted : (people : List Player) (own : ℤ) (lines : Lines) → number_above (standing (map (appearance people) lines)) own ≡ count_by (stands_above people own) lines
 unfolding standing
 counted people own [] = refl
 counted people own (row ∷ lines) =
@@ -69,6 +70,24 @@ levels_more facts lines i row old new number within is is_number some none so_fa
     (count_by test (take i lines)) (count_by test (take (i + 1) lines)) took (λ no. ap (λ levels. bonus_by levels own) (none no)) before more
     ∙ ap (λ (n : ℕ). 3 - n) (sym (counted facts.players own (take (i + 1) lines)))
 
+-- so by the numbers that lines have
+pub higher_more : (rows : List (Line × ShownLine)) (i : ℕ) (row : Line × ShownLine) (old new : List ℤ) (number : ℤ) → i < length rows → row ≡ get_or rows i row → number ≡ row.1.bps
+    → (takes_part row.0 ≡ true → (own : ℤ) → bonus_by new own ≡ bonus_by old own - above own number) → (takes_part row.0 ≡ false → new ≡ old)
+    → ((own : ℤ) → bonus_by old own ≡ 3 - higher (take i rows) own) → (own : ℤ) → bonus_by new own ≡ 3 - higher (take (i + 1) rows) own
+higher_more rows i row old new number within is is_number some none so_far own =
+    let more : higher (take (i + 1) rows) own ≡ higher (take i rows) own + cond (is_higher own row) 1 0 =
+    ap (count_by (is_higher own)) (take_next rows i row (slice_get_read rows (length rows) i row refl within is)) ∙ count_by-last (is_higher own) (take i rows) row in
+    let took : takes_part row.0 ≡ true → bonus_by new own ≡ bonus_by old own - cond (int_lt own row.1.bps) 1 0 =
+    λ yes. some yes own ∙ ap (λ n. bonus_by old own - above own n) is_number in
+    levels_case (takes_part row.0) (int_lt own row.1.bps) (bonus_by old own) (bonus_by new own)
+    (higher (take i rows) own) (higher (take (i + 1) rows) own) took (λ no. ap (λ levels. bonus_by levels own) (none no)) (so_far own) more
+
+-- the bonus by the levels is that among the lines
+pub leveled_by : (levels : List ℤ) (rows : List (Line × ShownLine)) → ((own : ℤ) → bonus_by levels own ≡ 3 - higher rows own) → map (with_bonus levels) rows ≡ map (with_bonus_among rows) rows
+leveled_by levels rows are =
+    made_same (with_bonus levels) (with_bonus_among rows) rows
+    (λ row. ap (λ n. record row.1 { bonus = if takes_part row.0 then n else 0 }) (are row.1.bps))
+
 -- the bonus by the levels is that of the match
 pub bonus_found : (facts : Facts) (f : ℕ) (row : ℕ × Line) (levels : List ℤ) (number : ℤ) (won : ℕ) → is_finished facts.matches f ≡ true
     → AreLevels facts levels (lines_of facts.matches f) → number ≡ bps_of (position_in facts.players row.0) row.1
@@ -87,17 +106,3 @@ shown_unfinished facts f open_still =
       bonus = if b then bonus_in (map (appearance facts.players) (lines_of facts.matches f)) (appearance facts.players row) else 0;
     } in
     ap (λ b. map (with b) (lines_of facts.matches f)) (sym open_still)
-
--- once it is, they have that by its levels
-pub shown_finished : (facts : Facts) (f : ℕ) (levels : List ℤ) (lines : List Line) → is_finished facts.matches f ≡ true
-    → AreLevels facts levels (lines_of facts.matches f) → lines ≡ map (λ row. row.1) (lines_of facts.matches f)
-    → map (with_bonus levels) (zip lines (map (bare_line facts) (lines_of facts.matches f))) ≡ map (line_shown facts f) (lines_of facts.matches f)
-shown_finished facts f levels lines finished are those =
-    let rows = lines_of facts.matches f in
-    let pair : ℕ × Line → Line × ShownLine = λ row. (row.1, bare_line facts row) in
-    ap (λ ls. map (with_bonus levels) (zip ls (map (bare_line facts) rows))) those
-    ∙ ap (map (with_bonus levels)) (zip_made (λ row. row.1) (bare_line facts) rows)
-    ∙ made_twice (with_bonus levels) pair rows
-    ∙ made_same (λ row. with_bonus levels (pair row)) (line_shown facts f) rows
-    (λ row. ap (λ b. record (bare_line facts row) { bonus = b })
-    (bonus_found facts f row levels (bare_line facts row).bps (with_bonus levels (pair row)).bonus finished are refl refl))

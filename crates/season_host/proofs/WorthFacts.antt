@@ -1,27 +1,33 @@
 -- What is kept of the views is kept rightly once the facts, or what is kept, change.
-use Rattle.std.proofs.Common.{◌≡◌, ◌==◌, ℕ, Bool, true, false, cond, List, [], ◌∷◌, Option, Some, None, find, map, unwrap_or, if◌then◌else◌, arith, refl, sym, ap, subst, ◌∙◌, inl, inr}
+use Rattle.std.proofs.Common.{◌≡◌, ◌==◌, ℕ, Bool, true, false, cond, List, [], ◌∷◌, Option, Some, None, find, length, map, set, unwrap_or, if◌then◌else◌, ◌<◌, arith, refl, sym, ap, subst, ◌∙◌, inl, inr}
 use Rattle.std.specs.Option.{option_map, option_map_or}
-use Rattle.std.specs.Prelude.{Result, Ok, Err, OnErr, OnOk}
+use Rattle.std.specs.Prelude.{Result, Ok, Err, IfSome, OnErr, OnOk}
 use Rattle.std.proofs.lemmas.Bool.{cases_eq}
 use Rattle.std.proofs.lemmas.Bool.Decides.{nat_tests}
+use Rattle.std.proofs.lemmas.List.{length-map, length-set, map-set}
 use Rattle.std.proofs.lemmas.Option.{same_Some, none-some}
 use Rattle.fpl_base.specs.declared.kinds.Position.{Position}
 use Rattle.fpl_base.specs.declared.kinds.Position.TheVariants.{Keeper}
+use Rattle.rule_book.specs.declared.line.Line.{Line}
 use Rattle.rule_book.specs.declared.player.Player.{Player}
 use Rattle.rule_book.specs.Bonus.{bonus_in}
 use Rattle.rule_book.specs.BonusPoints.{bps_of}
 use Rattle.rule_book.specs.ById.{at_id, placed_at}
-use Rattle.rule_book.specs.MatchFacts.{Lines, Sheet, is_finished, line_in, line_of, lines_of, sheet_of, with_sheet}
+use Rattle.rule_book.specs.MatchCalls.{put_line, set_finished}
+use Rattle.rule_book.specs.MatchFacts.{Lines, Sheet, is_finished, line_in, line_of, lines_of, sheet_of, with_line, with_sheet}
 use Rattle.rule_book.specs.PlayerFigures.{appearance, position_in}
 use Rattle.rule_book.specs.Players.{with_change}
 use Rattle.rule_book.specs.Points.{points_of}
 use Rattle.record_codec.specs.Book.{Facts}
 use Rattle.match_facts.specs.Laws.{SheetsAreAMap}
-use Rattle.match_facts.proofs.Maps.{chosen_other, placed_other, placed_same}
+use Rattle.match_facts.proofs.Maps.{chosen_other, chosen_same, placed_other, placed_same}
 use Rattle.season_host.specs.declared.shown.ShownLine.{ShownLine}
 use Rattle.season_host.specs.Kept.{AreWorths, Worths, kept_line}
+use Rattle.season_host.specs.Levels.{AreAsMany, HavePlace, IsPlaceOf, bare_worth, followed_at, leveled_at, leveled_in, with_lines, without_bonus}
 use Rattle.season_host.specs.Views.{line_shown}
+use Rattle.season_host.specs.Worth.{bare_line}
 use Rattle.season_host.proofs.Found.{same_id}
+use Rattle.season_host.proofs.Leveled.{bare_shown, leveled_in_shown}
 
 abbrev pub shown_in : Facts → ℕ → List ShownLine
 shown_in facts f = map (line_shown facts f) (lines_of facts.matches f)
@@ -109,6 +115,85 @@ worths_with_sheet maps facts worths f sheet old g lines at = elim (cases_eq g f)
       old g lines (sym (placed_other worths [] f g apart refl) ∙ at) ∙ ap by (sym stays)
 ]
 
+-- the facts of a fixture change, and with them what is kept of it
+
+own_at : (worths : Worths) (f : ℕ) (own : Option (List ShownLine)) → at_id (with_lines worths f own) f ≡ own
+own_at worths f None = placed_same worths [] f
+own_at worths f (Some lines) = placed_same worths ((f, lines) ∷ []) f ∙ alone_same f lines
+
+other_at : (worths : Worths) (f g : ℕ) (own : Option (List ShownLine)) → (g ≡ f → ⊥) → at_id (with_lines worths f own) g ≡ at_id worths g
+other_at worths f g None apart = placed_other worths [] f g apart refl
+other_at worths f g (Some lines) apart = placed_other worths ((f, lines) ∷ []) f g apart (alone_other f g lines apart)
+
+module _ (maps : SheetsAreAMap) (facts : Facts) (worths : Worths) (f : ℕ) (old : AreWorths facts worths) where
+  -- the lines of a fixture with another sheet
+  lines_with : (sheet : Sheet) → lines_of (with_sheet facts.matches f sheet) f ≡ sheet.lines
+  lines_with sheet = ap (λ s. s.lines) (maps facts.matches f sheet f ∙ chosen_same f f sheet (sheet_of facts.matches f) refl)
+
+  worths_changed : (sheet : Sheet) (own : Option (List ShownLine))
+      → ((lines : List ShownLine) → own ≡ Some lines → lines ≡ shown_in (record facts { matches = with_sheet facts.matches f sheet }) f)
+      → AreWorths (record facts { matches = with_sheet facts.matches f sheet }) (with_lines worths f own)
+  worths_changed sheet own right g lines at = elim (cases_eq g f) [
+    | inl same ↦
+        right lines (sym (own_at worths f own) ∙ ap (at_id (with_lines worths f own)) (sym same) ∙ at)
+        ∙ ap (shown_in (record facts { matches = with_sheet facts.matches f sheet })) (sym same)
+    | inr apart ↦
+        worths_with_sheet maps facts worths f sheet old g lines (other_at worths f g None apart ∙ sym (other_at worths f g own apart) ∙ at)
+  ]
+
+  -- the lines that are kept become those of the sheet, whatever their bonus, and get it anew
+  module _ (sheet : Sheet) (change : List ShownLine → List ShownLine) (bare : (lines : List ShownLine) → at_id worths f ≡ Some lines → map without_bonus (change lines) ≡ map (bare_line facts) sheet.lines) where
+    leveled_right : (kept : Option (List ShownLine)) → at_id worths f ≡ kept → (lines : List ShownLine)
+        → option_map (λ ls. leveled_in (with_sheet facts.matches f sheet) f (change ls)) kept ≡ Some lines
+        → lines ≡ shown_in (record facts { matches = with_sheet facts.matches f sheet }) f
+    leveled_right None is lines own = absurd (none-some lines own)
+    leveled_right (Some kept) is lines own =
+        sym (same_Some (leveled_in (with_sheet facts.matches f sheet) f (change kept)) lines own)
+        ∙ leveled_in_shown (record facts { matches = with_sheet facts.matches f sheet }) f (change kept)
+        (bare kept is ∙ ap (map (bare_line facts)) (sym (lines_with sheet)))
+
+    worths_leveled : AreWorths (record facts { matches = with_sheet facts.matches f sheet })
+        (with_lines worths f (option_map (λ ls. leveled_in (with_sheet facts.matches f sheet) f (change ls)) (at_id worths f)))
+    worths_leveled =
+        worths_changed sheet (option_map (λ ls. leveled_in (with_sheet facts.matches f sheet) f (change ls)) (at_id worths f)) (leveled_right (at_id worths f) refl)
+
+  bare_kept : (lines : List ShownLine) → at_id worths f ≡ Some lines → map without_bonus lines ≡ map (bare_line facts) (lines_of facts.matches f)
+  bare_kept lines at = ap (map without_bonus) (old f lines at) ∙ bare_shown facts f (lines_of facts.matches f)
+
+  -- what is kept has as many lines as a sheet with as many as before
+  pub as_many_with : (sheet : Sheet) → length sheet.lines ≡ length (lines_of facts.matches f) → AreAsMany worths (with_sheet facts.matches f sheet) f
+  as_many_with sheet long lines at =
+      ap length (old f lines at) ∙ length-map (lines_of facts.matches f) (line_shown facts f) ∙ sym long ∙ ap length (sym (lines_with sheet))
+
+  -- the mark is set, or taken away
+  pub worths_marked : (finished : Bool) → AreWorths (record facts { matches = set_finished facts.matches f finished }) (leveled_at worths (set_finished facts.matches f finished) f)
+  worths_marked finished = worths_leveled (record { lines = lines_of facts.matches f; finished = finished }) (λ lines. lines) bare_kept
+
+  -- a line is put in
+  module _ (p : ℕ) (line : Line) where
+    -- the old one of its player stands at a place
+    bare_replaced : (place : ℕ) → IsPlaceOf (lines_of facts.matches f) p place → (lines : List ShownLine) → at_id worths f ≡ Some lines
+        → map without_bonus (set lines place (bare_line facts (p, line))) ≡ map (bare_line facts) (with_line (lines_of facts.matches f) p line)
+    bare_replaced place is lines at =
+        map-set without_bonus lines place (bare_line facts (p, line))
+        ∙ ap (λ ls. set ls place (bare_line facts (p, line))) (bare_kept lines at)
+        ∙ sym (map-set (bare_line facts) (lines_of facts.matches f) place (p, line))
+        ∙ ap (map (bare_line facts)) (sym (is.1 line))
+
+    pub worths_followed : (place : Option ℕ) → IfSome place (IsPlaceOf (lines_of facts.matches f) p)
+        → AreWorths (record facts { matches = put_line facts.matches f p line }) (followed_at worths (put_line facts.matches f p line) f place (bare_worth facts.profile facts.players (p, line)))
+    worths_followed None is = worths_with_sheet maps facts worths f (record { lines = with_line (lines_of facts.matches f) p line; finished = is_finished facts.matches f }) old
+    worths_followed (Some place) is =
+        worths_leveled (record { lines = with_line (lines_of facts.matches f) p line; finished = is_finished facts.matches f })
+        (λ lines. set lines place (bare_line facts (p, line))) (bare_replaced place is)
+
+    pub place_kept : (place : Option ℕ) → IfSome place (IsPlaceOf (lines_of facts.matches f) p) → HavePlace worths (put_line facts.matches f p line) f place
+    place_kept None is = tt
+    place_kept (Some place) is =
+        let sheet : Sheet = record { lines = with_line (lines_of facts.matches f) p line; finished = is_finished facts.matches f } in
+        let long : length sheet.lines ≡ length (lines_of facts.matches f) = ap length (is.1 line) ∙ length-set (lines_of facts.matches f) place (p, line) in
+        (as_many_with sheet long, subst (λ n. place < n) (sym long ∙ ap length (sym (lines_with sheet))) is.0)
+
 -- a player's line among those that are kept
 
 found_shown : (facts : Facts) (f p : ℕ) (rows : Lines) → find (λ line. line.player == p) (map (line_shown facts f) rows) ≡ option_map (λ line. line_shown facts f (p, line)) (line_in rows p)
@@ -119,7 +204,7 @@ found_shown facts f p (row ∷ rows) =
       | false ↦ λ apart. found_shown facts f p rows
     ] refl
 
-module _ (facts : Facts) (worths : Worths) (f p : ℕ) (line : Rattle.rule_book.specs.declared.line.Line.Line) (old : AreWorths facts worths) (there : line_of facts.matches f p ≡ Some line) where
+module _ (facts : Facts) (worths : Worths) (f p : ℕ) (line : Line) (old : AreWorths facts worths) (there : line_of facts.matches f p ≡ Some line) where
   kept_in : (found : Option (List ShownLine)) (kept : ShownLine) → at_id worths f ≡ found → find (λ row. row.player == p) (unwrap_or found []) ≡ Some kept → kept ≡ line_shown facts f (p, line)
   kept_in None kept is at = absurd (none-some kept at)
   kept_in (Some lines) kept is at =
@@ -128,3 +213,8 @@ module _ (facts : Facts) (worths : Worths) (f p : ℕ) (line : Rattle.rule_book.
 
   pub line_kept : (kept : ShownLine) → kept_line worths f p ≡ Some kept → kept ≡ line_shown facts f (p, line)
   line_kept kept at = kept_in (at_id worths f) kept refl at
+
+pub if_kept : (facts : Facts) (worths : Worths) (f p : ℕ) → AreWorths facts worths → (found : Option ShownLine) → found ≡ kept_line worths f p
+    → IfSome found (λ kept. (line : Line) → line_of facts.matches f p ≡ Some line → kept ≡ line_shown facts f (p, line))
+if_kept facts worths f p old None is = tt
+if_kept facts worths f p old (Some kept) is = λ line there. line_kept facts worths f p line old there kept (sym is)

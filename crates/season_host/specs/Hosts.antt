@@ -4,6 +4,7 @@ use Rattle.std.specs.Str.{bytes_eq}
 use Rattle.std.specs.Option.{option_map, option_map_or}
 use Rattle.fpl_base.specs.declared.kinds.Caller.{Caller}
 use Rattle.fpl_base.specs.declared.kinds.Caller.TheVariants.{Operator, Entry}
+use Rattle.fpl_base.specs.Texts.{is_key}
 use Rattle.record_codec.specs.Book.{Book, EntryFacts, Facts, Last}
 use Rattle.season_host.specs.Commands.{IsCommand}
 use Rattle.season_host.specs.declared.request.Request.{Request}
@@ -26,6 +27,10 @@ entry_with entries key = option_map (λ place. Entry (place + 1)) (position (λ 
 -- whose key it is: the operator's first, else that of the entry that has it
 abbrev pub caller_with : HostState → List ℕ → Option Caller
 caller_with host key = if bytes_eq host.operator key then Some Operator else entry_with host.book.entries key
+
+-- whose key these bytes are; what is no key is nobody's
+abbrev pub owner_of : HostState → List ℕ → Option Caller
+owner_of host bytes = if is_key bytes then caller_with host bytes else None
 
 -- a request that can be made: a command can be read, and its number is one that a command can have
 abbrev pub IsRequest : Request → Type 0

@@ -5,7 +5,7 @@ ghost use Rattle.season_host.specs.Doing.{IsBegun};
 ghost use Rattle.season_host.specs.Verdict.{begun};
 
 use crate::worths::Worths;
-use crate::{Answer, Season};
+use crate::{Answer, Season, SharedClubs};
 use fpl_base::{ClubId, Memory, Name, Refused};
 use match_facts::MatchFacts;
 use player_prices::Players;
@@ -32,7 +32,7 @@ impl Season {
             Err(Refused::Rule(rule)) => return Err(Answer::Rule(rule)),
             Err(Refused::Memory) => return Err(Answer::Memory),
         };
-        let Ok(clubs) = clubs_by_id(alloc, clubs.as_slice()) else {
+        let Ok(clubs) = shared_by_id(alloc, clubs.as_slice()) else {
             return Err(Answer::Memory);
         };
         Ok(Season {
@@ -43,6 +43,13 @@ impl Season {
             worths: Worths::new(alloc),
         })
     }
+}
+
+// The clubs by ascending id, to be shared.
+fn shared_by_id(alloc: Global, clubs: &[(ClubId, Name)]) -> Result<SharedClubs, Memory>
+    ensures { IfOk result (λ shared. shared ≡ by_id clubs.now) }
+{
+    SharedClubs::of(alloc, clubs_by_id(alloc, clubs)?)
 }
 
 // The clubs by ascending id.

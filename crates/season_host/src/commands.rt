@@ -63,9 +63,11 @@ impl Season {
                 fixture,
                 player,
                 line,
-            } => self.put_line(now, *fixture, *player, line),
+            } => self.put_line(now, *fixture, *player, line, steps),
             Command::Drop { fixture, player } => self.drop_line(now, *fixture, *player, steps),
-            Command::Finished { fixture, finished } => self.set_finished(now, *fixture, *finished),
+            Command::Finished { fixture, finished } => self.set_finished(
+                now, *fixture, *finished, steps,
+            ),
         }
     }
 }

@@ -1,16 +1,16 @@
 // What a player did in a gameweek.
-ghost use Rattle.std.specs.Prelude.{◌≡◌, ◌<◌, ◌≤◌, ◌≤ℤ◌, ◌+◌, ℕ, Some, length, pos, negsuc, slice_get, true};
+ghost use Rattle.std.specs.Prelude.{◌≡◌, ◌<◌, ◌≤◌, ◌≤ℤ◌, ◌+◌, ◌+ℤ◌, ℕ, Some, length, pos, negsuc, slice_get, true};
 ghost use Rattle.rule_book.specs.Calendar.{standing};
 ghost use Rattle.rule_book.specs.Figures.{IsLine};
 ghost use Rattle.rule_book.specs.MatchFacts.{is_finished, line_of};
 ghost use Rattle.rule_book.specs.PlayerFigures.{bonus_at, played_with, points_at};
 ghost use Rattle.season_host.specs.Worth.{gameweek_figures, with_line, with_fixture, AreModest};
 
-use crate::Season;
 use crate::sheets::{
-    bonus_of, is_finished, keep_lines, kept_bonus, levels_of, line_of, number_of, position_of,
+    bonus_of, is_finished, keep_lines, kept_line, levels_of, line_of, number_of, position_of,
     profile_of,
 };
+use crate::{Season, ShownLine};
 use fpl_base::{FixtureId, Gw, PlayerId, Steps};
 use line_scoring::line_points;
 use rule_book::{Figures, Line};
@@ -96,8 +96,42 @@ fn has_played(line: &Line) -> bool
     line.figures[0] >= 1 || line.figures[7] == 1 || line.figures[8] == 1
 }
 
-// The points of a player's line in a fixture, with the bonus.
+// The points of a player's line in a fixture, with the bonus: as they are kept, or else computed.
 fn points_of<L: Ledger>(
+    alloc: Global,
+    season: &mut Season,
+    player: PlayerId,
+    fixture: FixtureId,
+    line: &Line,
+    steps: &mut Steps<L>,
+) -> i32
+    requires line { IsLine line.now }
+    requires there { line_of season.old.matches fixture player ≡ Some line.now }
+    ensures value { result ≡ points_at season.old.profile season.old.players season.old.matches fixture (player, line.now) }
+    ensures same { season.new ≡ season.old }
+    ensures low { negsuc 9999 ≤ℤ result }
+    ensures high { result ≤ℤ pos 10003 }
+{
+    match kept_line(season, fixture, player) {
+        Some(kept) => points_with_bonus(&kept),
+        None => computed_points(alloc, season, player, fixture, line, steps),
+    }
+}
+
+// The points of a line that is kept, with its bonus.
+fn points_with_bonus(kept: &ShownLine) -> i32
+    requires low { negsuc 9999 ≤ℤ kept.now.points }
+    requires high { kept.now.points ≤ℤ pos 10000 }
+    requires bonus { kept.now.bonus ≤ 3 }
+    ensures value { result ≡ kept.now.points +ℤ pos kept.now.bonus }
+    ensures low { negsuc 9999 ≤ℤ result }
+    ensures high { result ≤ℤ pos 10003 }
+{
+    kept.points + i32::from(kept.bonus)
+}
+
+// The same, computed.
+fn computed_points<L: Ledger>(
     alloc: Global,
     season: &mut Season,
     player: PlayerId,
@@ -135,8 +169,8 @@ fn bonus_at<L: Ledger>(
         return 0;
     }
     keep_lines(alloc, season, fixture, steps);
-    match kept_bonus(season, fixture, player) {
-        Some(bonus) => bonus,
+    match kept_line(season, fixture, player) {
+        Some(kept) => kept.bonus,
         None => computed_bonus(season, player, fixture, line, steps),
     }
 }

@@ -4,7 +4,7 @@ ghost use Rattle.rule_book.specs.Refusals.{IsJudged};
 ghost use Rattle.record_codec.specs.Book.{empty_book, last_number};
 ghost use Rattle.season_host.specs.Commands.{IsCommand};
 ghost use Rattle.season_host.specs.Doing.{IsAccepted, IsShown, IsStoreless, MayAnswerIn};
-ghost use Rattle.season_host.specs.Hosts.{IsRequest, caller_with};
+ghost use Rattle.season_host.specs.Hosts.{IsRequest, caller_with, owner_of};
 ghost use Rattle.season_host.specs.Verdict.{MayAnswer, judged, number_refusal, pass, view_answer};
 ghost use Rattle.season_host.specs.declared.request.Request.TheVariants as request_of;
 
@@ -82,7 +82,14 @@ impl Host {
     pub fn caller_of(&self, key: &Key) -> Option<Caller>
         ensures { result ≡ caller_with self.now key.now }
     {
-        if self.operator.bytes() == key.bytes() {
+        self.owner_of(key.bytes())
+    }
+
+    /// Whose key these bytes are; `None` where nobody has it, and so where they are no key. It takes no memory.
+    pub fn owner_of(&self, bytes: &[u8]) -> Option<Caller>
+        ensures { result ≡ owner_of self.now bytes.now }
+    {
+        if self.operator.bytes() == bytes {
             Some(Caller::Operator)
         } else {
             None

@@ -4,6 +4,7 @@ ghost use Rattle.season_host.specs.Doing.{IsDone};
 ghost use Rattle.season_host.specs.Verdict.{judged};
 ghost use Rattle.record_codec.specs.declared.command.Command.TheVariants as command;
 
+use crate::sheets::{bare_worth, place_of_line};
 use crate::{Answer, Season};
 use fpl_base::{Moment, PlayerId, Refused, Steps};
 use match_facts::facts_are_maps;
@@ -36,12 +37,13 @@ impl Season {
         }
     }
 
-    pub(crate) fn put_line(
+    pub(crate) fn put_line<L: Ledger>(
         &mut self,
         now: Moment,
         number: u32,
         player: PlayerId,
         line: &Line,
+        steps: &mut Steps<L>,
     ) -> Result<(), Answer>
         ensures { IsDone (judged (Some self.old) now (command.Line number player line.now)) self.old self.new result }
     {
@@ -53,9 +55,14 @@ impl Season {
         }
         let locked = self.is_in_locked(fixture);
         facts_are_maps();
-        self.worths.forget(fixture);
+        let place = place_of_line(&self.matches, fixture, player);
         match self.matches.put_line(fixture, locked, player, line) {
-            Ok(()) => Ok(()),
+            Ok(()) => {
+                let worth = bare_worth(&self.players, player, line);
+                self.worths
+                    .follow_line(&self.matches, fixture, place, worth, steps);
+                Ok(())
+            }
             Err(Refused::Rule(rule)) => Err(Answer::Rule(rule)),
             Err(Refused::Memory) => Err(Answer::Memory),
         }
@@ -82,11 +89,12 @@ impl Season {
         Ok(())
     }
 
-    pub(crate) fn set_finished(
+    pub(crate) fn set_finished<L: Ledger>(
         &mut self,
         now: Moment,
         number: u32,
         finished: bool,
+        steps: &mut Steps<L>,
     ) -> Result<(), Answer>
         ensures { IsDone (judged (Some self.old) now (command.Finished number finished)) self.old self.new result }
     {
@@ -95,9 +103,11 @@ impl Season {
         };
         let locked = self.is_in_locked(fixture);
         facts_are_maps();
-        self.worths.forget(fixture);
         match self.matches.set_finished(fixture, locked, finished) {
-            Ok(()) => Ok(()),
+            Ok(()) => {
+                self.worths.relevel(&self.matches, fixture, steps);
+                Ok(())
+            }
             Err(Refused::Rule(rule)) => Err(Answer::Rule(rule)),
             Err(Refused::Memory) => Err(Answer::Memory),
         }

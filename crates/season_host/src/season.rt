@@ -1,7 +1,7 @@
+use crate::SharedClubs;
 use crate::worths::Worths;
 use match_facts::MatchFacts;
 use player_prices::Players;
-use record_codec::Clubs;
 use season_calendar::Calendar;
 use std::marker::Model;
 
@@ -9,7 +9,7 @@ use std::marker::Model;
 #[derive(Drop)]
 pub struct Season {
     pub(crate) calendar: Calendar,
-    pub(crate) clubs: Clubs,
+    pub(crate) clubs: SharedClubs,
     pub(crate) players: Players,
     pub(crate) matches: MatchFacts,
     // What views found, which no contract sees.

@@ -7,13 +7,18 @@ ghost use Rattle.rule_book.specs.Bonus.{takes_part};
 ghost use Rattle.rule_book.specs.BonusPoints.{bps_of};
 ghost use Rattle.rule_book.specs.Figures.{IsLine};
 ghost use Rattle.rule_book.specs.MatchFacts.{line_of, lines_of, is_finished};
-ghost use Rattle.rule_book.specs.PlayerFigures.{bonus_at, position_in};
+ghost use Rattle.rule_book.specs.PlayerFigures.{position_in};
 ghost use Rattle.season_host.specs.Views.{line_shown};
+ghost use Rattle.season_host.specs.Levels.{IsPlaceOf, bare_worth};
 ghost use Rattle.season_host.specs.Worth.{AreLevels, bare_line, with_bonus};
+ghost use Rattle.fpl_base.specs.declared.kinds.Profile.TheVariants as profile;
 
+use crate::levels::level;
 use crate::{Season, ShownLine, ShownLines};
 use fpl_base::{FixtureId, Memory, PlayerId, Position, Profile, Steps};
 use line_scoring::{BonusLevels, bps, line_points};
+use match_facts::MatchFacts;
+use player_prices::Players;
 use rule_book::Line;
 use std::alloc::Global;
 use std::sync::ledger::Ledger;
@@ -42,7 +47,14 @@ pub(crate) fn profile_of(season: &Season) -> Profile
 pub(crate) fn position_of(season: &Season, player: PlayerId) -> Position
     ensures { result ≡ position_in season.now.players player }
 {
-    match season.players.get(player) {
+    position_among(&season.players, player)
+}
+
+// Where a player among these plays.
+fn position_among(players: &Players, player: PlayerId) -> Position
+    ensures { result ≡ position_in players.now player }
+{
+    match players.get(player) {
         Some(there) => there.position,
         None => Position::Keeper,
     }
@@ -59,6 +71,20 @@ pub(crate) fn line_of<L: Ledger>(
     ensures in_range { IfSome result IsLine }
 {
     season.matches.line(fixture, player, steps)
+}
+
+// Where a player's line stands among those of a fixture, if he has one there.
+pub(crate) fn place_of_line(
+    matches: &MatchFacts,
+    fixture: FixtureId,
+    player: PlayerId,
+) -> Option<usize>
+    ensures { IfSome result (IsPlaceOf (lines_of matches.now fixture) player) }
+{
+    match matches.players_of(fixture).binary_search(&player) {
+        Ok(place) => Some(place),
+        Err(_) => None,
+    }
 }
 
 // Whether a fixture is finished.
@@ -122,14 +148,11 @@ fn kept_lines(season: &Season, fixture: FixtureId) -> Result<Option<ShownLines>,
     season.worths.copy(fixture)
 }
 
-// The bonus that is kept of a player's line in a fixture, if it is.
-pub(crate) fn kept_bonus(season: &Season, fixture: FixtureId, player: PlayerId) -> Option<u8>
-    ensures { IfSome result (λ bonus. (line : Line) → line_of season.now.matches fixture player ≡ Some line → bonus ≡ bonus_at season.now.players season.now.matches fixture (player, line)) }
+// What is kept of a player's line in a fixture, if it is.
+pub(crate) fn kept_line(season: &Season, fixture: FixtureId, player: PlayerId) -> Option<ShownLine>
+    ensures { IfSome result (λ kept. (line : Line) → line_of season.now.matches fixture player ≡ Some line → kept ≡ line_shown season.now fixture (player, line)) }
 {
-    match season.worths.line(fixture, player) {
-        Some(kept) => Some(kept.bonus),
-        None => None,
-    }
+    season.worths.line(fixture, player)
 }
 
 // The lines of a fixture by player, and what they are worth, computed anew.
@@ -142,17 +165,29 @@ fn computed_lines<L: Ledger>(
     ensures { IfOk result (λ lines. lines ≡ map (line_shown season.now fixture) (lines_of season.now.matches fixture)) }
 {
     let (players, lines) = rows_of(season, fixture, steps);
-    let mut shown = Vec::with_capacity(alloc, players.len())?;
-    let mut levels = BonusLevels::new();
-    for (place, player) in players.iter().enumerate() {
-        let line = bare_line(season, *player, &lines[place]);
-        count_in(&mut levels, &lines[place], line.bps);
-        shown.push(line)?;
-    }
+    let mut shown = bare_lines(alloc, season, players, lines)?;
     if is_finished(season, fixture) {
-        give_bonus(&levels, lines, &mut shown);
+        level(lines, &mut shown);
     }
     Ok(ShownLines::of(shown))
+}
+
+// Lines and what they are worth without bonus.
+fn bare_lines(
+    alloc: Global,
+    season: &Season,
+    players: &[PlayerId],
+    lines: &[Line],
+) -> Result<Vec<ShownLine>, Memory>
+    requires paired { length lines.now ≡ length players.now }
+    requires in_range { All IsLine lines.now }
+    ensures { IfOk result (λ shown. shown.items ≡ map (bare_line season.now) (zip players.now lines.now)) }
+{
+    let mut shown = Vec::with_capacity(alloc, players.len())?;
+    for (place, player) in players.iter().enumerate() {
+        shown.push(bare_line(season, *player, &lines[place]))?;
+    }
+    Ok(shown)
 }
 
 // The levels of a match: the greatest numbers of those who took part.
@@ -185,27 +220,36 @@ fn bare_line(season: &Season, player: PlayerId, line: &Line) -> ShownLine
     requires { IsLine line.now }
     ensures { result ≡ bare_line season.now (player, line.now) }
 {
-    let position = position_of(season, player);
+    bare_worth(&season.players, player, line)
+}
+
+// What a player's line is worth without bonus, by where the players play.
+pub(crate) fn bare_worth(players: &Players, player: PlayerId, line: &Line) -> ShownLine
+    requires { IsLine line.now }
+    ensures { result ≡ bare_worth profile.A players.now (player, line.now) }
+{
+    let position = position_among(players, player);
     ShownLine {
         player,
-        points: line_points(profile_of(season), position, line),
+        points: line_points(Profile::A, position, line),
         bps: bps(position, line),
         bonus: 0,
     }
 }
 
 // Counts a line of this number in, if its player took part.
-fn count_in(levels: &mut BonusLevels, line: &Line, number: i32)
+pub(crate) fn count_in(levels: &mut BonusLevels, line: &Line, number: i32)
     ensures part { takes_part line.now ≡ true → (own : ℤ) → bonus_by levels.new own ≡ bonus_by levels.old own - above own number }
     ensures none { takes_part line.now ≡ false → levels.new ≡ levels.old }
 {
-    if has_minutes(line) {
+    // Numbers stand beside one another, and lines far apart, so the line is looked at last.
+    if levels.counts(number) && has_minutes(line) {
         levels.add(number);
     }
 }
 
 // Gives each line of a match that is finished its bonus.
-fn give_bonus(levels: &BonusLevels, lines: &[Line], shown: &mut [ShownLine])
+pub(crate) fn give_bonus(levels: &BonusLevels, lines: &[Line], shown: &mut [ShownLine])
     requires { length shown.old ≡ length lines.now }
     ensures { shown.new ≡ map (with_bonus levels.now) (zip lines.now shown.old) }
 {
@@ -218,10 +262,8 @@ fn give_bonus(levels: &BonusLevels, lines: &[Line], shown: &mut [ShownLine])
 pub(crate) fn bonus_of(levels: &BonusLevels, line: &Line, number: i32) -> u8
     ensures { result ≡ (if takes_part line.now then bonus_by levels.now number else 0) }
 {
-    if !has_minutes(line) {
-        return 0;
-    }
-    levels.bonus(number)
+    let won = levels.bonus(number);
+    if won > 0 && has_minutes(line) { won } else { 0 }
 }
 
 fn has_minutes(line: &Line) -> bool

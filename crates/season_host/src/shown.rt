@@ -1,17 +1,23 @@
 // What views show.
-ghost use Rattle.std.specs.Prelude.{◌≡◌, ◌++◌, ◌==◌, ◌∷◌, [], List, IfOk, OnErr, OnOk, find};
+ghost use Rattle.std.specs.Prelude.{◌≡◌, ◌<◌, ◌++◌, ◌==◌, ◌∷◌, [], List, IfOk, OnErr, OnOk, find, length, slice_set};
+ghost use Rattle.rule_book.specs.MatchFacts.{lines_of};
+ghost use Rattle.season_host.specs.Levels.{leveled_in};
 
-use fpl_base::{Memory, PlayerId};
-use record_codec::{Clubs, Moments};
+use crate::SharedClubs;
+use crate::levels::relevel;
+use fpl_base::{FixtureId, Memory, PlayerId, Steps};
+use match_facts::MatchFacts;
+use record_codec::Moments;
 use rule_book::{Figures, Fixture, Player};
 use std::alloc::Global;
 use std::marker::Model;
+use std::sync::ledger::Ledger;
 
 /// A season as it stands.
 #[derive(Drop)]
 pub struct ShownSeason {
     /// By ascending id.
-    pub clubs: Clubs,
+    pub clubs: SharedClubs,
     pub deadlines: Moments,
     /// How many gameweeks are locked.
     pub locked: u8,
@@ -84,6 +90,27 @@ impl ShownLines {
         let alloc = *self.items.allocator();
         let items = Vec::from_slice(alloc, self.items.as_slice())?;
         Ok(ShownLines { items })
+    }
+
+    // Puts this line at a place.
+    pub(crate) fn set(&mut self, place: usize, line: ShownLine)
+        requires { place < length self.old }
+        ensures { self.new ≡ slice_set self.old place line }
+    {
+        self.items[place] = line;
+    }
+
+    // Gives the lines of a fixture their bonus anew.
+    pub(crate) fn relevel<L: Ledger>(
+        &mut self,
+        matches: &MatchFacts,
+        fixture: FixtureId,
+        steps: &mut Steps<L>,
+    )
+        requires { length self.old ≡ length (lines_of matches.now fixture) }
+        ensures { self.new ≡ leveled_in matches.now fixture self.old }
+    {
+        relevel(matches, fixture, &mut self.items, steps);
     }
 
     // The line of a player.

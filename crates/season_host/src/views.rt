@@ -17,7 +17,8 @@ use std::sync::ledger::Ledger;
 
 /// What a view shows; `None` exactly where an id is not there, or the gameweek is not locked. Each line of a match that
 /// it reads is a counted read; what the lines of a match are worth is kept for later views, which do not read them
-/// until the match, or who may play, changes.
+/// until a sheet or a line more, a line taken away, or a new player changes that. A line that is corrected and the mark
+/// are followed in what is kept.
 pub fn show<L: Ledger>(
     alloc: Global,
     season: &mut Season,
@@ -41,7 +42,7 @@ fn season_shown(alloc: Global, season: &Season) -> Result<ShownSeason, Memory>
     ensures { IfOk result (λ shown. shown ≡ season_shown season.now) }
 {
     Ok(ShownSeason {
-        clubs: season.clubs.copy()?,
+        clubs: season.clubs.share()?,
         deadlines: deadlines_of(alloc, &season.calendar)?,
         locked: season.calendar.locked(),
         split: season.calendar.split(),

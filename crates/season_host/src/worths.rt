@@ -1,13 +1,17 @@
 // What the lines of fixtures are worth, kept from one view to the next.
-ghost use Rattle.std.specs.Prelude.{◌≡◌, ◌∷◌, [], IfOk, OnErr, OnOk, is_some};
+ghost use Rattle.std.specs.Prelude.{◌≡◌, ◌<◌, ◌∷◌, [], IfOk, OnErr, OnOk, is_some, length};
 ghost use Rattle.rule_book.specs.ById.{at_id, placed_at};
+ghost use Rattle.rule_book.specs.MatchFacts.{lines_of};
 ghost use Rattle.season_host.specs.Kept.{kept_line};
+ghost use Rattle.season_host.specs.Levels.{AreAsMany, HavePlace, followed_at, leveled_at, replaced_at};
 
 use crate::{ShownLine, ShownLines};
-use fpl_base::{FixtureId, Memory, PlayerId};
+use fpl_base::{FixtureId, Memory, PlayerId, Steps};
+use match_facts::MatchFacts;
 use std::alloc::Global;
 use std::collections::BTreeMap;
 use std::marker::Model;
+use std::sync::ledger::Ledger;
 
 /// For some fixtures, their lines and what these are worth. A contract sees them by ascending fixture.
 #[derive(Drop)]
@@ -71,6 +75,63 @@ impl Worths {
     {
         self.rows.insert(fixture, lines)?;
         Ok(())
+    }
+
+    /// Gives the lines that are kept of a fixture their bonus anew.
+    pub fn relevel<L: Ledger>(
+        &mut self,
+        matches: &MatchFacts,
+        fixture: FixtureId,
+        steps: &mut Steps<L>,
+    )
+        requires { AreAsMany self.old matches.now fixture }
+        ensures { self.new ≡ leveled_at self.old matches.now fixture }
+    {
+        match self.rows.get_mut(&fixture) {
+            Some(lines) => lines.relevel(matches, fixture, steps),
+            None => {}
+        }
+    }
+
+    /// Puts a line at the place of its player among those that are kept of a fixture, and gives all of them their bonus
+    /// anew; where he has no place, keeps nothing of the fixture.
+    pub fn follow_line<L: Ledger>(
+        &mut self,
+        matches: &MatchFacts,
+        fixture: FixtureId,
+        place: Option<usize>,
+        line: ShownLine,
+        steps: &mut Steps<L>,
+    )
+        requires { HavePlace self.old matches.now fixture place }
+        ensures { self.new ≡ followed_at self.old matches.now fixture place line }
+    {
+        match place {
+            Some(place) => self.replace(matches, fixture, place, line, steps),
+            None => self.forget(fixture),
+        }
+    }
+
+    // Puts a line at a place among those that are kept of a fixture, and gives all of them their bonus anew.
+    fn replace<L: Ledger>(
+        &mut self,
+        matches: &MatchFacts,
+        fixture: FixtureId,
+        place: usize,
+        line: ShownLine,
+        steps: &mut Steps<L>,
+    )
+        requires as_many { AreAsMany self.old matches.now fixture }
+        requires there { place < length (lines_of matches.now fixture) }
+        ensures { self.new ≡ replaced_at self.old matches.now fixture place line }
+    {
+        match self.rows.get_mut(&fixture) {
+            Some(lines) => {
+                lines.set(place, line);
+                lines.relevel(matches, fixture, steps);
+            }
+            None => {}
+        }
     }
 
     /// Keeps nothing of a fixture.

@@ -2,7 +2,7 @@ ghost use Rattle.std.specs.Prelude.{◌≡◌, ◌<◌, [], false};
 
 use super::*;
 use crate::worths::Worths;
-use crate::{Clubs, Lines, ShownLine};
+use crate::{Clubs, Lines, SharedClubs, ShownLine};
 use fpl_base::{ClubId, Name, Position, Tenths};
 use match_facts::MatchFacts;
 use player_prices::Players;
@@ -53,7 +53,7 @@ fn clubs(rt: &impl Abort, alloc: Global) -> Clubs {
 fn season(rt: &impl Abort, alloc: Global) -> Season {
     Season {
         calendar: calendar(rt, alloc),
-        clubs: clubs(rt, alloc),
+        clubs: SharedClubs::of(alloc, clubs(rt, alloc)).expect(rt, "memory"),
         players: Players::new(alloc),
         matches: MatchFacts::new(alloc),
         worths: Worths::new(alloc),
@@ -103,10 +103,26 @@ fn move_to(rt: &impl Abort, season: &mut Season, fixture: u32, gameweek: u8) {
     assert!(rt; done);
 }
 
+fn finished_by<L: Ledger>(
+    season: &mut Season,
+    now: Moment,
+    fixture: u32,
+    finished: bool,
+    blank: Blank,
+) -> bool
+    requires name { blank.name ≡ L.name }
+    requires parts { blank.parts ≡ L.parts }
+    requires some { 0 < blank.parts }
+{
+    let mut steps: Steps<L> = Steps::open(blank);
+    season
+        .set_finished(now, fixture, finished, &mut steps)
+        .is_ok()
+}
+
 fn finish(rt: &impl Abort, season: &mut Season, fixture: u32, finished: bool) {
-    let done = season
-        .set_finished(moment(rt, 2000), fixture, finished)
-        .is_ok();
+    let now = moment(rt, 2000);
+    let done = finished_by::<Brand>(season, now, fixture, finished, Blank::new(1));
     assert!(rt; done);
 }
 
@@ -121,10 +137,33 @@ fn line(figures: &[(usize, u16)]) -> Line {
     line
 }
 
+fn put_by<L: Ledger>(
+    season: &mut Season,
+    now: Moment,
+    fixture: u32,
+    id: PlayerId,
+    line: &Line,
+    blank: Blank,
+) -> bool
+    requires name { blank.name ≡ L.name }
+    requires parts { blank.parts ≡ L.parts }
+    requires some { 0 < blank.parts }
+{
+    let mut steps: Steps<L> = Steps::open(blank);
+    season.put_line(now, fixture, id, line, &mut steps).is_ok()
+}
+
 fn put_line(rt: &impl Abort, season: &mut Season, fixture: u32, id: u32, figures: &[(usize, u16)]) {
-    let done = season
-        .put_line(moment(rt, 2000), fixture, player_id(rt, id), &line(figures))
-        .is_ok();
+    let now = moment(rt, 2000);
+    let line = line(figures);
+    let done = put_by::<Brand>(
+        season,
+        now,
+        fixture,
+        player_id(rt, id),
+        &line,
+        Blank::new(1),
+    );
     assert!(rt; done);
 }
 
@@ -414,6 +453,44 @@ fn bonus_moves_with_the_line_of_another(rt: HostRuntime) {
             assert_eq!(rt; shown, figures(3 + bonus, true, 0, 0));
         }
     }
+}
+
+// The bonus of each line of a fixture is this.
+fn bonuses_are(rt: &impl Abort, alloc: Global, season: &mut Season, fixture: u32, wanted: &[u8]) {
+    let shown = bonuses(rt, alloc, season, fixture).expect(rt, "memory");
+    assert_eq!(rt; shown.as_slice(), wanted);
+}
+
+// Each step is taken on what the view of the one before it kept. The first has no minute at first.
+#[test]
+fn what_is_kept_follows_a_match(rt: HostRuntime) {
+    let alloc = rt.alloc();
+    let mut season = season(&rt, alloc);
+    add_fixture(&rt, &mut season, 1, 1);
+    for (player, minutes, saves) in [(3, 0, 99), (4, 90, 30), (6, 90, 20), (7, 90, 10)] {
+        add_player(&rt, alloc, &mut season, player, Position::Midfielder);
+        put_line(&rt, &mut season, 1, player, &[(1, minutes), (5, saves)]);
+    }
+    add_player(&rt, alloc, &mut season, 5, Position::Midfielder);
+    bonuses_are(&rt, alloc, &mut season, 1, &[0, 0, 0, 0]);
+    finish(&rt, &mut season, 1, true);
+    bonuses_are(&rt, alloc, &mut season, 1, &[0, 3, 2, 1]);
+    put_line(&rt, &mut season, 1, 7, &[(1, 90), (5, 40)]);
+    bonuses_are(&rt, alloc, &mut season, 1, &[0, 2, 1, 3]);
+    finish(&rt, &mut season, 1, false);
+    bonuses_are(&rt, alloc, &mut season, 1, &[0, 0, 0, 0]);
+    put_line(&rt, &mut season, 1, 3, &[(1, 90), (5, 99)]);
+    bonuses_are(&rt, alloc, &mut season, 1, &[0, 0, 0, 0]);
+    finish(&rt, &mut season, 1, true);
+    bonuses_are(&rt, alloc, &mut season, 1, &[3, 1, 0, 2]);
+    // A line more, between the others.
+    put_line(&rt, &mut season, 1, 5, &[(1, 90), (5, 50)]);
+    bonuses_are(&rt, alloc, &mut season, 1, &[3, 0, 2, 0, 1]);
+    drop_line(&rt, &mut season, 1, 3);
+    bonuses_are(&rt, alloc, &mut season, 1, &[1, 3, 0, 2]);
+    // An hour and a clean sheet are 3 points.
+    let points = figures(3 + 3, true, 0, 0);
+    assert_eq!(rt; gameweek(&rt, alloc, &mut season, 5, 1), points);
 }
 
 #[test]
