@@ -3,7 +3,7 @@ use Rattle.std.proofs.Common.{◌≡◌, ◌∙◌, ap, sym, subst, refl, ℕ, z
 use Rattle.std.proofs.lemmas.Bool.{cases_Bool, cases_lt}
 use Rattle.std.proofs.lemmas.Bool.Decides.{nat_tests}
 use Rattle.std.proofs.lemmas.List.Sums.{sum_by-cons}
-use Rattle.std.proofs.lemmas.List.{take-append-le, length-append, length-take, take_all, drop_more}
+use Rattle.std.proofs.lemmas.List.{take-append-le, length-append, length-take, take_all, drop-drop, drop_more}
 use Rattle.std.specs.Prelude.{Option, Some, None, option_map, ◌==◌, ◌&&◌, if◌then◌else◌, nat_le, nat_lt, min}
 use Rattle.fpl_http.specs.Lines.{empty_line, strip, head_len, head_len_behind, or_else, line_count, head_end_of, head_end_in}
 use Rattle.fpl_http.specs.declared.lines.HeadEnd.TheVariants.{Missing, TooLarge, At}
@@ -418,3 +418,41 @@ line_counted (b ∷ rest) (suc k) none lt feed =
 pub shifted_by : (a n : ℕ) (o : Option ℕ) → option_map (λ k. a + k) (option_map (λ k. n + k) o) ≡ option_map (λ k. a + n + k) o
 shifted_by a n None = refl
 shifted_by a n (Some k) = ap Some (omega arith)
+
+-- ---- the lines of a head, counted on the way to its end
+
+counted_parts : (k : ℕ) (t : List ℕ) → line_count t ≡ line_count (take k t) + line_count (drop k t)
+counted_parts zero t = omega arith
+counted_parts (suc k) [] = omega arith
+counted_parts (suc k) (b ∷ rest) =
+    omega (arith, counted_first b rest, counted_first b (take k rest), counted_parts k rest)
+
+counted_empty : (t : List ℕ) (n : ℕ) → empty_line t ≡ Some n → line_count t ≡ 1 + line_count (drop n t)
+counted_empty [] n h = absurd (cc)
+counted_empty (b ∷ []) n h = elim (cases_Bool (b == 10)) [
+  | inl e ↦ let h2 : Some 1 ≡ Some n = rw e at h in let e2 : 1 ≡ n = cc in subst (λ (i : ℕ). line_count (b ∷ []) ≡ 1 + line_count (drop i (b ∷ []))) e2 (counted_feed b [] e)
+  | inr e ↦ let h2 : None ≡ Some n = rw e at h in absurd (cc)
+]
+counted_empty (b ∷ c ∷ rest) n h = elim (cases_Bool (b == 10)) [
+  | inl e ↦ let h2 : Some 1 ≡ Some n = rw e at h in let e2 : 1 ≡ n = cc in subst (λ (i : ℕ). line_count (b ∷ c ∷ rest) ≡ 1 + line_count (drop i (b ∷ c ∷ rest))) e2 (counted_feed b (c ∷ rest) e)
+  | inr e ↦ elim (cases_Bool ((b == 13) && (c == 10))) [
+    | inl f ↦
+        let h2 : Some 2 ≡ Some n = rw (e, f) at h in
+        let e2 : 2 ≡ n = cc in
+        let feed : (c == 10) ≡ true = second_true (b == 13) (c == 10) f in
+        subst (λ (i : ℕ). line_count (b ∷ c ∷ rest) ≡ 1 + line_count (drop i (b ∷ c ∷ rest))) e2 (counted_past b (c ∷ rest) e ∙ counted_feed c rest feed)
+    | inr f ↦ let h2 : None ≡ Some n = rw (e, f) at h in absurd (cc)
+  ]
+]
+  where
+    second_true : (x y : Bool) → (x && y) ≡ true → y ≡ true
+    second_true true y h = h
+    second_true false y h = absurd (cc)
+
+-- a line at a place, and an empty one behind it, with which the head ends
+pub counted_head : (t : List ℕ) (at line n count : ℕ) → count + line_count (drop at t) ≡ line_count t
+    → line_count (drop at t) ≡ 1 + line_count (drop (at + line) t) → empty_line (drop (at + line) t) ≡ Some n
+    → count + 1 + 1 ≡ line_count (take (at + line + n) t)
+counted_head t at line n count so_far here empty =
+    let behind : drop n (drop (at + line) t) ≡ drop (at + line + n) t = drop-drop n (at + line) t in
+    omega (arith, so_far, here, counted_empty (drop (at + line) t) n empty, ap line_count behind, counted_parts (at + line + n) t)

@@ -9,10 +9,10 @@ ghost use Rattle.fpl_http.specs.Seen.{request_seen};
 ghost use Rattle.fpl_http.specs.Stream.{IsFront, Request, Refusal, Wanting};
 
 use crate::buffer::Buffer;
-use crate::head::{Known, Parts, look};
+use crate::head::{FIELDS, Known, Parts, look};
 use crate::lines::blank_lines_length;
 use fpl_base::Memory;
-use httparse::spans::Span;
+use httparse::spans::{EMPTY_HEADER_SPAN, HeaderSpan, Span};
 use std::alloc::Global;
 use std::marker::Model;
 
@@ -34,6 +34,8 @@ pub struct Decoder {
     buffer: Buffer,
     known: Known,
     found: Option<Parts>,
+    // Where the fields of a head are found, kept from head to head.
+    spans: [HeaderSpan; FIELDS],
 }
 
 impl Model for Decoder {
@@ -85,6 +87,7 @@ impl Decoder {
             buffer: Buffer::new(alloc)?,
             known: Known::Searched(0),
             found: None,
+            spans: [EMPTY_HEADER_SPAN; FIELDS],
         })
     }
 
@@ -132,7 +135,7 @@ impl Decoder {
             → IsFront self.new.pending (Refusal k) }
     {
         self.give_up();
-        self.known = look(self.buffer.waits(), self.known);
+        look(self.buffer.waits(), &mut self.known, &mut self.spans);
         match self.known {
             Known::Searched(_) => Next::NeedMore,
             Known::Refused(status) => Next::Refused(status),

@@ -11,10 +11,10 @@ use crate::fields::{closes_of, key_of};
 use crate::length::body_length_of;
 use crate::lines::{HeadEnd, find_head_end};
 use httparse::Status;
-use httparse::spans::{EMPTY_HEADER_SPAN, HeaderSpan, RequestSpans, Span, parse_request};
+use httparse::spans::{HeaderSpan, RequestSpans, Span, parse_request};
 
 /// The most fields that a head may have.
-const FIELDS: usize = 64;
+pub const FIELDS: usize = 64;
 
 /// Where the parts of a message stand, from its first byte on. The message ends with its body.
 #[derive(Clone, Copy, Debug)]
@@ -84,12 +84,11 @@ fn judge_fields(
     }
 }
 
-/// What a head tells.
-fn judge_head(head: &[u8]) -> Judged
+/// What a head tells. The spans are a place to work in.
+fn judge_head(head: &[u8], spans: &mut [HeaderSpan; FIELDS]) -> Judged
     ensures { HeadTells head.now result }
 {
-    let mut spans = [EMPTY_HEADER_SPAN; FIELDS];
-    match read_head(head, &mut spans) {
+    match read_head(head, spans) {
         None => Judged::Unfit(400),
         Some(found) => judge_fields(
             head,
@@ -102,7 +101,7 @@ fn judge_head(head: &[u8]) -> Judged
 }
 
 /// Goes on with the search for the head's end.
-fn seek_head(waits: &[u8], searched: usize) -> Known
+fn seek_head(waits: &[u8], searched: usize, spans: &mut [HeaderSpan; FIELDS]) -> Known
     requires stripped { strip waits.now ≡ waits.now }
     requires knows { Knows waits.now (Known.Searched searched) }
     ensures knows { Knows waits.now result }
@@ -111,23 +110,21 @@ fn seek_head(waits: &[u8], searched: usize) -> Known
     match find_head_end(waits, searched) {
         HeadEnd::Missing => Known::Searched(waits.len()),
         HeadEnd::TooLarge => Known::Refused(431),
-        HeadEnd::At(size) => match judge_head(&waits[..size]) {
+        HeadEnd::At(size) => match judge_head(&waits[..size], spans) {
             Judged::Unfit(status) => Known::Refused(status),
             Judged::Fit(parts) => Known::Awaits(parts),
         },
     }
 }
 
-/// Looks at the bytes that wait, from what was known of those that came before.
-pub fn look(waits: &[u8], known: Known) -> Known
+/// Looks at the bytes that wait, from what was known of those that came before. The spans are a place to work in.
+pub fn look(waits: &[u8], known: &mut Known, spans: &mut [HeaderSpan; FIELDS])
     requires stripped { strip waits.now ≡ waits.now }
-    requires knows { Knows waits.now known }
-    ensures knows { Knows waits.now result }
-    ensures wanting { (n : ℕ) → result ≡ Known.Searched n → IsFront waits.now Wanting }
+    requires knows { Knows waits.now known.old }
+    ensures knows { Knows waits.now known.new }
+    ensures wanting { (n : ℕ) → known.new ≡ Known.Searched n → IsFront waits.now Wanting }
 {
-    match known {
-        Known::Searched(searched) => seek_head(waits, searched),
-        Known::Awaits(parts) => Known::Awaits(parts),
-        Known::Refused(status) => Known::Refused(status),
+    if let Known::Searched(searched) = known {
+        *known = seek_head(waits, *searched, spans);
     }
 }

@@ -13,8 +13,8 @@ use Rattle.fpl_http.proofs.PartsLemmas.{headed_wanting}
 use Rattle.fpl_http.proofs.HeldLemmas.{nothing_found, wants_no_refusal, whole_no_refusal, one_refusal, front_before, gives_message}
 use Rattle.fpl_http.proofs.decoder.Decoder.next.Goals as goal
 
-pub look-self-inside-requires-clause-stripped : goal.look-self-inside-requires-clause-stripped
-look-self-inside-requires-clause-stripped c =
+pub look-requires-clause-stripped : goal.look-requires-clause-stripped
+look-requires-clause-stripped c =
     let here = c.waits.ensures ∙ ap (λ (d : Held). d.pending) (c.self.view_is ∙ c.give_up.ensures) in
     ap strip here ∙ strip_idem c.args.self.now.pending ∙ sym here
 
@@ -23,7 +23,7 @@ returns-in-Searched c =
     let old = c.args.self.now.pending in
     let here = ap (λ (d : Held). d.pending) (c.self.view_is ∙ c.give_up.ensures) in
     let none = nothing_found (request_at c.self.inside.buffer.kept) c.self.inside.found (ap (λ (d : Held). d.found) (c.self.view_is ∙ c.give_up.ensures)) in
-    let front = front_before old c.waits.result.now Wanting (c.waits.ensures ∙ here) (c.look-self-inside.ensures.wanting c.in-Searched.field-0 c.in-Searched.is) in
+    let front = front_before old c.waits.result.now Wanting (c.waits.ensures ∙ here) (c.look.ensures.wanting c.in-Searched.field-0 c.in-Searched.is) in
     record {
       gives = (front, here, rw none refl);
       refused = λ k. (λ e. absurd (cc), λ p. absurd (wants_no_refusal old k front p));
@@ -37,7 +37,7 @@ returns-in-Refused c =
     let status = c.in-Refused.status in
     let here = ap (λ (d : Held). d.pending) (c.self.view_is ∙ c.give_up.ensures) in
     let none = nothing_found (request_at c.self.inside.buffer.kept) c.self.inside.found (ap (λ (d : Held). d.found) (c.self.view_is ∙ c.give_up.ensures)) in
-    let known : IsUnfit c.waits.result.now status = rw c.in-Refused.is at c.look-self-inside.ensures.knows in
+    let known : IsUnfit c.waits.result.now status = rw c.in-Refused.is at c.look.ensures.knows in
     let front = front_before old c.waits.result.now (Refusal status) (c.waits.ensures ∙ here) known.front in
     let there : IsFront c.self.inside.buffer.waits (Refusal status) = subst (λ (l : List ℕ). IsFront l (Refusal status)) c.waits.ensures known.front in
     record {
@@ -53,7 +53,7 @@ returns-then-parts-waits c =
     let waits = c.self.inside.buffer.waits in
     let p = c.in-Awaits.parts in
     let here = ap (λ (d : Held). d.pending) (c.self.view_is ∙ c.give_up.ensures) in
-    let known : IsHeaded waits p = subst (λ (l : List ℕ). IsHeaded l p) c.waits.ensures (rw c.in-Awaits.is at c.look-self-inside.ensures.knows) in
+    let known : IsHeaded waits p = subst (λ (l : List ℕ). IsHeaded l p) c.waits.ensures (rw c.in-Awaits.is at c.look.ensures.knows) in
     let fits : p.body.end ≤ length waits = subst (λ (l : List ℕ). p.body.end ≤ length l) c.waits-in-Awaits.ensures c.if-parts-waits.true in
     let (m, front, found, short) = gives_message old waits c.keep.new.self.kept c.keep.new.self.waits p here known fits (ap (λ (s : Stored). s.kept) c.keep.ensures) (ap (λ (s : Stored). s.waits) c.keep.ensures) in
     record {
@@ -70,7 +70,7 @@ returns-else-parts-waits c =
     let p = c.in-Awaits.parts in
     let here = ap (λ (d : Held). d.pending) (c.self.view_is ∙ c.give_up.ensures) in
     let none = nothing_found (request_at c.self.inside.buffer.kept) c.self.inside.found (ap (λ (d : Held). d.found) (c.self.view_is ∙ c.give_up.ensures)) in
-    let known : IsHeaded waits p = subst (λ (l : List ℕ). IsHeaded l p) c.waits.ensures (rw c.in-Awaits.is at c.look-self-inside.ensures.knows) in
+    let known : IsHeaded waits p = subst (λ (l : List ℕ). IsHeaded l p) c.waits.ensures (rw c.in-Awaits.is at c.look.ensures.knows) in
     let short : length waits < p.body.end = subst (λ (l : List ℕ). length l < p.body.end) c.waits-in-Awaits.ensures c.if-parts-waits.false in
     let front = front_before old waits Wanting here (headed_wanting waits p known short) in
     record {
