@@ -1,9 +1,16 @@
 -- Lists of numbers, in which whatever is wrong is named by the list anyway.
-use Rattle.std.proofs.Common.{◌≡◌, ℕ, List, ◌∷◌, refl}
+use Rattle.std.proofs.Common.{◌≡◌, ◌∙◌, ◌≤◌, ℕ, suc, List, [], ◌∷◌, ap, arith, map, refl}
+use Rattle.std.proofs.lemmas.Bool.{le-leb}
 use Rattle.std.specs.Prelude.{Option, Some, None, Result, Ok, Err}
-use Rattle.serde_json.specs.Data.{Items, item, no_items}
+use Rattle.serde_json.specs.Data.{Data, Items, item, no_items}
+use Rattle.serde_json.specs.View.{items_of}
 use Rattle.fpl_json.specs.declared.field.FieldName.{FieldName}
-use Rattle.fpl_json.specs.Members.{◌>>=◌, each, entry, number_in, or_wrong, under}
+use Rattle.fpl_json.specs.declared.field.FieldName.TheVariants as field
+use Rattle.fpl_json.specs.MemberData.{count}
+use Rattle.fpl_json.specs.Members.{◌>>=◌, each, entry, if_long, in_range, items, number_in, or_wrong, under}
+use Rattle.fpl_json.specs.Requests.{line, line_of}
+use Rattle.fpl_json.specs.Trees.{AreCounts, count_trees, items_view}
+use Rattle.fpl_json.proofs.TreeLemmas.{items_view-count_trees}
 
 one_more : (list : FieldName) (o : Option ℕ) (r : Result (List ℕ) FieldName) → under list r ≡ r
     → under list (or_wrong list o >>= λ x. r >>= λ xs. Ok (x ∷ xs)) ≡ (or_wrong list o >>= λ x. r >>= λ xs. Ok (x ∷ xs))
@@ -14,3 +21,19 @@ one_more list (Some n) (Err e) h = h
 pub under_entry : (list : FieldName) (low high : ℕ) (ds : Items) → under list (each (entry list low high) ds) ≡ each (entry list low high) ds
 under_entry list low high no_items = refl
 under_entry list low high (item d ds) = one_more list (number_in low high d) (each (entry list low high) ds) (under_entry list low high ds)
+
+in_range-there : (n : ℕ) → n ≤ 65535 → in_range 0 65535 n ≡ Some n
+in_range-there n le = rw (le-leb 0 n (omega arith), le-leb n 65535 le) refl
+
+-- numbers of 16 bits are read as they are
+each_count : (list : FieldName) (ns : List ℕ) → AreCounts ns → each (entry list 0 65535) (items_of (map count ns)) ≡ Ok ns
+each_count list [] small = refl
+each_count list (n ∷ ns) small =
+    ap (λ o. or_wrong list o >>= λ x. each (entry list 0 65535) (items_of (map count ns)) >>= λ xs. Ok (x ∷ xs)) (in_range-there n (small 0 (omega arith)))
+    ∙ ap (λ r. r >>= λ xs. Ok (n ∷ xs)) (each_count list ns (λ k lt. small (suc k) (omega arith)))
+
+-- a list that is kept as numbers is the line of these
+pub line_of_counts : (d : Data) (ns : List ℕ) → items field.Figures d ≡ Ok (items_view (count_trees ns)) → AreCounts ns → line d ≡ line_of ns
+line_of_counts d ns is small =
+    ap (λ r. (r >>= λ ds. under field.Figures (each (entry field.Figures 0 65535) ds) >>= if_long field.Figures 28 28) >>= λ figures. Ok (record { figures = figures })) is
+    ∙ ap (λ r. (under field.Figures r >>= if_long field.Figures 28 28) >>= λ figures. Ok (record { figures = figures })) (ap (each (entry field.Figures 0 65535)) (items_view-count_trees ns) ∙ each_count field.Figures ns small)

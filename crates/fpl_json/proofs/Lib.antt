@@ -1,8 +1,10 @@
 pub mod AppendLemmas
 pub mod BodyLemmas
 pub mod DifferLemmas
+pub mod DigitLemmas
 pub mod EntryLemmas
 pub mod FitLemmas
+pub mod FixtureFacts
 pub mod FoundFacts
 pub mod ListLemmas
 pub mod MemberLemmas
@@ -10,6 +12,7 @@ pub mod NumberLemmas
 pub mod OneLemmas
 pub mod PatternTests
 pub mod PlaceFacts
+pub mod PlainLemmas
 pub mod ReadingLemmas
 pub mod RowLemmas
 pub mod SegmentLemmas

@@ -1,5 +1,5 @@
 -- Digits alone are a whole number.
-use Rattle.std.proofs.Common.{◌≡◌, ◌∙◌, ap, sym, refl, arith, append-nil, lt-ltb, ne_eqb, ℕ, ◌-◌, ◌^◌, ◌<◌, ◌≤◌, List, [], ◌∷◌, ◌++◌, get_or, length, false, Some}
+use Rattle.std.proofs.Common.{◌≡◌, ◌∙◌, ap, sym, refl, arith, append-nil, lt-ltb, ne_eqb, ℕ, ◌+◌, ◌-◌, ◌^◌, ◌<◌, ◌≤◌, List, [], ◌∷◌, ◌++◌, get_or, length, false, Some}
 use Rattle.std.specs.Char.{digit_value}
 use Rattle.std.specs.Str.Parse.{AllDigits, IsNumeral, digits_value}
 use Rattle.fast_float.specs.Text.{IsWellFormed, Parts}
@@ -28,6 +28,13 @@ number_of-digits ds h fits =
 
 pub digit_value-low : (d : ℕ) → 48 ≤ d → d ≤ 57 → digit_value d ≡ d - 48
 digit_value-low d low high = grind arith
+
+pub number_of-digit : (d : ℕ) → 48 ≤ d → d ≤ 57 → number_of (d ∷ []) ≡ Some (unsigned (d - 48))
+number_of-digit d low high =
+    let alone : 0 + (d - 48) ≡ d - 48 = omega arith in
+    let value : digits_value 10 (d ∷ []) ≡ d - 48 = ap (λ n. 0 + n) (digit_value-low d low high) ∙ alone in
+    let numeral : IsNumeral 10 (d ∷ []) = (omega arith, (grind arith, tt)) in
+    number_of-digits (d ∷ []) numeral (rw value (omega arith)) ∙ ap (λ n. Some (unsigned n)) value
 
 all_but_last : (ds : List ℕ) (d : ℕ) → AllDigits 10 ds → digit_value d < 10 → AllDigits 10 (ds ++ d ∷ [])
 all_but_last [] d h last = (last, tt)

@@ -1,11 +1,13 @@
 -- Turns of the grammar's loops, where each value is converted once it is read.
-use Rattle.std.proofs.Common.{◌≡◌, ℕ, zero, suc, ◌-◌, ◌<◌, ◌≤◌, List, [], ◌∷◌, length, Option, Some, None, option_map, option_and_then, refl, ap, ◌∙◌}
+use Rattle.std.proofs.Common.{◌≡◌, ℕ, zero, suc, ◌-◌, ◌<◌, ◌≤◌, List, [], ◌∷◌, length, Option, Some, None, option_map, option_and_then, refl, ap, arith, ◌∙◌}
 use Rattle.json.specs.Token.{Token}
 use Rattle.json.specs.Json as json
-use Rattle.json.specs.Json.{Parse, parse_map, after_end_array, read_key, items_step, items, members, if_last}
-use Rattle.json.proofs.Grammar.{items_end, items_more, members_end, members_no_key, members_more}
+use Rattle.json.specs.Json.{Parse, parse_map, after_end_array, read_key, items_step, items, members, if_last, value}
+use Rattle.json.proofs.Grammar.{items_end, items_more, members_end, members_no_key, members_more, value_is}
 use Rattle.serde_json.specs.Data.{Data, array, object, Items, no_items, item, Members, no_members, put}
 use Rattle.serde_json.specs.Read.{of_json, of_items, of_members, converted}
+use Rattle.fpl_json.specs.MemberData.{count}
+use Rattle.fpl_json.specs.Reading.{IsCount, items_in}
 
 -- ---- what was converted, taken apart
 
@@ -80,6 +82,10 @@ module _ (p : Parse json.Json) where
   pub items_over : (n : ℕ) (ts r : List Token) → length ts ≤ n → after_end_array ts ≡ Some r → converted of_items (items p n ts) ≡ Some (no_items, r)
   items_over n ts r enough e = ap (converted of_items) (items_end p n ts r enough e)
 
+  -- nothing is left to be read
+  pub none_left : (n : ℕ) → converted of_json (p []) ≡ None → converted of_items (items p n []) ≡ None
+  none_left n e = item_refused n [] refl e
+
   module _ (old : Members) where
     pub member_read : (n : ℕ) (k : List ℕ) (ts s r : List Token) (d : Data) → 0 < n → read_key ts ≡ Some (Some k, s) → converted of_json (p s) ≡ Some (d, r)
         → converted (λ ms. of_members ms old) (members p n ts) ≡ converted (λ ms. of_members ms (put k d old)) (members p (n - 1) r)
@@ -102,6 +108,41 @@ module _ (p : Parse json.Json) where
 
     pub members_over : (n : ℕ) (ts r : List Token) → length ts ≤ n → read_key ts ≡ Some (None, r) → converted (λ ms. of_members ms old) (members p n ts) ≡ Some (old, r)
     members_over n ts r enough e = ap (converted (λ ms. of_members ms old)) (members_end p n ts r enough e)
+
+-- ---- numbers in a list
+
+-- a number is its value
+pub count_seen : (depth n : ℕ) (t : Token) (ts : List Token) → IsCount t n → converted of_json (value depth (t ∷ ts)) ≡ Some (count n, ts)
+count_seen depth n (Token.number s) ts e = ap (converted of_json) (value_is depth (Token.number s ∷ ts)) ∙ rw e
+count_seen depth n Token.begin_object ts e = absurd e
+count_seen depth n Token.end_object ts e = absurd e
+count_seen depth n Token.begin_array ts e = absurd e
+count_seen depth n Token.end_array ts e = absurd e
+count_seen depth n (Token.key s) ts e = absurd e
+count_seen depth n (Token.string s) ts e = absurd e
+count_seen depth n (Token.boolean b) ts e = absurd e
+count_seen depth n Token.null ts e = absurd e
+count_seen depth n Token.bad ts e = absurd e
+
+no_end : (n : ℕ) (t : Token) (ts : List Token) → IsCount t n → after_end_array (t ∷ ts) ≡ None
+no_end n (Token.number s) ts e = refl
+no_end n Token.begin_object ts e = absurd e
+no_end n Token.end_object ts e = absurd e
+no_end n Token.begin_array ts e = absurd e
+no_end n Token.end_array ts e = absurd e
+no_end n (Token.key s) ts e = absurd e
+no_end n (Token.string s) ts e = absurd e
+no_end n (Token.boolean b) ts e = absurd e
+no_end n Token.null ts e = absurd e
+no_end n Token.bad ts e = absurd e
+
+pub count_read : (depth n : ℕ) (t : Token) (ts : List Token) → IsCount t n → items_in depth (t ∷ ts) ≡ parse_map (item (count n)) (items_in depth ts)
+count_read depth n t ts e =
+    item_read (value depth) (length (t ∷ ts)) (t ∷ ts) ts (count n) (omega arith) (no_end n t ts e) (count_seen depth n t ts e)
+    ∙ ap (λ k. parse_map (item (count n)) (converted of_items (items (value depth) k ts))) (omega arith)
+
+pub nothing_read : (depth n : ℕ) → converted of_items (items (value depth) n []) ≡ None
+nothing_read depth n = none_left (value depth) n (ap (converted of_json) (value_is depth []))
 
 -- ---- the whole text
 

@@ -1,9 +1,12 @@
 pub mod Answers
 pub mod Callers
 pub mod FieldNames
+pub mod FixtureTexts
 pub mod KeptPlaces
 pub mod MemberData
 pub mod Members
+pub mod Reading
+pub mod Plain
 pub mod Requests
 pub mod RuleData
 pub mod ShownData

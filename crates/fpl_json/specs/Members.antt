@@ -2,6 +2,8 @@
 use Rattle.std.specs.Prelude.{◌≡◌, ℕ, Bool, ◌&&◌, List, [], ◌∷◌, length, codes, nat_le, if◌then◌else◌, Option, Some, None, is_some, option_and_then, Result, Ok, Err, Vec, ⊤}
 use Rattle.std.specs.Option.{option_map}
 use Rattle.std.specs.declared.alloc.Global.{Global}
+use Rattle.std.specs.Cow.{cow_slice_items}
+use Rattle.std.specs.declared.borrow.CowSlice.{CowSlice}
 use Rattle.std.specs.Str.{bytes_eq, is_utf8}
 use Rattle.fpl_base.specs.declared.kinds.Position.{Position}
 use Rattle.fpl_base.specs.declared.kinds.Position.TheVariants as position
@@ -15,7 +17,7 @@ use Rattle.fpl_json.specs.declared.field.ReadFault.{ReadFault}
 use Rattle.fpl_json.specs.declared.field.ReadFault.TheVariants as fault
 use Rattle.fpl_json.specs.declared.tree.Tree.{Tree}
 use Rattle.fpl_json.specs.FieldNames.{name_of}
-use Rattle.fpl_json.specs.Trees.{view}
+use Rattle.fpl_json.specs.Trees.{items_view, view}
 
 -- The first wrong member.
 
@@ -137,6 +139,11 @@ Gives (Err e) given = FailsWith e given
 abbrev pub GivesItems : {X : Type 0} → Result (Vec X Global) ReadFault → Result (List X) FieldName → Type 0
 GivesItems (Ok v) given = given ≡ Ok v.items
 GivesItems (Err e) given = FailsWith e given
+
+-- the same of items, seen as their data
+abbrev pub GivesTrees : Result (CowSlice Tree Global) ReadFault → Result Items FieldName → Type 0
+GivesTrees (Ok c) given = given ≡ Ok (items_view (cow_slice_items c))
+GivesTrees (Err e) given = FailsWith e given
 
 -- the same of a tree, seen as its data
 abbrev pub GivesObject : Result Tree ReadFault → Result Data FieldName → Type 0

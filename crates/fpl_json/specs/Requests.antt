@@ -15,7 +15,7 @@ use Rattle.fpl_json.specs.declared.field.FieldName.{FieldName}
 use Rattle.fpl_json.specs.declared.field.FieldName.TheVariants as field
 use Rattle.fpl_json.specs.declared.route.Route.{Route}
 use Rattle.fpl_json.specs.declared.route.Route.TheVariants as route
-use Rattle.fpl_json.specs.Members.{◌>>=◌, entry, list, moment, object_of, place, position_in, title, truth, whole}
+use Rattle.fpl_json.specs.Members.{◌>>=◌, entry, if_long, list, moment, object_of, place, position_in, title, truth, whole}
 
 -- The parts of commands.
 
@@ -38,6 +38,10 @@ clubs d = list field.Clubs 1 20 club d >>= if_differ
 -- 1 to 38 moments
 abbrev pub deadlines : Data → Result (List ℕ) FieldName
 deadlines d = list field.Deadlines 1 38 (entry field.Deadlines 0 253402300799) d
+
+-- the line of 28 figures
+abbrev pub line_of : List ℕ → Result Line FieldName
+line_of numbers = if_long field.Figures 28 28 numbers >>= λ figures. Ok (record { figures = figures })
 
 -- 28 figures
 abbrev pub line : Data → Result Line FieldName

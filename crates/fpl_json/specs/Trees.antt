@@ -1,5 +1,5 @@
 -- The data that a tree stands for.
-use Rattle.std.specs.Prelude.{ℕ, List, [], ◌∷◌, map}
+use Rattle.std.specs.Prelude.{ℕ, ◌<◌, ◌≤◌, List, [], ◌∷◌, length, map, slice_index}
 use Rattle.std.specs.Borrow.{Bor}
 use Rattle.serde_json.specs.Data.{Num, unsigned, negative, float, Data, null, boolean, number, string, array, object, Items, Members, no_members, put}
 use Rattle.serde_json.specs.View.{items_of}
@@ -7,6 +7,8 @@ use Rattle.fpl_json.specs.declared.number.Number.{Number}
 use Rattle.fpl_json.specs.declared.number.Number.TheVariants as kind
 use Rattle.fpl_json.specs.declared.tree.Tree.{Tree, fold-Tree}
 use Rattle.fpl_json.specs.declared.tree.Tree.TheOpen.{Tree-F}
+use Rattle.fpl_json.specs.declared.tree.Tree.TheVariants as tree
+use Rattle.fpl_json.specs.MemberData.{count}
 
 -- a number, as it is held
 abbrev pub number_view : Number → Num
@@ -26,6 +28,7 @@ view_step (Tree-F.Bool b) = boolean b
 view_step (Tree-F.Number n) = number (number_view n)
 view_step (Tree-F.Text s) = string s.now
 view_step (Tree-F.List v) = array (items_of v.items)
+view_step (Tree-F.Counts v) = array (items_of (map count v.items))
 view_step (Tree-F.Object v) = object (put_all v.items no_members)
 
 -- the data of a tree
@@ -39,3 +42,11 @@ items_view ts = items_of (map view ts)
 -- the data of the members of an object
 abbrev pub members_view : List (Bor (List ℕ) × Tree) → Members
 members_view ms = put_all (map (λ m. (m.0, view m.1)) ms) no_members
+
+-- no number is above 65,535
+abbrev pub AreCounts : List ℕ → Type 0
+AreCounts ns = (k : ℕ) → k < length ns → slice_index ns k ≤ 65535
+
+-- numbers, each as a tree
+abbrev pub count_trees : List ℕ → List Tree
+count_trees ns = map (λ n. tree.Number (kind.Whole n)) ns

@@ -6,38 +6,38 @@ use fpl_base::{
 };
 use record_codec::{Clubs, Made, Moments};
 use rule_book::{Figures, Fixture, Player};
-use season_host::{Answer, Shown, ShownFixture, ShownLine, ShownLines, ShownSeason};
+use season_host::{Answer, SharedClubs, Shown, ShownFixture, ShownLine, ShownLines, ShownSeason};
 use std::alloc::Global;
 use std::str;
 use std::test::Fail;
 
-fn line_of(alloc: Global, answer: &Answer) -> Result<String, Fail> {
+pub(crate) fn line_of(alloc: Global, answer: &Answer) -> Result<String, Fail> {
     let reply = answer_text(alloc, answer)?;
     let body = str::from_utf8(reply.body.as_slice()).ok().ok_or("a text")?;
     Ok(format!(in alloc; "{} {}", reply.status, body)?)
 }
 
-fn club(number: u8) -> Result<ClubId, Fail> {
+pub(crate) fn club(number: u8) -> Result<ClubId, Fail> {
     Ok(ClubId::new(number).ok_or("a club")?)
 }
 
-fn player(number: u32) -> Result<PlayerId, Fail> {
+pub(crate) fn player(number: u32) -> Result<PlayerId, Fail> {
     Ok(PlayerId::new(number).ok_or("a player")?)
 }
 
-fn fixture(number: u32) -> Result<FixtureId, Fail> {
+pub(crate) fn fixture(number: u32) -> Result<FixtureId, Fail> {
     Ok(FixtureId::new(number).ok_or("a fixture")?)
 }
 
-fn gameweek(number: u8) -> Result<Gw, Fail> {
+pub(crate) fn gameweek(number: u8) -> Result<Gw, Fail> {
     Ok(Gw::new(number).ok_or("a gameweek")?)
 }
 
-fn moment(number: u64) -> Result<Moment, Fail> {
+pub(crate) fn moment(number: u64) -> Result<Moment, Fail> {
     Ok(Moment::new(number).ok_or("a moment")?)
 }
 
-fn name(alloc: Global, text: &[u8]) -> Result<Name, Fail> {
+pub(crate) fn name(alloc: Global, text: &[u8]) -> Result<Name, Fail> {
     Ok(Name::new(alloc, text)?.ok_or("a name")?)
 }
 
@@ -138,7 +138,7 @@ fn two_clubs(alloc: Global) -> Result<Answer, Fail> {
     let mut deadlines = Moments::new(alloc);
     deadlines.push(moment(1_691_775_000)?)?;
     Ok(Answer::Shown(Shown::Season(ShownSeason {
-        clubs,
+        clubs: SharedClubs::of(alloc, clubs)?,
         deadlines,
         locked: 0,
         split: 1,
@@ -185,7 +185,7 @@ fn a_season_of_odd_names_is_shown(rt: HostRuntime) -> Result<(), Fail> {
         deadlines.push(moment(number)?)?;
     }
     let answer = Answer::Shown(Shown::Season(ShownSeason {
-        clubs: long_and_short_names(rt.alloc())?,
+        clubs: SharedClubs::of(rt.alloc(), long_and_short_names(rt.alloc())?)?,
         deadlines,
         locked: 19,
         split: 20,

@@ -6,7 +6,7 @@ ghost use Rattle.json.specs.Filled.{Placed};
 ghost use Rattle.serde_json.specs.Written.{compact_text};
 ghost use Rattle.fpl_json.specs.Answers.{answer_data, damaged_data, done_data, done_status, status_of};
 
-use crate::place::{place, place_count, zeros};
+use crate::place::{place, place_count, place_slice, zeros};
 use crate::rules::rule_text;
 use crate::shown::shown_text;
 use fpl_base::{Memory, RecordKey};
@@ -116,7 +116,7 @@ fn place_made(block: &mut [u8], number: u64, name: &[u8], made: u64) -> usize
 {
     let at = place(block, 0, br#"{"done":"#);
     let at = place_count(block, at, number);
-    let at = place(block, at, name);
+    let at = place_slice(block, at, name);
     let at = place_count(block, at, made);
     place(block, at, b"}")
 }

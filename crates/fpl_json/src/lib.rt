@@ -7,6 +7,9 @@ mod answer_tests;
 mod answers;
 mod commands;
 mod field;
+mod kept;
+#[cfg(test)]
+mod kept_tests;
 mod laws;
 mod lists;
 mod members;
@@ -14,6 +17,9 @@ mod named;
 mod number;
 mod parse;
 mod place;
+mod plain;
+#[cfg(test)]
+mod plain_tests;
 mod requests;
 mod route;
 mod routes;
@@ -22,12 +28,14 @@ mod shown;
 #[cfg(test)]
 mod tests;
 mod texts;
+mod tokens;
 mod tree;
 mod written;
 
 pub use answers::{Reply, answer_text};
 pub use field::{FieldName, ReadFault};
 pub use json::Scratch;
+pub use kept::Texts;
 pub use laws::targets_ask_one_thing;
 pub use requests::read_request;
 pub use route::{Found, Route};

@@ -6,10 +6,10 @@ ghost use Rattle.rule_book.specs.Ranks.{AllDiffer};
 ghost use Rattle.fpl_json.specs.declared.field.FieldName.{FieldName};
 ghost use Rattle.fpl_json.specs.declared.field.FieldName.TheVariants as field;
 ghost use Rattle.fpl_json.specs.Members.{Gives, GivesItems, each, entry, under};
-ghost use Rattle.fpl_json.specs.Requests.{club, clubs, deadlines, differ, line, lines, player_line};
-ghost use Rattle.fpl_json.specs.Trees.{items_view, view};
+ghost use Rattle.fpl_json.specs.Requests.{club, clubs, deadlines, differ, line, line_of, lines, player_line};
+ghost use Rattle.fpl_json.specs.Trees.{AreCounts, items_view, view};
 
-use crate::members::{club_id, entry, items, moment_entry, player_id, title, wrong};
+use crate::members::{club_id, counts, entry, items, moment_entry, player_id, title, wrong};
 use crate::tree::Tree;
 use crate::{FieldName, ReadFault};
 use fpl_base::{ClubId, Name, PlayerId};
@@ -39,8 +39,8 @@ pub(crate) fn deadlines(alloc: Global, value: &Tree<'_>) -> Result<Moments, Read
     ensures gives { Gives result (deadlines (view value.now)) }
     ensures long { IfOk result (λ ms. (1 ≤ length ms) × (length ms ≤ 38)) }
 {
-    let values = items(value, FieldName::Deadlines)?;
-    let list = under(each_moment(alloc, values), FieldName::Deadlines)?;
+    let values = items(alloc, value, FieldName::Deadlines)?;
+    let list = under(each_moment(alloc, values.as_slice()), FieldName::Deadlines)?;
     if is_long(list.as_slice().len(), 1, 38) {
         Ok(list)
     } else {
@@ -65,8 +65,8 @@ pub(crate) fn clubs(alloc: Global, value: &Tree<'_>) -> Result<Clubs, ReadFault>
     ensures long { IfOk result (λ cs. (1 ≤ length cs) × (length cs ≤ 20)) }
     ensures differ { IfOk result (λ cs. AllDiffer (club_ids cs)) }
 {
-    let values = items(value, FieldName::Clubs)?;
-    let list = under(each_club(alloc, values), FieldName::Clubs)?;
+    let values = items(alloc, value, FieldName::Clubs)?;
+    let list = under(each_club(alloc, values.as_slice()), FieldName::Clubs)?;
     if is_long(list.as_slice().len(), 1, 20) && differ(list.as_slice()) {
         Ok(list)
     } else {
@@ -127,9 +127,20 @@ pub(crate) fn player_line(alloc: Global, value: &Tree<'_>) -> Result<(PlayerId, 
 fn line(alloc: Global, value: &Tree<'_>) -> Result<Line, ReadFault>
     ensures { Gives result (line (view value.now)) }
 {
-    let values = items(value, FieldName::Figures)?;
-    let list = each_figure(alloc, values)?;
-    match <[u16; 28]>::try_from(list.as_slice()) {
+    if let Some(figures) = counts(value, FieldName::Figures) {
+        return line_of(figures);
+    }
+    let values = items(alloc, value, FieldName::Figures)?;
+    let list = each_figure(alloc, values.as_slice())?;
+    line_of(list.as_slice())
+}
+
+// The line of 28 figures. That numbers of 16 bits are small is what a caller learns besides.
+fn line_of(figures: &[u16]) -> Result<Line, ReadFault>
+    ensures gives { Gives result (line_of figures.now) }
+    ensures small { AreCounts figures.now }
+{
+    match <[u16; 28]>::try_from(figures) {
         Ok(figures) => Ok(Line { figures }),
         Err(_) => Err(wrong(FieldName::Figures)),
     }
@@ -151,8 +162,8 @@ pub(crate) fn lines(alloc: Global, value: &Tree<'_>) -> Result<Lines, ReadFault>
     ensures gives { Gives result (lines (view value.now)) }
     ensures long { IfOk result (λ ls. length ls ≤ 100) }
 {
-    let values = items(value, FieldName::Lines)?;
-    let list = under(each_line(alloc, values), FieldName::Lines)?;
+    let values = items(alloc, value, FieldName::Lines)?;
+    let list = under(each_line(alloc, values.as_slice()), FieldName::Lines)?;
     if is_long(list.as_slice().len(), 0, 100) {
         Ok(list)
     } else {
@@ -163,7 +174,7 @@ pub(crate) fn lines(alloc: Global, value: &Tree<'_>) -> Result<Lines, ReadFault>
 fn each_line(alloc: Global, values: &[Tree<'_>]) -> Result<Lines, ReadFault>
     ensures { Gives result (each player_line (items_view values.now)) }
 {
-    let mut list = Lines::new(alloc);
+    let mut list = Lines::with_room(alloc, values.len().min(100))?;
     for value in values {
         let one = player_line(alloc, value)?;
         list.push(one)?;

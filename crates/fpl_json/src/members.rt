@@ -1,13 +1,14 @@
 // Readers of members, each by its name. A fault names the member.
-ghost use Rattle.std.specs.Prelude.{◌≡◌, ◌≤◌, IfOk, Ok, Err, MatchResult};
+ghost use Rattle.std.specs.Prelude.{◌≡◌, ◌≤◌, IfOk, IfSome, Ok, Err, MatchResult};
 ghost use Rattle.fpl_json.specs.declared.field.ReadFault.TheVariants as fault;
-ghost use Rattle.fpl_json.specs.Members.{Gives, entry, items, moment, number_in, place, place_in, position_in, position_of, text, title, truth, whole};
-ghost use Rattle.fpl_json.specs.Trees.{items_view, view};
+ghost use Rattle.fpl_json.specs.Members.{Gives, GivesTrees, entry, items, moment, number_in, place, place_in, position_in, position_of, text, title, truth, whole};
+ghost use Rattle.fpl_json.specs.Trees.{count_trees, items_view, view};
 
 use crate::tree::Tree;
 use crate::{FieldName, ReadFault};
 use fpl_base::{ClubId, FixtureId, Gw, Moment, Name, PlayerId, Position};
 use std::alloc::Global;
+use std::borrow::CowSlice;
 
 pub(crate) fn wrong(which: FieldName) -> ReadFault
     ensures { result ≡ fault.Malformed which }
@@ -171,16 +172,25 @@ fn position_of(letter: &[u8]) -> Option<Position>
 
 /// The items of a list.
 pub(crate) fn items<'t, 'a>(
+    alloc: Global,
     value: &'t Tree<'a>,
     which: FieldName,
-) -> Result<&'t [Tree<'a>], ReadFault>
-    ensures { MatchResult result (λ xs. items which (view value.now) ≡ Ok (items_view xs.now)) (λ e. (e ≡ fault.Malformed which) × (items which (view value.now) ≡ Err which)) }
+) -> Result<CowSlice<'t, Tree<'a>, Global>, ReadFault>
+    ensures { GivesTrees result (items which (view value.now)) }
 {
     let Some(one) = value.get(which.name()) else {
         return Err(wrong(which));
     };
-    match one.as_array() {
-        Some(list) => Ok(list.as_slice()),
+    match one.items(alloc)? {
+        Some(list) => Ok(list),
         None => Err(wrong(which)),
     }
+}
+
+/// The numbers of a list, where it is kept as numbers.
+pub(crate) fn counts<'t>(value: &'t Tree<'_>, which: FieldName) -> Option<&'t [u16]>
+    ensures { IfSome result
+        (λ ns. items which (view value.now) ≡ Ok (items_view (count_trees ns.now))) }
+{
+    value.get(which.name())?.as_counts()
 }

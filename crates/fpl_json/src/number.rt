@@ -1,5 +1,6 @@
 // The numbers of bodies: an integer of 64 bits, or the nearest float.
-ghost use Rattle.std.specs.Prelude.{◌≡◌, ◌==◌, ◌<◌, IfSome, IsTrue, length, option_map, slice_index, true, false};
+ghost use Rattle.std.specs.Prelude.{◌≡◌, ◌∷◌, [], ◌==◌, ◌<◌, IfSome, IsTrue, length, option_map, slice_index, Some, true, false};
+ghost use Rattle.serde_json.specs.Data.{unsigned};
 ghost use Rattle.std.specs.Str.Parse.{IsNumeral, digits_value};
 ghost use Rattle.serde_json.specs.Read.{float_of, number_from, number_of};
 ghost use Rattle.fpl_json.specs.Trees.{number_view};
@@ -22,6 +23,31 @@ pub(crate) fn number_of(text: &str) -> Option<Number>
     match few_digits(bytes) {
         Some(n) => Some(Number::Whole(n)),
         None => scanned(bytes),
+    }
+}
+
+/// The number that a token writes, where it is a whole one of at most 65,535.
+#[inline(always)]
+pub(crate) fn count_of(text: &str) -> Option<u16>
+    ensures { IfSome result (λ n. number_of text.now ≡ Some (unsigned n)) }
+{
+    let bytes = text.as_bytes();
+    if bytes.len() == 1 {
+        return one_digit(bytes[0]);
+    }
+    let n = few_digits(bytes)?;
+    if n <= 65_535 { Some(n as u16) } else { None }
+}
+
+#[inline(always)]
+fn one_digit(byte: u8) -> Option<u16>
+    ensures { IfSome result (λ n. number_of (byte ∷ []) ≡ Some (unsigned n)) }
+{
+    let digit = byte.wrapping_sub(b'0');
+    if digit <= 9 {
+        Some(u16::from(digit))
+    } else {
+        None
     }
 }
 

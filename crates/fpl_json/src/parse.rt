@@ -1,12 +1,17 @@
 // From a text to its tree, in one pass over the tokens.
-ghost use Rattle.std.specs.Prelude.{◌≡◌, ◌<◌, Err, IfOk, OnOk, length, None, Some};
-ghost use Rattle.json.specs.Json.{value, items, members};
-ghost use Rattle.serde_json.specs.Data.{no_members};
-ghost use Rattle.serde_json.specs.Read.{converted, of_items, of_json, of_members, read as read_text};
-ghost use Rattle.fpl_json.specs.Trees.{items_view, members_view, view};
+ghost use Rattle.std.specs.Prelude.{◌≡◌, ◌≢◌, ◌<◌, ◌≤◌, ◌++◌, ◌∷◌, [], Err, IfOk, IfSome, IsTrue, List, OnOk, false, true, length, vec_capacity, vec_len, None, Some};
+ghost use Rattle.json.specs.Json.{after_end_array, members, parse_map, value};
+ghost use Rattle.json.specs.Reads.{token_of};
+ghost use Rattle.json.specs.Token.{Token as SpecToken};
+ghost use Rattle.serde_json.specs.Data.{array, no_members};
+ghost use Rattle.serde_json.specs.Read.{converted, of_json, of_members, read as read_text};
+ghost use Rattle.fpl_json.specs.Reading.{data_of, is_sure, items_after, items_in, left};
+ghost use Rattle.fpl_json.specs.Trees.{count_trees, items_view, members_view, view};
 
-use crate::number::number_of;
-use crate::tree::Tree;
+use crate::number::{Number, number_of};
+use crate::plain::Plain;
+use crate::tokens::{Item, Source};
+use crate::tree::{Tree, trees_of};
 use json::{Reader, Scratch, Token};
 use std::alloc::{AllocError, AllocFailed, Global};
 
@@ -16,19 +21,10 @@ const MAX_DEPTH: usize = 127;
 pub(crate) enum Refusal {
     /// The text is no JSON, has a number too large for a float, or nests deeper than 127.
     Invalid,
+    /// The text is not plain, and another reader has to tell what it is.
+    Unsure,
     /// Memory ran out.
     Memory,
-}
-
-impl From<json::Invalid> for Refusal {
-    ghost use Rattle.std.specs.Prelude.{◌≡◌};
-    ghost use Rattle.fpl_json.specs.declared.parse.Refusal.TheVariants as refusal;
-
-    ghost from_gives = { λ _ gives. gives ≡ refusal.Invalid };
-
-    fn from(_: json::Invalid) -> Self {
-        Refusal::Invalid
-    }
 }
 
 impl From<AllocError> for Refusal {
@@ -53,7 +49,7 @@ impl<T: Drop> From<AllocFailed<T>> for Refusal {
     }
 }
 
-/// The tree that a text is.
+/// The tree that a text is. Nearly all texts are plain, and read in one pass; others are read again from their start.
 pub(crate) fn parse<'a>(
     alloc: Global,
     text: &'a str,
@@ -61,25 +57,76 @@ pub(crate) fn parse<'a>(
 ) -> Result<Tree<'a>, Refusal>
     ensures ok { IfOk result (λ t. read_text text.now ≡ Some (view t)) }
     ensures invalid { result ≡ Err Refusal.Invalid → read_text text.now ≡ None }
+    ensures surely { result ≢ Err Refusal.Unsure }
 {
-    let mut reader = Reader::new(text, scratch)?;
-    let tree = read(alloc, &mut reader, MAX_DEPTH)?;
-    if reader.next().is_some() {
-        return Err(Refusal::Invalid);
+    match read_all(alloc, &mut Source::Plain(Plain::new(text))) {
+        Err(Refusal::Unsure) => parse_by_index(alloc, text, scratch),
+        read => read,
     }
-    Ok(tree)
+}
+
+#[inline(never)]
+fn parse_by_index<'a>(
+    alloc: Global,
+    text: &'a str,
+    scratch: &'a mut Scratch,
+) -> Result<Tree<'a>, Refusal>
+    ensures ok { IfOk result (λ t. read_text text.now ≡ Some (view t)) }
+    ensures invalid { result ≡ Err Refusal.Invalid → read_text text.now ≡ None }
+    ensures surely { result ≢ Err Refusal.Unsure }
+{
+    let reader = Reader::new(text, scratch)?;
+    read_all(alloc, &mut Source::Indexed(reader))
+}
+
+// The tree that all of these tokens are.
+fn read_all<'a>(alloc: Global, tokens: &mut Source<'a>) -> Result<Tree<'a>, Refusal>
+    ensures ok { IfOk result (λ t. data_of (left tokens.old) ≡ Some (view t)) }
+    ensures invalid { result ≡ Err Refusal.Invalid → data_of (left tokens.old) ≡ None }
+    ensures surely { is_sure tokens.old ≡ true → result ≢ Err Refusal.Unsure }
+{
+    let tree = read(alloc, tokens, MAX_DEPTH)?;
+    if tokens.is_over()? {
+        Ok(tree)
+    } else {
+        Err(Refusal::Invalid)
+    }
 }
 
 #[cycle(read)]
 #[inline(always)]
-fn read<'a>(alloc: Global, reader: &mut Reader<'a>, depth: usize) -> Result<Tree<'a>, Refusal>
+fn read<'a>(alloc: Global, reader: &mut Source<'a>, depth: usize) -> Result<Tree<'a>, Refusal>
     ensures ok { IfOk result
-        (λ t. converted of_json (value depth reader.old) ≡ Some (view t, reader.new)) }
-    ensures shorter { OnOk result (length reader.new < length reader.old) }
+        (λ t. converted of_json (value depth (left reader.old)) ≡ Some (view t, (left reader.new))) }
+    ensures shorter { OnOk result (length (left reader.new) < length (left reader.old)) }
     ensures invalid { result ≡ Err Refusal.Invalid
-        → converted of_json (value depth reader.old) ≡ None }
+        → converted of_json (value depth (left reader.old)) ≡ None }
+    ensures surely { is_sure reader.old ≡ true → result ≢ Err Refusal.Unsure }
+    ensures same { is_sure reader.new ≡ is_sure reader.old }
 {
-    let token = reader.next().ok_or(Refusal::Invalid)?;
+    match reader.next_item()? {
+        Item::Count(n) => Ok(Tree::Number(Number::Whole(u64::from(n)))),
+        Item::Token(token) => read_from(alloc, reader, depth, token),
+    }
+}
+
+// The value that this token begins.
+#[cycle(read)]
+#[inline(always)]
+fn read_from<'a>(
+    alloc: Global,
+    reader: &mut Source<'a>,
+    depth: usize,
+    token: Token<'a>,
+) -> Result<Tree<'a>, Refusal>
+    ensures ok { IfOk result (λ t. converted of_json (value depth (token_of token.entry ∷ (left reader.old)))
+        ≡ Some (view t, (left reader.new))) }
+    ensures shorter { OnOk result (length (left reader.new) ≤ length (left reader.old)) }
+    ensures invalid { result ≡ Err Refusal.Invalid
+        → converted of_json (value depth (token_of token.entry ∷ (left reader.old))) ≡ None }
+    ensures surely { is_sure reader.old ≡ true → result ≢ Err Refusal.Unsure }
+    ensures same { is_sure reader.new ≡ is_sure reader.old }
+{
     match token {
         Token::String(text) => Ok(Tree::Text(text)),
         Token::Number(text) => match number_of(text) {
@@ -93,7 +140,7 @@ fn read<'a>(alloc: Global, reader: &mut Reader<'a>, depth: usize) -> Result<Tree
             if depth == 0 {
                 return Err(Refusal::Invalid);
             }
-            Ok(Tree::List(read_items(alloc, reader, depth - 1)?))
+            read_list(alloc, reader, depth - 1)
         }
         Token::BeginObject => {
             if depth == 0 {
@@ -104,24 +151,108 @@ fn read<'a>(alloc: Global, reader: &mut Reader<'a>, depth: usize) -> Result<Tree
     }
 }
 
+// A list, which is kept as numbers for as long as it has no other items.
+#[cycle(read)]
+#[inline(never)]
+fn read_list<'a>(alloc: Global, reader: &mut Source<'a>, depth: usize) -> Result<Tree<'a>, Refusal>
+    ensures ok { IfOk result
+        (λ t. parse_map array (items_in depth (left reader.old)) ≡ Some (view t, (left reader.new))) }
+    ensures shorter { OnOk result (length (left reader.new) < length (left reader.old)) }
+    ensures invalid { result ≡ Err Refusal.Invalid → items_in depth (left reader.old) ≡ None }
+    ensures surely { is_sure reader.old ≡ true → result ≢ Err Refusal.Unsure }
+    ensures same { is_sure reader.new ≡ is_sure reader.old }
+{
+    let mut counts = Vec::new(alloc);
+    'counts: loop {
+        reader.take_digits(&mut counts);
+        match reader.next_item()? {
+            Item::Count(n) => push_count(&mut counts, n)?,
+            Item::Token(token) => return end_list(alloc, reader, depth, counts, token),
+        }
+    }
+}
+
+#[inline(always)]
+fn push_count(counts: &mut Vec<u16>, n: u16) -> Result<(), AllocError>
+    ensures { OnOk result (counts.new.items ≡ counts.old.items ++ n ∷ []) }
+{
+    if counts.capacity() <= counts.len() {
+        make_room(counts)?;
+    }
+    counts.push_reserved(n);
+    Ok(())
+}
+
+// Room for the figures of a line, where there is none yet.
+#[cold]
+#[inline(never)]
+fn make_room(counts: &mut Vec<u16>) -> Result<(), AllocError>
+    ensures items { counts.new.items ≡ counts.old.items }
+    ensures room { OnOk result (vec_len counts.new < vec_capacity counts.new) }
+{
+    counts.reserve(28)
+}
+
+// A list that began with these numbers, from the first token that is no such number.
+#[cycle(read)]
+fn end_list<'a>(
+    alloc: Global,
+    reader: &mut Source<'a>,
+    depth: usize,
+    counts: Vec<u16>,
+    token: Token<'a>,
+) -> Result<Tree<'a>, Refusal>
+    ensures ok { IfOk result
+        (λ t. parse_map array
+        (items_after (count_trees counts.items) depth (token_of token.entry ∷ (left reader.old)))
+        ≡ Some (view t, (left reader.new))) }
+    ensures shorter { OnOk result (length (left reader.new) ≤ length (left reader.old)) }
+    ensures invalid { result ≡ Err Refusal.Invalid
+        → items_after (count_trees counts.items) depth (token_of token.entry ∷ (left reader.old)) ≡ None }
+    ensures surely { is_sure reader.old ≡ true → result ≢ Err Refusal.Unsure }
+    ensures same { is_sure reader.new ≡ is_sure reader.old }
+{
+    if is_end(&token) {
+        return Ok(Tree::Counts(counts));
+    }
+    let found = trees_of(alloc, counts.as_slice())?;
+    Ok(Tree::List(read_items(alloc, reader, depth, found, token)?))
+}
+
+#[inline(always)]
+fn is_end(token: &Token<'_>) -> bool
+    ensures end { IsTrue result → token_of token.now ≡ SpecToken.end_array }
+    ensures going { result ≡ false
+        → (ts : List SpecToken) → after_end_array (token_of token.now ∷ ts) ≡ None }
+{
+    matches!(token, Token::EndArray)
+}
+
+// The items of a list of which some were found, from the first token of the next.
 #[cycle(read)]
 #[inline(never)]
 fn read_items<'a>(
     alloc: Global,
-    reader: &mut Reader<'a>,
+    reader: &mut Source<'a>,
     depth: usize,
+    found: Vec<Tree<'a>>,
+    first: Token<'a>,
 ) -> Result<Vec<Tree<'a>>, Refusal>
     ensures ok { IfOk result
-        (λ v. converted of_items (items (value depth) (length reader.old) reader.old)
-        ≡ Some (items_view v.items, reader.new)) }
-    ensures shorter { OnOk result (length reader.new < length reader.old) }
+        (λ v. items_after found.entry.items depth (token_of first.entry ∷ (left reader.old))
+        ≡ Some (items_view v.items, (left reader.new))) }
+    ensures shorter { OnOk result (length (left reader.new) ≤ length (left reader.old)) }
     ensures invalid { result ≡ Err Refusal.Invalid
-        → converted of_items (items (value depth) (length reader.old) reader.old) ≡ None }
+        → items_after found.entry.items depth (token_of first.entry ∷ (left reader.old)) ≡ None }
+    ensures surely { is_sure reader.old ≡ true → result ≢ Err Refusal.Unsure }
+    ensures same { is_sure reader.new ≡ is_sure reader.old }
 {
-    let mut found = Vec::new(alloc);
-    'items: while !reader.take_end_array() {
-        let item = read(alloc, reader, depth)?;
+    let mut found = found;
+    let mut token = first;
+    'items: while !is_end(&token) {
+        let item = read_from(alloc, reader, depth, token)?;
         found.push(item)?;
+        token = reader.next()?;
     }
     Ok(found)
 }
@@ -130,17 +261,19 @@ fn read_items<'a>(
 #[inline(never)]
 fn read_members<'a>(
     alloc: Global,
-    reader: &mut Reader<'a>,
+    reader: &mut Source<'a>,
     depth: usize,
 ) -> Result<Vec<(&'a str, Tree<'a>)>, Refusal>
     ensures ok { IfOk result
         (λ v. converted (λ ms. of_members ms no_members)
-        (members (value depth) (length reader.old) reader.old)
-        ≡ Some (members_view v.items, reader.new)) }
-    ensures shorter { OnOk result (length reader.new < length reader.old) }
+        (members (value depth) (length (left reader.old)) (left reader.old))
+        ≡ Some (members_view v.items, (left reader.new))) }
+    ensures shorter { OnOk result (length (left reader.new) < length (left reader.old)) }
     ensures invalid { result ≡ Err Refusal.Invalid
         → converted (λ ms. of_members ms no_members)
-        (members (value depth) (length reader.old) reader.old) ≡ None }
+        (members (value depth) (length (left reader.old)) (left reader.old)) ≡ None }
+    ensures surely { is_sure reader.old ≡ true → result ≢ Err Refusal.Unsure }
+    ensures same { is_sure reader.new ≡ is_sure reader.old }
 {
     let mut found = Vec::new(alloc);
     'members: while let Some(name) = reader.next_key()? {

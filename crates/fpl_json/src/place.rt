@@ -24,9 +24,32 @@ pub(crate) fn zeros(alloc: Global, len: usize) -> Result<Vec<u8>, AllocError>
     Ok(block)
 }
 
+/// Places constant bytes.
+#[inline(always)]
+pub(crate) fn place<const N: usize>(block: &mut [u8], at: usize, text: &[u8; N]) -> usize
+    requires { at + N ≤ length block.old }
+    ensures { Placed block.old block.new at text.now result }
+{
+    let end = at + N;
+    fill(&mut block[at..end], text);
+    end
+}
+
+// Unlike `copy_from_slice`, this does not ask whether the two overlap.
+#[inline(always)]
+fn fill<const N: usize>(part: &mut [u8], text: &[u8; N])
+    requires { length part.old ≡ N }
+    ensures { part.new ≡ text.now }
+{
+    match part.as_mut_array::<N>() {
+        Some(array) => *array = *text,
+        None => unreachable!(),
+    }
+}
+
 /// Places these bytes.
 #[inline(always)]
-pub(crate) fn place(block: &mut [u8], at: usize, text: &[u8]) -> usize
+pub(crate) fn place_slice(block: &mut [u8], at: usize, text: &[u8]) -> usize
     requires { at + length text.now ≤ length block.old }
     ensures { Placed block.old block.new at text.now result }
 {
@@ -149,7 +172,7 @@ fn place_long(block: &mut [u8], at: usize, n: u64) -> usize
     ensures text { Placed block.old block.new at (decimal n) result }
     ensures short { result ≤ at + 20 }
 {
-    place(block, at, Buffer::new().format(n).as_bytes())
+    place_slice(block, at, Buffer::new().format(n).as_bytes())
 }
 
 /// Places a whole number.

@@ -109,5 +109,6 @@ fn object_in<'a>(
         }
         Err(Refusal::Memory) => Err(ReadFault::Memory),
         Err(Refusal::Invalid) => Err(wrong(FieldName::Body)),
+        Err(Refusal::Unsure) => unreachable!(),
     }
 }

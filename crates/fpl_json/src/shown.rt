@@ -1,11 +1,12 @@
 // What the views show: a small function for each, which places its text in a block that is long enough.
 #![tactic(auto, unfolding(serde_json::proofs::OnLiterals::serde_json_on_literals))]
 
-ghost use Rattle.std.specs.Prelude.{◌≡◌, ◌+◌, ◌*◌, ◌≤◌, ◌++◌, length, IfOk, map};
+ghost use Rattle.std.specs.Prelude.{◌≡◌, ◌+◌, ◌*◌, ◌≤◌, ◌++◌, [], codes, decimal, length, IfOk, map};
 ghost use Rattle.json.specs.Filled.{Placed};
 ghost use Rattle.serde_json.specs.Data.{array};
 ghost use Rattle.serde_json.specs.View.{items_of};
 ghost use Rattle.serde_json.specs.Written.{comma_if, compact_text};
+ghost use Rattle.fpl_json.specs.FixtureTexts.{head_text, lines_text};
 ghost use Rattle.fpl_json.specs.MemberData.{count_or_null};
 ghost use Rattle.fpl_json.specs.ShownData.{figures_data, fixture_data, line_data, shown_data};
 
@@ -31,19 +32,56 @@ pub(crate) fn shown_text(alloc: Global, shown: &Shown) -> Result<Vec<u8>, AllocE
 fn figures_text(alloc: Global, figures: &Figures) -> Result<Vec<u8>, AllocError>
     ensures { IfOk result (λ text. text.items ≡ compact_text (figures_data figures.now)) }
 {
-    let mut text = zeros(alloc, 120)?;
-    let end = place_figures(text.as_mut_slice(), figures);
-    text.truncate(end);
+    figures_text_in(Vec::new(alloc), figures)
+}
+
+/// The text of figures, in an empty place.
+pub(crate) fn figures_text_in(place: Vec<u8>, figures: &Figures) -> Result<Vec<u8>, AllocError>
+    requires { place.items ≡ [] }
+    ensures { IfOk result (λ text. text.items ≡ compact_text (figures_data figures.now)) }
+{
+    let mut block = [0; 120];
+    let end = place_figures(&mut block, figures);
+    let mut text = place;
+    text.extend_from_slice(&block[..end])?;
     Ok(text)
 }
 
 fn fixture_text(alloc: Global, shown: &ShownFixture) -> Result<Vec<u8>, AllocError>
     ensures { IfOk result (λ text. text.items ≡ compact_text (fixture_data shown.now)) }
 {
-    let room = room_for(shown.lines.as_slice().len(), 128, 256)?;
+    let lines = lines_text(alloc, shown.lines.as_slice())?;
+    text_with_lines(Vec::new(alloc), shown, lines.as_slice())
+}
+
+/// The text of lines.
+pub(crate) fn lines_text(alloc: Global, lines: &[ShownLine]) -> Result<Vec<u8>, AllocError>
+    ensures { IfOk result (λ text. text.items ≡ lines_text lines.now) }
+{
+    let room = room_for(lines.len(), 128, 2)?;
     let mut text = zeros(alloc, room)?;
-    let end = place_fixture(text.as_mut_slice(), shown);
+    let end = place_lines(text.as_mut_slice(), 0, lines);
     text.truncate(end);
+    Ok(text)
+}
+
+/// The text of a fixture, whose lines have this text, in an empty place.
+pub(crate) fn text_with_lines(
+    place: Vec<u8>,
+    shown: &ShownFixture,
+    lines: &[u8],
+) -> Result<Vec<u8>, AllocError>
+    requires empty { place.items ≡ [] }
+    requires lines { lines.now ≡ lines_text shown.now.lines }
+    ensures { IfOk result (λ text. text.items ≡ compact_text (fixture_data shown.now)) }
+{
+    let mut head = [0; 192];
+    let end = place_head(&mut head, shown);
+    let mut text = place;
+    text.reserve(end + lines.len() + 1)?;
+    text.extend_from_slice(&head[..end])?;
+    text.extend_from_slice(lines)?;
+    text.push(b'}')?;
     Ok(text)
 }
 
@@ -72,9 +110,10 @@ fn place_figures(block: &mut [u8], figures: &Figures) -> usize
     place(block, at, b"}")
 }
 
-fn place_fixture(block: &mut [u8], shown: &ShownFixture) -> usize
-    requires { length shown.now.lines * 128 + 256 ≤ length block.old }
-    ensures { Placed block.old block.new 0 (compact_text (fixture_data shown.now)) result }
+fn place_head(block: &mut [u8], shown: &ShownFixture) -> usize
+    requires { 192 ≤ length block.old }
+    ensures head { Placed block.old block.new 0 (head_text shown.now) result }
+    ensures short { result ≤ 192 }
 {
     let fixture = shown.fixture;
     let at = place(block, 0, br#"{"away":"#);
@@ -89,9 +128,7 @@ fn place_fixture(block: &mut [u8], shown: &ShownFixture) -> usize
     let at = place_count(block, at, u64::from(fixture.id.get()));
     let at = place(block, at, br#","kickoff":"#);
     let at = place_count(block, at, fixture.kickoff.get());
-    let at = place(block, at, br#","lines":"#);
-    let at = place_lines(block, at, shown.lines.as_slice());
-    place(block, at, b"}")
+    place(block, at, br#","lines":"#)
 }
 
 fn place_gameweek(block: &mut [u8], at: usize, gameweek: Option<Gw>) -> usize
@@ -125,16 +162,30 @@ fn place_line(block: &mut [u8], at: usize, later: bool, line: &ShownLine) -> usi
     ensures text { Placed block.old block.new at (comma_if later ++ compact_text (line_data line.now)) result }
     ensures short { result ≤ at + 128 }
 {
-    let at = place_comma_if(block, at, later);
-    let at = place(block, at, br#"{"bonus":"#);
-    let at = place_count(block, at, u64::from(line.bonus));
-    let at = place(block, at, br#","bps":"#);
+    let at = place_bonus(block, at, later, line.bonus);
     let at = place_integer(block, at, line.bps);
     let at = place(block, at, br#","player":"#);
     let at = place_count(block, at, u64::from(line.player.get()));
     let at = place(block, at, br#","points":"#);
     let at = place_integer(block, at, line.points);
     place(block, at, b"}")
+}
+
+// The front of a line. Most lines have no bonus, and follow another.
+#[inline(always)]
+fn place_bonus(block: &mut [u8], at: usize, later: bool, bonus: u8) -> usize
+    requires { at + 37 ≤ length block.old }
+    ensures text { Placed block.old block.new at (comma_if later ++ (codes "{\"bonus\":" ++ (decimal bonus ++ codes ",\"bps\":"))) result }
+    ensures short { result ≤ at + 37 }
+{
+    if later && bonus == 0 {
+        place(block, at, br#",{"bonus":0,"bps":"#)
+    } else {
+        let at = place_comma_if(block, at, later);
+        let at = place(block, at, br#"{"bonus":"#);
+        let at = place_count(block, at, u64::from(bonus));
+        place(block, at, br#","bps":"#)
+    }
 }
 
 #[inline(always)]

@@ -2,7 +2,7 @@ use crate::{FieldName, Found, ReadFault, Route, Routes, Scratch, read_request};
 use fpl_base::{Memory, Position};
 use record_codec::Command;
 use season_host::Request;
-use std::alloc::Global;
+use std::alloc::{AllocError, Global};
 use std::test::Fail;
 
 #[test]
@@ -202,6 +202,215 @@ const TWICE: &str =
 
 const NESTED: &str =
     "[[[[[[[[[[[[[[[[[[[[[[[[[[[[[[[[[[[[[[[[[[[[[[[[[[[[[[[[[[[[[[[[[[[[[[[[[[[[[[[[[[[[[[[[[[[[[[[[[[[[[[[[[[[[[[[[[[[[[[[[[[[[[[[[]]]]]]]]]]]]]]]]]]]]]]]]]]]]]]]]]]]]]]]]]]]]]]]]]]]]]]]]]]]]]]]]]]]]]]]]]]]]]]]]]]]]]]]]]]]]]]]]]]]]]]]]]]]]]]]]]]]]]]]]]]]]]]]]";
+
+#[test]
+fn lists_of_numbers_are_read_by_the_rules(rt: HostRuntime) {
+    for (list, field) in [
+        (FULL, None),
+        (SPACED, None),
+        ("[]", Some(FieldName::Figures)),
+        (SHORT, Some(FieldName::Figures)),
+        (LONG, Some(FieldName::Figures)),
+        (FLOAT, Some(FieldName::Figures)),
+        (EXPONENT, Some(FieldName::Figures)),
+        (ABOVE, Some(FieldName::Figures)),
+        (FAR_ABOVE, Some(FieldName::Figures)),
+        (BELOW, Some(FieldName::Figures)),
+        (MINUS_0, Some(FieldName::Figures)),
+        (LIST_INSIDE, Some(FieldName::Figures)),
+        (EMPTY_INSIDE, Some(FieldName::Figures)),
+        (OBJECT_AT_END, Some(FieldName::Figures)),
+        (TEXT_FIRST, Some(FieldName::Figures)),
+        ("[1,2,1e999,3]", Some(FieldName::Body)),
+        ("[1,02]", Some(FieldName::Body)),
+        ("[1,2,]", Some(FieldName::Body)),
+        ("[,1]", Some(FieldName::Body)),
+        ("[1 2]", Some(FieldName::Body)),
+        ("[1,2}", Some(FieldName::Body)),
+        ("[1,2,x]", Some(FieldName::Body)),
+        ("[1,2", Some(FieldName::Body)),
+        ("[1,70000,2}", Some(FieldName::Body)),
+        ("[1,70000,2", Some(FieldName::Body)),
+    ] {
+        assert_eq!(rt;
+            figures_fault(rt.alloc(), list),
+            Ok(field.map(|field| ReadFault::Malformed { field }))
+        );
+    }
+}
+
+const FULL: &str =
+    "[0,1,2,3,4,5,6,7,8,9,10,99,100,999,1000,9999,10000,65534,65535,19,20,21,22,23,24,25,26,27]";
+
+const SPACED: &str =
+    "[ 0 ,1,2,3,4,5,6,7,8,9,10,11,12,13,14,15,16,17,18,19,20,21,22,23,24,25,26 , 27 ]";
+
+const SHORT: &str = "[1,2,3,4,5,6,7,8,9,10,11,12,13,14,15,16,17,18,19,20,21,22,23,24,25,26,27]";
+
+const LONG: &str =
+    "[1,2,3,4,5,6,7,8,9,10,11,12,13,14,15,16,17,18,19,20,21,22,23,24,25,26,27,28,29]";
+
+const FLOAT: &str =
+    "[1,2,3,4,5,6,7,8,9,10,11,12,13,14.0,15,16,17,18,19,20,21,22,23,24,25,26,27,28]";
+
+const EXPONENT: &str =
+    "[1,2,3,4,5,6,7,8,9,10,11,12,13,1e1,15,16,17,18,19,20,21,22,23,24,25,26,27,28]";
+
+const ABOVE: &str =
+    "[1,2,3,4,5,6,7,8,9,10,11,12,13,65536,15,16,17,18,19,20,21,22,23,24,25,26,27,28]";
+
+const FAR_ABOVE: &str =
+    "[1,2,3,4,5,6,7,8,9,10,11,12,13,18446744073709551617,15,16,17,18,19,20,21,22,23,24,25,26,27,28]";
+
+const BELOW: &str = "[1,2,3,4,5,6,7,8,9,10,11,12,13,-14,15,16,17,18,19,20,21,22,23,24,25,26,27,28]";
+
+const MINUS_0: &str =
+    "[-0,2,3,4,5,6,7,8,9,10,11,12,13,14,15,16,17,18,19,20,21,22,23,24,25,26,27,28]";
+
+const LIST_INSIDE: &str =
+    "[1,2,3,4,5,6,7,8,9,10,11,12,13,[14],15,16,17,18,19,20,21,22,23,24,25,26,27,28]";
+
+const EMPTY_INSIDE: &str =
+    "[1,2,3,4,5,6,7,8,9,10,11,12,13,[],15,16,17,18,19,20,21,22,23,24,25,26,27,28]";
+
+const OBJECT_AT_END: &str =
+    "[1,2,3,4,5,6,7,8,9,10,11,12,13,14,15,16,17,18,19,20,21,22,23,24,25,26,27,{}]";
+
+const TEXT_FIRST: &str =
+    r#"["1",2,3,4,5,6,7,8,9,10,11,12,13,14,15,16,17,18,19,20,21,22,23,24,25,26,27,28]"#;
+
+// Why a line with this list of figures is not read, if it is not.
+fn figures_fault(alloc: Global, list: &str) -> Result<Option<ReadFault>, AllocError> {
+    let body = format!(in alloc; r#"{{"number":1,"player":1,"figures":{list}}}"#)?;
+    Ok(fault(alloc, Route::Line, body.as_str()))
+}
+
+#[test]
+fn lists_of_others_are_read_by_the_rules(rt: HostRuntime) {
+    for (route, body, field) in [
+        (
+            Route::Season,
+            r#"{"number":1,"deadlines":[0,1,2],"split":3,"clubs":[{"id":1,"name":"A"}]}"#,
+            None,
+        ),
+        (
+            Route::Season,
+            r#"{"number":1,"deadlines":[0,1,253402300799],"split":3,"clubs":[{"id":1,"name":"A"}]}"#,
+            None,
+        ),
+        (
+            Route::Season,
+            r#"{"number":1,"deadlines":[0,1,253402300800],"split":3}"#,
+            Some(FieldName::Deadlines),
+        ),
+        (
+            Route::Season,
+            r#"{"number":1,"deadlines":[0,1,null],"split":3}"#,
+            Some(FieldName::Deadlines),
+        ),
+        (
+            Route::Season,
+            r#"{"number":1,"deadlines":[0,1,2,3,4,5,6,7,8,9,10,11,12,13,14,15,16,17,18,19,20,21,22,23,24,25,26,27,28,29,30,31,32,33,34,35,36,37,38]}"#,
+            Some(FieldName::Deadlines),
+        ),
+        (
+            Route::Season,
+            r#"{"number":1,"deadlines":[0,1,2],"split":4}"#,
+            Some(FieldName::Split),
+        ),
+        (
+            Route::Season,
+            r#"{"number":1,"deadlines":[0],"split":0,"clubs":[1]}"#,
+            Some(FieldName::Clubs),
+        ),
+        (
+            Route::Season,
+            r#"{"number":1,"deadlines":[0],"split":0,"clubs":[]}"#,
+            Some(FieldName::Clubs),
+        ),
+        (
+            Route::Season,
+            r#"{"number":1,"deadlines":[0],"split":0,"clubs":[1,{"id":1,"name":"A"}]}"#,
+            Some(FieldName::Clubs),
+        ),
+        (
+            Route::Sheet,
+            r#"{"number":1,"lines":[1,2],"finished":true}"#,
+            Some(FieldName::Lines),
+        ),
+        (
+            Route::Sheet,
+            r#"{"number":1,"lines":[],"finished":[1]}"#,
+            Some(FieldName::Finished),
+        ),
+        (
+            Route::Prices,
+            r#"{"number":[1],"player":1,"price":1}"#,
+            Some(FieldName::Number),
+        ),
+        (
+            Route::Prices,
+            r#"{"number":1,"player":1,"price":1,"more":[1,2,[3,{"a":[4]}],"b",70000,-1,0.5]}"#,
+            None,
+        ),
+        (Route::Prices, "[1,2]", Some(FieldName::Body)),
+    ] {
+        assert_eq!(rt;
+            fault(rt.alloc(), route, body),
+            field.map(|field| ReadFault::Malformed { field })
+        );
+    }
+}
+
+#[test]
+fn numbers_of_lists_keep_their_values(rt: HostRuntime) {
+    assert!(rt; has_figures(rt.alloc()));
+    for (list, last) in [("[7,65535]", 65_535), ("[7,65536]", 65_536), ("[7]", 7)] {
+        assert_eq!(rt; last_deadline(rt.alloc(), list), Ok(Some(last)));
+    }
+}
+
+// Whether the figures of FULL are read as they stand there.
+fn has_figures(alloc: Global) -> bool {
+    let mut scratch = Scratch::new(alloc);
+    match read_request(alloc, &mut scratch, Route::Line, [4, 0], LINE.as_bytes()) {
+        Ok(
+            Request::Command {
+                number: _,
+                command: Command::Line { line, .. },
+            },
+        ) => {
+            line.figures
+                == [
+                    0, 1, 2, 3, 4, 5, 6, 7, 8, 9, 10, 99, 100, 999, 1000, 9999, 10_000, 65_534,
+                    65_535, 19, 20, 21, 22, 23, 24, 25, 26, 27,
+                ]
+        }
+        _ => false,
+    }
+}
+
+const LINE: &str =
+    r#"{"number":1,"player":1,"figures":[0,1,2,3,4,5,6,7,8,9,10,99,100,999,1000,9999,10000,65534,65535,19,20,21,22,23,24,25,26,27]}"#;
+
+// The last deadline of a season with this list of them.
+fn last_deadline(alloc: Global, list: &str) -> Result<Option<u64>, AllocError> {
+    let body = format!(in alloc;
+        r#"{{"number":1,"deadlines":{list},"split":0,"clubs":[{{"id":1,"name":"A"}}]}}"#
+    )?;
+    let mut scratch = Scratch::new(alloc);
+    match read_request(alloc, &mut scratch, Route::Season, [0, 0], body.as_bytes()) {
+        Ok(Request::Command { number: _, command }) => Ok(last_of(&command)),
+        _ => Ok(None),
+    }
+}
+
+fn last_of(command: &Command) -> Option<u64> {
+    match command {
+        Command::Season { deadlines, .. } => deadlines.as_slice().last().map(|m| m.get()),
+        _ => None,
+    }
+}
 
 #[test]
 fn texts_are_read_as_json_has_them(rt: HostRuntime) {

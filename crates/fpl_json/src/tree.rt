@@ -1,9 +1,12 @@
 // Bodies as trees. Texts are borrowed, and an object is the list of its members in the order of the body.
-ghost use Rattle.std.specs.Prelude.{◌≡◌, is_some, option_and_then, option_map};
+ghost use Rattle.std.specs.Prelude.{◌≡◌, IfOk, IfSome, Some, is_some, option_and_then, option_map};
+ghost use Rattle.std.specs.Cow.{cow_slice_items};
 ghost use Rattle.serde_json.specs.Find.{as_array, as_bool, as_null, as_number, as_object, as_str, as_u64, get, get_member};
-ghost use Rattle.fpl_json.specs.Trees.{items_view, members_view, view};
+ghost use Rattle.fpl_json.specs.Trees.{count_trees, items_view, members_view, view};
 
 use crate::number::Number;
+use std::alloc::{AllocError, Global};
+use std::borrow::CowSlice;
 
 #[derive(Drop)]
 pub(crate) enum Tree<'a> {
@@ -12,6 +15,8 @@ pub(crate) enum Tree<'a> {
     Number(Number),
     Text(&'a str),
     List(Vec<Tree<'a>>),
+    /// A list of whole numbers, none of them above 65,535.
+    Counts(Vec<u16>),
     Object(Vec<(&'a str, Tree<'a>)>),
 }
 
@@ -69,15 +74,46 @@ impl<'a> Tree<'a> {
         }
     }
 
-    pub(crate) fn as_array(&self) -> Option<&Vec<Tree<'a>>>
-        ensures { option_map (λ v. items_view v.now.items) result ≡ as_array (view self.now) }
+    pub(crate) fn as_counts(&self) -> Option<&[u16]>
+        ensures { IfSome result (λ ns. as_array (view self.now) ≡ Some (items_view (count_trees ns.now))) }
     {
-        if let Tree::List(items) = self {
-            Some(items)
+        if let Tree::Counts(counts) = self {
+            Some(counts.as_slice())
         } else {
             None
         }
     }
+
+    /// The items of a list. Those of a list of numbers are made.
+    pub(crate) fn items(
+        &self,
+        alloc: Global,
+    ) -> Result<Option<CowSlice<'_, Tree<'a>, Global>>, AllocError>
+        ensures { IfOk result
+            (λ o. option_map (λ c. items_view (cow_slice_items c)) o ≡ as_array (view self.now)) }
+    {
+        match self {
+            Tree::List(items) => Ok(Some(CowSlice::Borrowed(items.as_slice()))),
+            Tree::Counts(counts) => {
+                let items = trees_of(alloc, counts.as_slice())?;
+                Ok(Some(CowSlice::Owned(items)))
+            }
+            Tree::Null | Tree::Bool(_) | Tree::Number(_) | Tree::Text(_) | Tree::Object(_) => Ok(
+                None,
+            ),
+        }
+    }
+}
+
+/// Numbers, each as a tree.
+pub(crate) fn trees_of<'a>(alloc: Global, counts: &[u16]) -> Result<Vec<Tree<'a>>, AllocError>
+    ensures { IfOk result (λ v. v.items ≡ count_trees counts.now) }
+{
+    let mut trees = Vec::with_capacity(alloc, counts.len())?;
+    for count in counts {
+        trees.push(Tree::Number(Number::Whole(u64::from(*count))))?;
+    }
+    Ok(trees)
 }
 
 fn find<'t, 'a>(members: &'t Vec<(&'a str, Tree<'a>)>, name: &str) -> Option<&'t Tree<'a>>
