@@ -3,9 +3,8 @@ use Rattle.std.specs.Prelude.{◌≡◌, ◌⊎◌, ℕ, List, Option, Some, Non
 use Rattle.serde_json.specs.Written.{compact_text}
 use Rattle.fpl_base.specs.declared.kinds.Caller.{Caller}
 use Rattle.fpl_base.specs.Moments.{Moments, Tells}
-use Rattle.fpl_base.specs.Texts.{is_key}
 use Rattle.record_codec.specs.Book.{Book}
-use Rattle.season_host.specs.Hosts.{HostState, caller_with}
+use Rattle.season_host.specs.Hosts.{HostState, owner_of}
 use Rattle.season_host.specs.Verdict.{MayAnswer, MayBeLeft}
 use Rattle.season_host.specs.declared.answer.Answer.{Answer}
 use Rattle.season_host.specs.declared.request.Request.{Request as Asked}
@@ -57,10 +56,10 @@ asked_by None route ids body = Err (error_reply 401 (codes "key"))
 asked_by (Some caller) route ids body =
     if is_for route caller then unless_malformed caller (request_of route ids body) else Err (error_reply 403 (codes "caller"))
 
--- whose key a message shows; what is no key is nobody's
+-- whose key a message shows
 abbrev pub caller_of : HostState → Option (List ℕ) → Option Caller
 caller_of host None = None
-caller_of host (Some key) = if is_key key then caller_with host key else None
+caller_of host (Some bytes) = owner_of host bytes
 
 -- the route before the caller
 abbrev pub asked_at : HostState → Request → Found → Asking

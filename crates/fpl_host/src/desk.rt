@@ -9,10 +9,10 @@ ghost use Rattle.season_host.specs.Hosts.{IsRequest};
 ghost use Rattle.fpl_host.specs.Desks.{Asks};
 ghost use Rattle.fpl_host.specs.Replying.{Asking, IsAsked, IsReply, Judges, Served, asked_by, caller_of, reply_of, unless_malformed};
 
-use fpl_base::{Caller, Clock, Keeper, Key, Memory, Steps};
+use fpl_base::{Caller, Clock, Keeper, Memory, Steps};
 use fpl_http::Message;
 use fpl_json::{
-    Found, ReadFault, Route, Routes, Scratch, answer_text, caller_text, key_text, malformed_text,
+    Found, ReadFault, Route, Routes, Scratch, Texts, caller_text, key_text, malformed_text,
     method_text, read_request, unknown_text,
 };
 use fpl_session::{Reply, Service};
@@ -26,11 +26,13 @@ pub struct Desk {
     routes: Routes,
 }
 
-/// The host, and the place in which bodies are read, which is kept from message to message.
+/// The host, and what is kept from message to message: the place in which bodies are read, and the texts that were
+/// given before.
 #[derive(Drop)]
 pub struct HostWithScratch {
     pub host: Host,
     pub scratch: Scratch,
+    pub texts: Texts,
 }
 
 /// What a message asks, or the reply that refuses it before the host judges it.
@@ -77,29 +79,19 @@ fn asked_by(
 ) -> Result<Asked, Memory>
     ensures { IfOk result (Asks (asked_by (caller_of host.now (request_seen message.now).key) route ids.now (request_seen message.now).body)) }
 {
-    match caller_of(alloc, host, message)? {
+    match caller_of(host, message) {
         None => refused(alloc, 401, key_text()),
         Some(caller) => asked_as(alloc, scratch, &caller, route, ids, message.body),
     }
 }
 
 // Whose key a message shows.
-fn caller_of(alloc: Global, host: &Host, message: &Message<'_>) -> Result<Option<Caller>, Memory>
-    ensures { IfOk result (λ caller. caller ≡ caller_of host.now (request_seen message.now).key) }
+fn caller_of(host: &Host, message: &Message<'_>) -> Option<Caller>
+    ensures { result ≡ caller_of host.now (request_seen message.now).key }
 {
     match message.key {
-        Some(bytes) => owner_of(alloc, host, bytes),
-        None => Ok(None),
-    }
-}
-
-// Whose key these bytes are.
-fn owner_of(alloc: Global, host: &Host, bytes: &[u8]) -> Result<Option<Caller>, Memory>
-    ensures { IfOk result (λ caller. caller ≡ caller_of host.now (Some bytes.now)) }
-{
-    match Key::new(alloc, bytes)? {
-        Some(key) => Ok(host.caller_of(&key)),
-        None => Ok(None),
+        Some(bytes) => host.owner_of(bytes),
+        None => None,
     }
 }
 
@@ -125,6 +117,7 @@ fn asked_as(
 fn judged<K: Keeper, C: Clock, L: Ledger>(
     alloc: Global,
     host: &mut Host,
+    texts: &mut Texts,
     keeper: &mut K,
     clock: &mut C,
     steps: &mut Steps<L>,
@@ -137,15 +130,15 @@ fn judged<K: Keeper, C: Clock, L: Ledger>(
 {
     let now = clock.now();
     let answer = host.answer(keeper, caller, now, request, steps);
-    replied(alloc, &answer)
+    replied(alloc, texts, &answer)
 }
 
 // The reply of an answer.
-fn replied(alloc: Global, answer: &Answer) -> Result<Reply, Memory>
+fn replied(alloc: Global, texts: &mut Texts, answer: &Answer) -> Result<Reply, Memory>
     ensures reply { IfOk result (λ reply. (reply.status, reply.body.items) ≡ reply_of answer.now) }
     ensures status { IfOk result (λ reply. IsTrue (is_answer_status reply.status)) }
 {
-    match answer_text(alloc, answer) {
+    match texts.answer_text(alloc, answer) {
         Ok(reply) => Ok(Reply {
             status: reply.status,
             body: reply.body,
@@ -208,6 +201,7 @@ impl<K: Keeper, C: Clock, L: Ledger> Service<HostWithScratch, K, C, L> for Desk 
                 judged(
                     alloc,
                     &mut host.host,
+                    &mut host.texts,
                     keeper,
                     clock,
                     steps,
@@ -216,5 +210,9 @@ impl<K: Keeper, C: Clock, L: Ledger> Service<HostWithScratch, K, C, L> for Desk 
                 )
             }
         }
+    }
+
+    fn reclaim(&self, host: &mut HostWithScratch, body: Vec<u8>) {
+        host.texts.reclaim(body);
     }
 }

@@ -7,7 +7,7 @@ ghost use Rattle.fpl_host.specs.Pipe.{Pipes, status_of};
 use crate::desk::{Desk, HostWithScratch};
 use crate::status::{CUT, DONE, MEMORY, READ_FAULT, REFUSED, TOO_LONG, WRITE_FAULT};
 use fpl_base::{Clock, Keeper, Key, Memory, Sink, Source, Steps};
-use fpl_json::Scratch;
+use fpl_json::{Scratch, Texts};
 use fpl_session::{Ending, session};
 use season_host::Host;
 use std::alloc::Global;
@@ -35,7 +35,7 @@ pub fn pipe<S: Source, W: Sink, C: Clock, K: Keeper, L: Ledger>(
     }
 }
 
-// A desk, and a host without a season, with a scratch.
+// A desk, and a host without a season, with nothing kept.
 fn opened<K: Keeper, L: Ledger>(
     alloc: Global,
     key: &Key,
@@ -51,6 +51,7 @@ fn opened<K: Keeper, L: Ledger>(
             HostWithScratch {
                 host,
                 scratch: Scratch::new(alloc),
+                texts: Texts::new(alloc),
             },
         )),
         Err(_) => Err(Memory),

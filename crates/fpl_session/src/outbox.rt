@@ -11,7 +11,7 @@ use std::alloc::Global;
 use std::marker::Model;
 
 /// An outbox with more bytes than this is full.
-const FULL: usize = 65_536;
+const FULL: usize = 262_144;
 
 /// Room for the fixed response, which finds a place in each outbox that is not full.
 const RESERVE: usize = 128;
@@ -30,7 +30,7 @@ impl Model for Outbox {
 
     ghost view = { λ o. o.bytes.items };
 
-    ghost invariant = { λ o. 65664 ≤ vec_capacity o.bytes };
+    ghost invariant = { λ o. 262272 ≤ vec_capacity o.bytes };
 }
 
 impl Outbox {
@@ -45,7 +45,7 @@ impl Outbox {
 
     /// Whether it is to be written before another text comes.
     pub fn is_full(&self) -> bool
-        ensures { result ≡ nat_lt 65536 (length self.now) }
+        ensures { result ≡ nat_lt 262144 (length self.now) }
     {
         self.bytes.len() > FULL
     }
@@ -53,7 +53,7 @@ impl Outbox {
     /// Appends a response, or the fixed one of status 507 where there is no memory for it.
     pub fn respond(&mut self, status: u16, body: &[u8], closing: bool)
         requires status { IsTrue (is_answer_status status) }
-        requires room { length self.old ≤ 65536 }
+        requires room { length self.old ≤ 262144 }
         ensures { (t : List ℕ) × IsResponse status body.now closing t × (self.new ≡ self.old ++ t) }
     {
         match append_response(&mut self.bytes, status, body, closing) {
@@ -64,7 +64,7 @@ impl Outbox {
 
     /// Appends the fixed response of status 507.
     pub fn respond_without_memory(&mut self, closing: bool)
-        requires { length self.old ≤ 65536 }
+        requires { length self.old ≤ 262144 }
         ensures { self.new ≡ self.old ++ response_text 507 memory_text closing }
     {
         let _ = self.bytes.extend_from_slice(memory_response(closing));

@@ -1,5 +1,5 @@
 // What answers the messages of a session.
-ghost use Rattle.std.specs.Prelude.{ℕ, List, IfOk, IsTrue};
+ghost use Rattle.std.specs.Prelude.{◌≡◌, ℕ, List, IfOk, IsTrue};
 ghost use Rattle.fpl_http.specs.Responses.{is_answer_status};
 ghost use Rattle.fpl_http.specs.Seen.{request_seen};
 ghost use Rattle.fpl_http.specs.Stream.{Request};
@@ -47,4 +47,9 @@ pub trait Service<H, K: Keeper, C: Clock, L: Ledger> {
         ensures status { IfOk result (λ r. IsTrue (is_answer_status r.status)) }
         ensures answered { answers self.now (see (host.old, keeper.old, clock.old, steps.old))
             (request_seen message.now) (answer_in result) (see (host.new, keeper.new, clock.new, steps.new)) };
+
+    /// Takes back the body of a reply that was handed on, so that its place may serve again. What promises see stays.
+    fn reclaim(&self, host: &mut H, body: Vec<u8>)
+        ensures same { (keeper : K) (clock : C) (steps : ℕ) → see (host.new, keeper, clock, steps) ≡ see (host.old, keeper, clock, steps) }
+        ensures ready { (keeper : K) (clock : C) (steps : ℕ) → ready self.now (host.old, keeper, clock, steps) → ready self.now (host.new, keeper, clock, steps) };
 }

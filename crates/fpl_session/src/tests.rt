@@ -61,6 +61,8 @@ impl<K: Keeper, C: Clock, L: Ledger> Service<Count, K, C, L> for Counting {
             body: text.into_bytes(),
         })
     }
+
+    fn reclaim(&self, _count: &mut Count, _body: Vec<u8>) {}
 }
 
 // A session whose clock tells 7, 8, and then 9.
@@ -355,6 +357,8 @@ impl<K: Keeper, C: Clock, L: Ledger> Service<Count, K, C, L> for Lengthy {
             body: vec![in alloc; b'x'; self.0]?,
         })
     }
+
+    fn reclaim(&self, _count: &mut Count, _body: Vec<u8>) {}
 }
 
 const GET: &[u8] = b"GET /a HTTP/1.1\r\n\r\n";
@@ -398,14 +402,14 @@ fn writes_are_as_few_as_may_be(rt: HostRuntime) -> Result<(), Fail> {
         (9, 800, GET.len(), 800, 63_200),
         (9, 800, 10 * GET.len(), 80, 63_200),
         (9, 0, 99_999, 0, 0),
-        // The first 830 answers are more than 65,536 bytes.
-        (9, 830, 99_999, 1, 65_570),
-        (9, 831, 99_999, 2, 65_649),
-        // The first two are.
-        (33_000, 2, 99_999, 1, 66_148),
-        (33_000, 3, 99_999, 2, 99_222),
+        // The first 1,525 answers are more than 262,144 bytes.
+        (100, 1525, 99_999, 1, 262_300),
+        (100, 1526, 99_999, 2, 262_472),
+        // The first eight are.
+        (33_000, 8, 99_999, 1, 264_592),
+        (33_000, 9, 99_999, 2, 297_666),
         // Each is.
-        (70_000, 3, 99_999, 3, 210_222),
+        (300_000, 3, 99_999, 3, 900_225),
         (500_000, 2, 99_999, 2, 1_000_150),
     ] {
         let counter = counted::<Brand>(rt.alloc(), Lengthy(body), messages, piece, Blank::new(1))?;

@@ -38,7 +38,7 @@ fn answer_message<R: Service<H, K, C, L>, H, K: Keeper, C: Clock, L: Ledger>(
     outbox: &mut Outbox,
     message: &Message<'_>,
 )
-    requires room { length outbox.old ≤ 65536 }
+    requires room { length outbox.old ≤ 262144 }
     requires ready { R.ready service.now (host.old, keeper.old, clock.old, steps.old) }
     ensures ready { R.ready service.now (host.new, keeper.new, clock.new, steps.new) }
     ensures answered { (t : List ℕ) × Speaks (R.answers service.now) (R.see (host.old, keeper.old, clock.old, steps.old))
@@ -46,7 +46,10 @@ fn answer_message<R: Service<H, K, C, L>, H, K: Keeper, C: Clock, L: Ledger>(
         × (outbox.new ≡ outbox.old ++ t) }
 {
     match service.reply(alloc, host, keeper, clock, steps, message) {
-        Ok(reply) => outbox.respond(reply.status, &reply.body, message.closes),
+        Ok(reply) => {
+            outbox.respond(reply.status, &reply.body, message.closes);
+            service.reclaim(host, reply.body);
+        }
         Err(Memory) => outbox.respond_without_memory(message.closes),
     }
 }
@@ -63,7 +66,7 @@ fn answer_found<R: Service<H, K, C, L>, H, K: Keeper, C: Clock, L: Ledger>(
     outbox: &mut Outbox,
 ) -> bool
     requires found { IsSome decoder.now.found }
-    requires room { length outbox.old ≤ 65536 }
+    requires room { length outbox.old ≤ 262144 }
     requires ready { R.ready service.now (host.old, keeper.old, clock.old, steps.old) }
     ensures ready { R.ready service.now (host.new, keeper.new, clock.new, steps.new) }
     ensures answered { (m : Request) × (t : List ℕ) × (decoder.now.found ≡ Some m)
@@ -87,7 +90,7 @@ pub fn take_turn<R: Service<H, K, C, L>, H, K: Keeper, C: Clock, L: Ledger>(
     steps: &mut Steps<L>,
     outbox: &mut Outbox,
 ) -> Turn
-    requires room { length outbox.old ≤ 65536 }
+    requires room { length outbox.old ≤ 262144 }
     requires ready { R.ready service.now (host.old, keeper.old, clock.old, steps.old) }
     ensures ready { R.ready service.now (host.new, keeper.new, clock.new, steps.new) }
     ensures turned { Turned (Speaks (R.answers service.now)) decoder.old decoder.new
