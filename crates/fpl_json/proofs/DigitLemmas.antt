@@ -6,7 +6,7 @@ use Rattle.json.specs.Json.{parse_map}
 use Rattle.json.specs.Token.{Token, number}
 use Rattle.json.specs.Lex.{may_begin}
 use Rattle.serde_json.specs.Data.{unsigned}
-use Rattle.fpl_json.specs.Plain.{left, place_of, IsCount, Follows}
+use Rattle.fpl_json.specs.Plain.{left, place_of, IsCount, Follows, TakesCount}
 use Rattle.fpl_json.specs.Reading.{GoesOn, items_before, items_in}
 use Rattle.fpl_json.specs.Reading as reading
 use Rattle.fpl_json.specs.Trees.{count_trees}
@@ -43,3 +43,14 @@ digit_on d at place counts within may low high comma =
     let seen : reading.IsCount (number (take 1 t)) (get_or d at 0 - 48) = number_of-digits (take 1 t) is.numeral fits ∙ ap (λ n. Some (unsigned n)) is.writes in
     subst (λ ts. GoesOn counts ts (counts ++ (get_or d at 0 - 48) ∷ []) (left AfterComma (at + 2) d)) (sym begins.tokens)
     (goes_on_count counts (get_or d at 0 - 48) (number (take 1 t)) (left AfterComma (at + 2) d) seen)
+
+-- a number that was taken is one of its value
+pub taken_count : (n : ℕ) (old new : List Token) (takes : TakesCount old n new) → n ≤ 65535 → reading.IsCount (number takes.digits) n
+taken_count n old new takes small =
+    let fits : digits_value 10 takes.digits < 2 ^ 64 = subst (λ k. k < 2 ^ 64) (sym takes.writes) (omega (arith, small)) in
+    number_of-digits takes.digits takes.numeral fits ∙ ap (λ k. Some (unsigned k)) takes.writes
+
+-- one more number that was taken
+pub count_on : (counts : List ℕ) (n : ℕ) (old new : List Token) → TakesCount old n new → n ≤ 65535 → GoesOn counts old (counts ++ n ∷ []) new
+count_on counts n old new takes small =
+    subst (λ ts. GoesOn counts ts (counts ++ n ∷ []) new) (sym takes.first) (goes_on_count counts n (number takes.digits) new (taken_count n old new takes small))

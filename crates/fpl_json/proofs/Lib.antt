@@ -13,6 +13,7 @@ pub mod OneLemmas
 pub mod PatternTests
 pub mod PlaceFacts
 pub mod PlainLemmas
+pub mod PlayerRowLemmas
 pub mod ReadingLemmas
 pub mod RowLemmas
 pub mod SegmentLemmas

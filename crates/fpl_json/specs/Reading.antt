@@ -1,5 +1,5 @@
 -- Lists as they are read: what was read so far, and the tokens that they go on with.
-use Rattle.std.specs.Prelude.{◌≡◌, ◌≤◌, ℕ, Bool, true, false, List, [], ◌∷◌, length, Option, Some, option_and_then}
+use Rattle.std.specs.Prelude.{◌≡◌, ◌≤◌, ◌<◌, ℕ, Bool, true, false, List, [], ◌∷◌, length, Option, Some, option_and_then}
 use Rattle.json.specs.Json.{if_last, items, parse_map, value}
 use Rattle.json.specs.Reads.{token_of}
 use Rattle.json.specs.Token.{Token}
@@ -9,8 +9,9 @@ use Rattle.fpl_json.specs.declared.tokens.Source.{Source}
 use Rattle.fpl_json.specs.declared.tokens.Source.TheVariants as source
 use Rattle.fpl_json.specs.declared.tokens.Item.{Item}
 use Rattle.fpl_json.specs.declared.tokens.Item.TheVariants as found
+use Rattle.fpl_json.specs.declared.tree.Row.{Row}
 use Rattle.fpl_json.specs.declared.tree.Tree.{Tree}
-use Rattle.fpl_json.specs.Trees.{count_trees, view}
+use Rattle.fpl_json.specs.Trees.{count_trees, row_data, view}
 
 -- the token is a number of this value
 abbrev pub IsCount : Token → ℕ → Type 0
@@ -61,3 +62,17 @@ items_after found depth ts = parse_map (items_before found) (items_in depth ts)
 abbrev pub GoesOn : List ℕ → List Token → List ℕ → List Token → Type 0
 GoesOn counts ts more rest =
     ((depth : ℕ) → items_after (count_trees counts) depth ts ≡ items_after (count_trees more) depth rest) × (length rest ≤ length ts)
+
+-- the data of these rows, and then these items
+abbrev pub rows_before : List Row → Items → Items
+rows_before [] rest = rest
+rows_before (r ∷ rs) rest = item (row_data r) (rows_before rs rest)
+
+-- the items of a list of which these rows were read, and which goes on with these tokens
+abbrev pub rows_after : List Row → ℕ → List Token → Option (Items × List Token)
+rows_after rows depth ts = parse_map (rows_before rows) (items_in depth ts)
+
+-- where its items may nest two deeper, a list that goes on with these tokens has a row first, and goes on behind it
+abbrev pub TakesRow : List Token → Row → List Token → Type 0
+TakesRow ts row rest =
+    ((depth : ℕ) → 2 ≤ depth → items_in depth ts ≡ parse_map (item (row_data row)) (items_in depth rest)) × (length rest < length ts)

@@ -15,7 +15,7 @@ use Rattle.fpl_json.specs.declared.field.FieldName.{FieldName}
 use Rattle.fpl_json.specs.declared.field.FieldName.TheVariants as field
 use Rattle.fpl_json.specs.declared.route.Route.{Route}
 use Rattle.fpl_json.specs.declared.route.Route.TheVariants as route
-use Rattle.fpl_json.specs.Members.{◌>>=◌, entry, if_long, list, moment, object_of, place, position_in, title, truth, whole}
+use Rattle.fpl_json.specs.Members.{◌>>=◌, each, entry, if_long, items, list, moment, object_of, place, position_in, title, truth, under, whole}
 
 -- The parts of commands.
 
@@ -51,6 +51,11 @@ line d = list field.Figures 28 28 (entry field.Figures 0 65535) d >>= λ figures
 abbrev pub player_line : Data → Result (ℕ × Line) FieldName
 player_line d = whole field.Player 1 999999 d >>= λ player. line d >>= λ figures. Ok (player, figures)
 
+-- the lines of a list, however many they are
+abbrev pub all_lines : Data → Result (List (ℕ × Line)) FieldName
+all_lines d = items field.Lines d >>= λ ds. under field.Lines (each player_line ds)
+
+-- at most 100 lines
 abbrev pub lines : Data → Result (List (ℕ × Line)) FieldName
 lines d = list field.Lines 0 100 player_line d
 

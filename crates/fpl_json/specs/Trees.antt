@@ -1,10 +1,11 @@
 -- The data that a tree stands for.
-use Rattle.std.specs.Prelude.{ℕ, ◌<◌, ◌≤◌, List, [], ◌∷◌, length, map, slice_index}
+use Rattle.std.specs.Prelude.{ℕ, ◌<◌, ◌≤◌, List, [], ◌∷◌, codes, length, map, slice_index}
 use Rattle.std.specs.Borrow.{Bor}
 use Rattle.serde_json.specs.Data.{Num, unsigned, negative, float, Data, null, boolean, number, string, array, object, Items, Members, no_members, put}
 use Rattle.serde_json.specs.View.{items_of}
 use Rattle.fpl_json.specs.declared.number.Number.{Number}
 use Rattle.fpl_json.specs.declared.number.Number.TheVariants as kind
+use Rattle.fpl_json.specs.declared.tree.Row.{Row}
 use Rattle.fpl_json.specs.declared.tree.Tree.{Tree, fold-Tree}
 use Rattle.fpl_json.specs.declared.tree.Tree.TheOpen.{Tree-F}
 use Rattle.fpl_json.specs.declared.tree.Tree.TheVariants as tree
@@ -21,6 +22,10 @@ abbrev pub put_all : List (Bor (List ℕ) × Data) → Members → Members
 put_all [] found = found
 put_all (m ∷ ms) found = put_all ms (put m.0.now m.1 found)
 
+-- a player's number and his figures, as members of an object
+abbrev pub row_data : Row → Data
+row_data r = object (put (codes "figures") (array (items_of (map count r.figures))) (put (codes "player") (count r.player) no_members))
+
 -- one level, with each tree inside already seen as its data
 abbrev pub view_step : Tree-F Data → Data
 view_step Tree-F.Null = null
@@ -29,6 +34,7 @@ view_step (Tree-F.Number n) = number (number_view n)
 view_step (Tree-F.Text s) = string s.now
 view_step (Tree-F.List v) = array (items_of v.items)
 view_step (Tree-F.Counts v) = array (items_of (map count v.items))
+view_step (Tree-F.Rows v) = array (items_of (map row_data v.items))
 view_step (Tree-F.Object v) = object (put_all v.items no_members)
 
 -- the data of a tree

@@ -1,16 +1,17 @@
 // Readers of the lists that commands hold.
-ghost use Rattle.std.specs.Prelude.{◌≡◌, ◌≤◌, ◌==◌, ◌&&◌, IfOk, Result, length, nat_le};
+ghost use Rattle.std.specs.Prelude.{◌≡◌, ◌≤◌, ◌==◌, ◌&&◌, IfOk, Result, length, map, nat_le};
 ghost use Rattle.std.specs.List.{list_any};
 ghost use Rattle.season_host.specs.Commands.{club_ids};
 ghost use Rattle.rule_book.specs.Ranks.{AllDiffer};
 ghost use Rattle.fpl_json.specs.declared.field.FieldName.{FieldName};
 ghost use Rattle.fpl_json.specs.declared.field.FieldName.TheVariants as field;
 ghost use Rattle.fpl_json.specs.Members.{Gives, GivesItems, each, entry, under};
-ghost use Rattle.fpl_json.specs.Requests.{club, clubs, deadlines, differ, line, line_of, lines, player_line};
-ghost use Rattle.fpl_json.specs.Trees.{AreCounts, items_view, view};
+ghost use Rattle.fpl_json.specs.Requests.{all_lines, club, clubs, deadlines, differ, line, line_of, lines, player_line};
+ghost use Rattle.fpl_json.specs.Trees.{AreCounts, items_view, row_data, view};
+ghost use Rattle.serde_json.specs.View.{items_of};
 
-use crate::members::{club_id, counts, entry, items, moment_entry, player_id, title, wrong};
-use crate::tree::Tree;
+use crate::members::{club_id, counts, entry, items, moment_entry, player_id, rows, title, wrong};
+use crate::tree::{Row, Tree};
 use crate::{FieldName, ReadFault};
 use fpl_base::{ClubId, Name, PlayerId};
 use record_codec::{Clubs, Lines, Moments};
@@ -158,17 +159,50 @@ fn each_figure(alloc: Global, values: &[Tree<'_>]) -> Result<Vec<u16>, ReadFault
 }
 
 /// Players with their figures.
+#[tactic(auto, using(crate::proofs::EntryLemmas::few_lines))]
 pub(crate) fn lines(alloc: Global, value: &Tree<'_>) -> Result<Lines, ReadFault>
     ensures gives { Gives result (lines (view value.now)) }
     ensures long { IfOk result (λ ls. length ls ≤ 100) }
 {
-    let values = items(alloc, value, FieldName::Lines)?;
-    let list = under(each_line(alloc, values.as_slice()), FieldName::Lines)?;
+    let list = all_lines(alloc, value)?;
     if is_long(list.as_slice().len(), 0, 100) {
         Ok(list)
     } else {
         Err(wrong(FieldName::Lines))
     }
+}
+
+// The lines, however many they are.
+fn all_lines(alloc: Global, value: &Tree<'_>) -> Result<Lines, ReadFault>
+    ensures { Gives result (all_lines (view value.now)) }
+{
+    if let Some(rows) = rows(value, FieldName::Lines) {
+        return under(each_row(alloc, rows), FieldName::Lines);
+    }
+    let values = items(alloc, value, FieldName::Lines)?;
+    under(each_line(alloc, values.as_slice()), FieldName::Lines)
+}
+
+fn each_row(alloc: Global, rows: &[Row]) -> Result<Lines, ReadFault>
+    ensures { Gives result (each player_line (items_of (map row_data rows.now))) }
+{
+    let mut list = Lines::with_room(alloc, rows.len().min(100))?;
+    for row in rows {
+        let one = row_line(row)?;
+        list.push(one)?;
+    }
+    Ok(list)
+}
+
+#[tactic(auto, using(crate::proofs::EntryLemmas::row_line_of))]
+fn row_line(row: &Row) -> Result<(PlayerId, Line), ReadFault>
+    ensures { Gives result (player_line (row_data row.now)) }
+{
+    let Some(player) = PlayerId::new(u32::from(row.player)) else {
+        return Err(wrong(FieldName::Player));
+    };
+    let line = line_of(&row.figures)?;
+    Ok((player, line))
 }
 
 fn each_line(alloc: Global, values: &[Tree<'_>]) -> Result<Lines, ReadFault>

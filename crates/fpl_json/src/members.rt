@@ -1,10 +1,11 @@
 // Readers of members, each by its name. A fault names the member.
-ghost use Rattle.std.specs.Prelude.{◌≡◌, ◌≤◌, IfOk, IfSome, Ok, Err, MatchResult};
+ghost use Rattle.std.specs.Prelude.{◌≡◌, ◌≤◌, IfOk, IfSome, Ok, Err, MatchResult, map};
+ghost use Rattle.serde_json.specs.View.{items_of};
 ghost use Rattle.fpl_json.specs.declared.field.ReadFault.TheVariants as fault;
 ghost use Rattle.fpl_json.specs.Members.{Gives, GivesTrees, entry, items, moment, number_in, place, place_in, position_in, position_of, text, title, truth, whole};
-ghost use Rattle.fpl_json.specs.Trees.{count_trees, items_view, view};
+ghost use Rattle.fpl_json.specs.Trees.{count_trees, items_view, row_data, view};
 
-use crate::tree::Tree;
+use crate::tree::{Row, Tree};
 use crate::{FieldName, ReadFault};
 use fpl_base::{ClubId, FixtureId, Gw, Moment, Name, PlayerId, Position};
 use std::alloc::Global;
@@ -193,4 +194,11 @@ pub(crate) fn counts<'t>(value: &'t Tree<'_>, which: FieldName) -> Option<&'t [u
         (λ ns. items which (view value.now) ≡ Ok (items_view (count_trees ns.now))) }
 {
     value.get(which.name())?.as_counts()
+}
+
+/// The rows of a list, where it is kept as rows.
+pub(crate) fn rows<'t>(value: &'t Tree<'_>, which: FieldName) -> Option<&'t [Row]>
+    ensures { IfSome result (λ rows. items which (view value.now) ≡ Ok (items_of (map row_data rows.now))) }
+{
+    value.get(which.name())?.as_rows()
 }

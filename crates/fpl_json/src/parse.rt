@@ -1,17 +1,18 @@
 // From a text to its tree, in one pass over the tokens.
-ghost use Rattle.std.specs.Prelude.{◌≡◌, ◌≢◌, ◌<◌, ◌≤◌, ◌++◌, ◌∷◌, [], Err, IfOk, IfSome, IsTrue, List, OnOk, false, true, length, vec_capacity, vec_len, None, Some};
+ghost use Rattle.std.specs.Prelude.{◌≡◌, ◌≢◌, ◌<◌, ◌≤◌, ◌++◌, ◌∷◌, [], Err, IfOk, IfSome, IsTrue, List, MatchOption, OnOk, ℕ, false, true, length, map, vec_capacity, vec_len, None, Some};
 ghost use Rattle.json.specs.Json.{after_end_array, members, parse_map, value};
 ghost use Rattle.json.specs.Reads.{token_of};
 ghost use Rattle.json.specs.Token.{Token as SpecToken};
 ghost use Rattle.serde_json.specs.Data.{array, no_members};
 ghost use Rattle.serde_json.specs.Read.{converted, of_json, of_members, read as read_text};
-ghost use Rattle.fpl_json.specs.Reading.{data_of, is_sure, items_after, items_in, left};
-ghost use Rattle.fpl_json.specs.Trees.{count_trees, items_view, members_view, view};
+ghost use Rattle.serde_json.specs.View.{items_of};
+ghost use Rattle.fpl_json.specs.Reading.{data_of, is_sure, items_after, items_in, left, rows_after, TakesRow};
+ghost use Rattle.fpl_json.specs.Trees.{count_trees, items_view, members_view, row_data, view};
 
 use crate::number::{Number, number_of};
 use crate::plain::Plain;
 use crate::tokens::{Item, Source};
-use crate::tree::{Tree, trees_of};
+use crate::tree::{Row, Tree, trees_of};
 use json::{Reader, Scratch, Token};
 use std::alloc::{AllocError, AllocFailed, Global};
 
@@ -151,10 +152,42 @@ fn read_from<'a>(
     }
 }
 
-// A list, which is kept as numbers for as long as it has no other items.
+// A list, which is kept as rows where it begins with one.
 #[cycle(read)]
 #[inline(never)]
 fn read_list<'a>(alloc: Global, reader: &mut Source<'a>, depth: usize) -> Result<Tree<'a>, Refusal>
+    ensures ok { IfOk result
+        (λ t. parse_map array (items_in depth (left reader.old)) ≡ Some (view t, (left reader.new))) }
+    ensures shorter { OnOk result (length (left reader.new) < length (left reader.old)) }
+    ensures invalid { result ≡ Err Refusal.Invalid → items_in depth (left reader.old) ≡ None }
+    ensures surely { is_sure reader.old ≡ true → result ≢ Err Refusal.Unsure }
+    ensures same { is_sure reader.new ≡ is_sure reader.old }
+{
+    match take_first_row(reader, depth) {
+        Some(row) => Ok(Tree::Rows(read_rows(alloc, reader, row)?)),
+        None => read_counts(alloc, reader, depth),
+    }
+}
+
+// The row with which a list begins, where its items may nest so deep.
+#[inline(always)]
+fn take_first_row(reader: &mut Source<'_>, depth: usize) -> Option<Row>
+    ensures row { MatchOption result (left reader.new ≡ left reader.old)
+        (λ row. (2 ≤ depth) × TakesRow (left reader.old) row (left reader.new)) }
+    ensures unsure { IfSome result (λ _. is_sure reader.old ≡ false) }
+    ensures same { is_sure reader.new ≡ is_sure reader.old }
+{
+    if depth >= 2 { reader.take_row() } else { None }
+}
+
+// A list that begins with no row. It is kept as numbers for as long as it has no other items.
+#[cycle(read)]
+#[inline(always)]
+fn read_counts<'a>(
+    alloc: Global,
+    reader: &mut Source<'a>,
+    depth: usize,
+) -> Result<Tree<'a>, Refusal>
     ensures ok { IfOk result
         (λ t. parse_map array (items_in depth (left reader.old)) ≡ Some (view t, (left reader.new))) }
     ensures shorter { OnOk result (length (left reader.new) < length (left reader.old)) }
@@ -169,6 +202,28 @@ fn read_list<'a>(alloc: Global, reader: &mut Source<'a>, depth: usize) -> Result
             Item::Count(n) => push_count(&mut counts, n)?,
             Item::Token(token) => return end_list(alloc, reader, depth, counts, token),
         }
+    }
+}
+
+// The rows of a list that began with this one. Where something else comes in between it is unsure.
+#[inline(never)]
+fn read_rows(alloc: Global, reader: &mut Source<'_>, first: Row) -> Result<Vec<Row>, Refusal>
+    requires { is_sure reader.old ≡ false }
+    ensures ok { IfOk result
+        (λ v. (depth : ℕ) → 2 ≤ depth → rows_after (first ∷ []) depth (left reader.old)
+        ≡ Some (items_of (map row_data v.items), left reader.new)) }
+    ensures shorter { OnOk result (length (left reader.new) ≤ length (left reader.old)) }
+    ensures invalid { result ≢ Err Refusal.Invalid }
+    ensures same { is_sure reader.new ≡ is_sure reader.old }
+{
+    let mut rows = Vec::with_capacity(alloc, 16)?;
+    rows.push(first)?;
+    'rows: while let Some(row) = reader.take_row() {
+        rows.push(row)?;
+    }
+    match reader.next() {
+        Ok(Token::EndArray) => Ok(rows),
+        _ => Err(Refusal::Unsure),
     }
 }
 

@@ -9,10 +9,12 @@ ghost use Rattle.json.specs.Lex.{may_begin, may_close, tokens};
 ghost use Rattle.json.specs.Print.{IsNumber};
 ghost use Rattle.json.specs.Reads.{token_of};
 ghost use Rattle.json.specs.Run.{is_plain};
+ghost use Rattle.json.specs.Token.{Token as SpecToken};
 ghost use Rattle.json.specs.Word.{is_space};
-ghost use Rattle.fpl_json.specs.Reading.{GoesOn};
+ghost use Rattle.fpl_json.specs.Reading.{GoesOn, TakesRow};
 ghost use Rattle.fpl_json.specs.Plain.{Begins, Closes, Counts, Follows, IsCount, IsScalar, Quotes, Reads, Spaces, Spells, TakesCount, left, place_of};
 
+use crate::tree::Row;
 use json::Token;
 use std::marker::Model;
 
@@ -483,6 +485,92 @@ impl<'a> Plain<'a> {
         self.place = place;
         self.position = position;
         Some(count)
+    }
+
+    /// Takes a row, if one is next.
+    #[inline(always)]
+    pub(crate) fn take_row(&mut self) -> Option<Row>
+        ensures { MatchOption result (self.new ≡ self.old) (λ row. TakesRow self.old row self.new) }
+    {
+        let mut ahead = Plain {
+            text: self.text,
+            position: self.position,
+            place: self.place,
+        };
+        let row = ahead.read_row()?;
+        *self = ahead;
+        Some(row)
+    }
+
+    // A row. Where there is none, nothing is known of the cursor.
+    #[inline(never)]
+    fn read_row(&mut self) -> Option<Row>
+        ensures { IfSome result (λ row. TakesRow self.old row self.new) }
+    {
+        if !self.begins_object() || !self.has_key("player") {
+            return None;
+        }
+        let player = self.take_count()?;
+        if !self.has_key("figures") || !self.begins_list() {
+            return None;
+        }
+        let figures = self.read_figures()?;
+        if self.ends_list() && self.ends_object() {
+            Some(Row { player, figures })
+        } else {
+            None
+        }
+    }
+
+    #[inline(always)]
+    fn begins_object(&mut self) -> bool
+        ensures { IsTrue result → self.old ≡ SpecToken.begin_object ∷ self.new }
+    {
+        matches!(self.next(), Ok(Token::BeginObject))
+    }
+
+    #[inline(always)]
+    fn begins_list(&mut self) -> bool
+        ensures { IsTrue result → self.old ≡ SpecToken.begin_array ∷ self.new }
+    {
+        matches!(self.next(), Ok(Token::BeginArray))
+    }
+
+    #[inline(always)]
+    fn ends_list(&mut self) -> bool
+        ensures { IsTrue result → self.old ≡ SpecToken.end_array ∷ self.new }
+    {
+        matches!(self.next(), Ok(Token::EndArray))
+    }
+
+    #[inline(always)]
+    fn ends_object(&mut self) -> bool
+        ensures { IsTrue result → read_key self.old ≡ Some (None, self.new) }
+    {
+        matches!(self.next_key(), Ok(None))
+    }
+
+    // Whether this key is next.
+    #[inline(always)]
+    fn has_key(&mut self, name: &str) -> bool
+        ensures { IsTrue result → read_key self.old ≡ Some (Some name.now, self.new) }
+    {
+        match self.next_key() {
+            Ok(Some(key)) => key == name,
+            _ => false,
+        }
+    }
+
+    // The 28 numbers that are next.
+    #[inline(always)]
+    fn read_figures(&mut self) -> Option<[u16; 28]>
+        ensures { IfSome result (λ figures. GoesOn [] self.old figures self.new) }
+    {
+        let mut figures = [0; 28];
+        'figures: for place in 0..28 {
+            figures[place] = self.take_count()?;
+        }
+        Some(figures)
     }
 
     /// Nothing but spaces is left, where a text may end.

@@ -1,15 +1,16 @@
 // Where the tokens of a text come from: a cursor over plain texts, which is quick, and unsure of others; or `json`'s
 // reader, which is sure of every text.
-ghost use Rattle.std.specs.Prelude.{◌≡◌, ◌≢◌, ◌∷◌, [], Err, IfOk, List, MatchResult, None, Ok, Some, option_map, true};
+ghost use Rattle.std.specs.Prelude.{◌≡◌, ◌≢◌, ◌∷◌, [], Err, IfOk, IfSome, List, MatchOption, MatchResult, None, Ok, Some, false, option_map, true};
 ghost use Rattle.std.specs.Bool.{MatchBool};
 ghost use Rattle.json.specs.Json.{read_key};
 ghost use Rattle.json.specs.Reads.{token_of};
 ghost use Rattle.json.specs.Token.{Token as SpecToken};
-ghost use Rattle.fpl_json.specs.Reading.{GoesOn, IsNextItem, is_sure, left};
+ghost use Rattle.fpl_json.specs.Reading.{GoesOn, IsNextItem, TakesRow, is_sure, left};
 
 use crate::number::count_of;
 use crate::parse::Refusal;
 use crate::plain::{Plain, Unsure};
+use crate::tree::Row;
 use json::{Reader, Token};
 
 /// What comes next in a list: a whole number of at most 65,535, where it is seen at once, or a token.
@@ -67,6 +68,19 @@ impl<'a> Source<'a> {
         match self {
             Source::Plain(plain) => plain.take_digits(counts),
             Source::Indexed(_) => {}
+        }
+    }
+
+    /// Takes a row, if one is seen at once.
+    #[inline(always)]
+    pub(crate) fn take_row(&mut self) -> Option<Row>
+        ensures row { MatchOption result (left self.new ≡ left self.old) (λ row. TakesRow (left self.old) row (left self.new)) }
+        ensures unsure { IfSome result (λ _. is_sure self.old ≡ false) }
+        ensures same { is_sure self.new ≡ is_sure self.old }
+    {
+        match self {
+            Source::Plain(plain) => plain.take_row(),
+            Source::Indexed(_) => None,
         }
     }
 

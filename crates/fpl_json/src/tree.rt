@@ -1,12 +1,20 @@
 // Bodies as trees. Texts are borrowed, and an object is the list of its members in the order of the body.
-ghost use Rattle.std.specs.Prelude.{◌≡◌, IfOk, IfSome, Some, is_some, option_and_then, option_map};
+ghost use Rattle.std.specs.Prelude.{◌≡◌, IfOk, IfSome, Some, is_some, map, option_and_then, option_map};
 ghost use Rattle.std.specs.Cow.{cow_slice_items};
 ghost use Rattle.serde_json.specs.Find.{as_array, as_bool, as_null, as_number, as_object, as_str, as_u64, get, get_member};
-ghost use Rattle.fpl_json.specs.Trees.{count_trees, items_view, members_view, view};
+ghost use Rattle.serde_json.specs.View.{items_of};
+ghost use Rattle.fpl_json.specs.Trees.{count_trees, items_view, members_view, row_data, view};
 
 use crate::number::Number;
 use std::alloc::{AllocError, Global};
 use std::borrow::CowSlice;
+
+/// The object of a player's number and his 28 figures, `{"player":12,"figures":[..]}`, none of them above 65,535.
+#[derive(Clone, Copy, Drop)]
+pub(crate) struct Row {
+    pub player: u16,
+    pub figures: [u16; 28],
+}
 
 #[derive(Drop)]
 pub(crate) enum Tree<'a> {
@@ -17,6 +25,8 @@ pub(crate) enum Tree<'a> {
     List(Vec<Tree<'a>>),
     /// A list of whole numbers, none of them above 65,535.
     Counts(Vec<u16>),
+    /// A list of rows.
+    Rows(Vec<Row>),
     Object(Vec<(&'a str, Tree<'a>)>),
 }
 
@@ -84,7 +94,17 @@ impl<'a> Tree<'a> {
         }
     }
 
-    /// The items of a list. Those of a list of numbers are made.
+    pub(crate) fn as_rows(&self) -> Option<&[Row]>
+        ensures { IfSome result (λ rows. as_array (view self.now) ≡ Some (items_of (map row_data rows.now))) }
+    {
+        if let Tree::Rows(rows) = self {
+            Some(rows.as_slice())
+        } else {
+            None
+        }
+    }
+
+    /// The items of a list. Those of a list of numbers or of rows are made.
     pub(crate) fn items(
         &self,
         alloc: Global,
@@ -96,6 +116,10 @@ impl<'a> Tree<'a> {
             Tree::List(items) => Ok(Some(CowSlice::Borrowed(items.as_slice()))),
             Tree::Counts(counts) => {
                 let items = trees_of(alloc, counts.as_slice())?;
+                Ok(Some(CowSlice::Owned(items)))
+            }
+            Tree::Rows(rows) => {
+                let items = objects_of(alloc, rows.as_slice())?;
                 Ok(Some(CowSlice::Owned(items)))
             }
             Tree::Null | Tree::Bool(_) | Tree::Number(_) | Tree::Text(_) | Tree::Object(_) => Ok(
@@ -114,6 +138,28 @@ pub(crate) fn trees_of<'a>(alloc: Global, counts: &[u16]) -> Result<Vec<Tree<'a>
         trees.push(Tree::Number(Number::Whole(u64::from(*count))))?;
     }
     Ok(trees)
+}
+
+/// Rows, each as a tree.
+fn objects_of<'a>(alloc: Global, rows: &[Row]) -> Result<Vec<Tree<'a>>, AllocError>
+    ensures { IfOk result (λ v. map view v.items ≡ map row_data rows.now) }
+{
+    let mut trees = Vec::with_capacity(alloc, rows.len())?;
+    for row in rows {
+        let tree = object_of(alloc, row)?;
+        trees.push(tree)?;
+    }
+    Ok(trees)
+}
+
+fn object_of<'a>(alloc: Global, row: &Row) -> Result<Tree<'a>, AllocError>
+    ensures { IfOk result (λ tree. view tree ≡ row_data row.now) }
+{
+    let figures = Vec::from_slice(alloc, &row.figures)?;
+    let mut members: Vec<(&'a str, Tree<'a>)> = Vec::with_capacity(alloc, 2)?;
+    members.push(("player", Tree::Number(Number::Whole(u64::from(row.player)))))?;
+    members.push(("figures", Tree::Counts(figures)))?;
+    Ok(Tree::Object(members))
 }
 
 fn find<'t, 'a>(members: &'t Vec<(&'a str, Tree<'a>)>, name: &str) -> Option<&'t Tree<'a>>

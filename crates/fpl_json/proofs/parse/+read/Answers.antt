@@ -10,6 +10,7 @@ use Rattle.fpl_json.specs.declared.number.Number.TheVariants as kind
 use Rattle.fpl_json.specs.declared.tree.Tree.{Bool, Null, Text, the_lemmas}
 use Rattle.fpl_json.specs.Reading.{items_after, items_before, items_in, left}
 use Rattle.fpl_json.specs.Trees.{count_trees, members_view, view}
+use Rattle.fpl_json.proofs.PlayerRowLemmas.{view-Rows}
 use Rattle.fpl_json.proofs.TreeLemmas.{view-Counts, view-List, view-Number, view-Object, items_before-no_items, one_more_count, one_more_item, members_view-push}
 use Rattle.fpl_json.proofs.parse.+read.Goals as goal
 
@@ -90,20 +91,20 @@ read_from-returns-in-EndObject-clause-invalid t c refused =
     let none : value c.args.depth (token_of c.args.token ∷ (left c.args.reader.now)) ≡ None = rw (value_is c.args.depth (token_of c.args.token ∷ (left c.args.reader.now))) (grind arith) in
     ap (converted of_json) none
 
-pub read_list-counts-init : goal.read_list-counts-init
-read_list-counts-init t c =
+pub read_counts-counts-init : goal.read_counts-counts-init
+read_counts-counts-init t c =
     let all = items_in c.args.depth (left c.args.reader.now) in
     (unmapped all ∙ ap (λ ns. parse_map (items_before (count_trees ns)) all) (sym c.new-counts.ensures.items), omega arith, refl)
 
-pub read_list-returns-in_err-n-clause-invalid : goal.read_list-returns-in_err-n-clause-invalid
-read_list-returns-in_err-n-clause-invalid t c refused =
+pub read_counts-returns-in_err-n-clause-invalid : goal.read_counts-returns-in_err-n-clause-invalid
+read_counts-returns-in_err-n-clause-invalid t c refused =
     let taken = c.take_digits.new.counts.items in
     let empty : left c.take_digits.new.self ≡ [] = grind arith in
     c.counts.invariant.0 ∙ c.take_digits.ensures.on.0 c.args.depth ∙ ap (items_after (count_trees taken) c.args.depth) empty
     ∙ ap (parse_map (items_before (count_trees taken))) (nothing_read c.args.depth 0)
 
-pub read_list-counts-preserved : goal.read_list-counts-preserved
-read_list-counts-preserved t c =
+pub read_counts-counts-preserved : goal.read_counts-counts-preserved
+read_counts-counts-preserved t c =
     let l = c.counts in
     let taken = c.take_digits.new.counts.items in
     let on = c.take_digits.ensures.on in
@@ -247,3 +248,10 @@ read_members-returns-clause-ok t c =
     let n = l.invariant.0 in
     let old = members_view l.found.items in
     l.invariant.2 ∙ members_over p old n (left l.reader) (left c.next_key.new.self) l.invariant.1 (grind arith)
+
+pub read_list-returns-in_ok-read_rows-in-Some-clause-ok : goal.read_list-returns-in_ok-read_rows-in-Some-clause-ok
+read_list-returns-in_ok-read_rows-in-Some-clause-ok t c =
+    let taken = c.in-Some.ensures.row in
+    let found = c.in_ok-read_rows-in-Some in
+    ap (parse_map array) (taken.1.0 c.args.depth taken.0 ∙ found.ensures.ok c.args.depth taken.0)
+    ∙ ap (λ d. Some (d, left c.read_rows.new.reader)) (sym (view-Rows found.field-0))

@@ -8,32 +8,35 @@ use Rattle.fpl_json.specs.Trees.{count_trees, members_view}
 use Rattle.fpl_json.proofs.parse.+read.Given as goal
 
 abbrev pub decreases-read : goal.decreases-read
-decreases-read l = 4 * l.depth + 1
+decreases-read l = 5 * l.depth + 1
 
 abbrev pub decreases-read_from : goal.decreases-read_from
-decreases-read_from l = 4 * l.depth
+decreases-read_from l = 5 * l.depth
 
 abbrev pub decreases-read_list : goal.decreases-read_list
-decreases-read_list l = 4 * l.depth + 3
+decreases-read_list l = 5 * l.depth + 4
+
+abbrev pub decreases-read_counts : goal.decreases-read_counts
+decreases-read_counts l = 5 * l.depth + 3
 
 abbrev pub decreases-end_list : goal.decreases-end_list
-decreases-end_list l = 4 * l.depth + 2
+decreases-end_list l = 5 * l.depth + 2
 
 abbrev pub decreases-read_items : goal.decreases-read_items
-decreases-read_items l = 4 * l.depth + 1
+decreases-read_items l = 5 * l.depth + 1
 
 abbrev pub decreases-read_members : goal.decreases-read_members
-decreases-read_members l = 4 * l.depth + 2
+decreases-read_members l = 5 * l.depth + 2
 
 -- the numbers so far and the items that are still to come are those of all
-abbrev pub invariant-read_list-counts : goal.invariant-read_list-counts
-invariant-read_list-counts l =
+abbrev pub invariant-read_counts-counts : goal.invariant-read_counts-counts
+invariant-read_counts-counts l =
     (items_in l.depth (left l.initial.reader) ≡ items_after (count_trees l.counts.items) l.depth (left l.reader))
     × (length (left l.reader) ≤ length (left l.initial.reader))
     × (is_sure l.reader ≡ is_sure l.initial.reader)
 
-abbrev pub decreases-read_list-counts : goal.decreases-read_list-counts
-decreases-read_list-counts l = length (left l.reader)
+abbrev pub decreases-read_counts-counts : goal.decreases-read_counts-counts
+decreases-read_counts-counts l = length (left l.reader)
 
 -- the items so far and those that are still to come are those of all
 abbrev pub invariant-read_items-items : goal.invariant-read_items-items
