@@ -53,7 +53,7 @@ items_enough depth zero m ts few enough =
 items_enough depth (suc n) m ts few enough =
     let less : suc n - 1 ≡ n = omega arith in
     turn depth (suc n) m ts (λ k r a b some. ap (λ i. items (value depth) i r) less ∙ items_enough depth n k r (omega (arith, a)) b)
-        (after_end_array ts) refl (value depth ts) refl few enough
+    (after_end_array ts) refl (value depth ts) refl few enough
 
 -- ---- the tokens of a row
 
@@ -65,44 +65,59 @@ row_read row t old s1 s2 s3 s4 s5 s6 s7 s8 opens player first number figures beg
   where
     l1 : length old ≡ suc (length s1)
     l1 = ap length opens
+
     l2 : length s2 < length s1
     l2 = read_key-shorter s1 (Some (codes "player")) s2 player
+
     l3 : length s2 ≡ suc (length s3)
     l3 = ap length first
+
     l4 : length s4 < length s3
     l4 = read_key-shorter s3 (Some (codes "figures")) s4 figures
+
     l5 : length s4 ≡ suc (length s5)
     l5 = ap length begins
+
     l6 : length s6 ≡ suc (length s7)
     l6 = ap length ends
+
     l7 : length s8 < length s7
     l7 = read_key-shorter s7 None s8 closes
+
     shorter : length s8 < length old
     shorter = omega (arith, l1, l2, l3, l4, l5, goes.1, l6, l7)
+
     inner : (k : ℕ) → items_in k s5 ≡ Some (items_of (map count row.figures), s7)
     inner k =
         unmapped (items_in k s5) ∙ goes.0 k ∙ ap (λ ts. items_after (count_trees row.figures) k ts) ends
         ∙ ap (parse_map (items_before (count_trees row.figures))) (items_over (value k) (length (Token.end_array ∷ s7)) (Token.end_array ∷ s7) s7 (omega arith) refl)
         ∙ ap (λ ds. Some (ds, s7)) (items_before-no_items (count_trees row.figures) ∙ items_view-count_trees row.figures)
+
     list : (d : ℕ) → 0 < d → converted of_json (value d s4) ≡ Some (array (items_of (map count row.figures)), s7)
     list d deep =
         ap (λ ts. converted of_json (value d ts)) begins ∙ ap (converted of_json) (value-begin_array d s5 deep)
         ∙ converted-array (items (value (d - 1)) (length s5) s5) ∙ ap (parse_map array) (inner (d - 1))
+
     told : (d : ℕ) → converted of_json (value d s2) ≡ Some (count row.player, s3)
     told d = ap (λ ts. converted of_json (value d ts)) first ∙ count_seen d row.player t s3 number
+
     one : Members
     one = put (codes "player") (count row.player) no_members
+
     both : Members
     both = put (codes "figures") (array (items_of (map count row.figures))) one
+
     all : (d : ℕ) → 0 < d → converted (λ ms. of_members ms no_members) (members (value d) (length s1) s1) ≡ Some (both, s8)
     all d deep =
         member_read (value d) no_members (length s1) (codes "player") s1 s2 s3 (count row.player) (omega (arith, l2)) player (told d)
         ∙ member_read (value d) one (length s1 - 1) (codes "figures") s3 s4 s7 (array (items_of (map count row.figures))) (omega (arith, l2, l3, l4)) figures (list d deep)
         ∙ members_over (value d) both (length s1 - 1 - 1) s7 s8 (omega (arith, l2, l3, l4, l5, goes.1, l6)) closes
+
     whole : (depth : ℕ) → 2 ≤ depth → converted of_json (value depth old) ≡ Some (row_data row, s8)
     whole depth deep =
         ap (λ ts. converted of_json (value depth ts)) opens ∙ ap (converted of_json) (value-begin_object depth s1 (omega (arith, deep)))
         ∙ converted-object (members (value (depth - 1)) (length s1) s1) ∙ ap (parse_map object) (all (depth - 1) (omega (arith, deep)))
+
     taken : (depth : ℕ) → 2 ≤ depth → items_in depth old ≡ parse_map (item (row_data row)) (items_in depth s8)
     taken depth deep =
         item_read (value depth) (length old) old s8 (row_data row) (omega (arith, l1)) (ap after_end_array opens) (whole depth deep)

@@ -23,6 +23,8 @@ mod plain_tests;
 mod requests;
 mod route;
 mod routes;
+#[cfg(test)]
+mod row_tests;
 mod rules;
 mod shown;
 #[cfg(test)]

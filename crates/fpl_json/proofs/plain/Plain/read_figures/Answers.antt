@@ -1,4 +1,4 @@
-use Rattle.std.proofs.Common.{◌≤◌, ◌≡◌, ◌+◌, ◌∷◌, ◌++◌, [], length, take, arith, refl, subst, sym, ap, ◌∙◌}
+use Rattle.std.proofs.Common.{◌∷◌, ◌++◌, [], take, arith, refl, subst, sym, ◌∙◌}
 use Rattle.std.proofs.lemmas.List.{length-set, take_more_set, take_all}
 use Rattle.fpl_json.specs.Reading.{GoesOn}
 use Rattle.fpl_json.proofs.DigitLemmas.{count_on, goes_on_more}
