@@ -3,7 +3,7 @@ ghost use Rattle.std.specs.Prelude.{◌≡◌, ℕ, List, IfOk, IfSome, IsTrue, 
 ghost use Rattle.fpl_base.specs.declared.kinds.Caller.{Caller};
 ghost use Rattle.fpl_http.specs.Responses.{is_answer_status};
 ghost use Rattle.fpl_http.specs.Seen.{request_seen};
-ghost use Rattle.fpl_session.specs.Replies.{answer_in};
+ghost use Rattle.fpl_session.specs.Replies.{answer_in, body_of};
 ghost use Rattle.fpl_json.specs.Requests.{request_of};
 ghost use Rattle.season_host.specs.Hosts.{IsRequest};
 ghost use Rattle.fpl_host.specs.Desks.{Asks};
@@ -135,13 +135,14 @@ fn judged<K: Keeper, C: Clock, L: Ledger>(
 
 // The reply of an answer.
 fn replied(alloc: Global, texts: &mut Texts, answer: &Answer) -> Result<Reply, Memory>
-    ensures reply { IfOk result (λ reply. (reply.status, reply.body.items) ≡ reply_of answer.now) }
+    ensures reply { IfOk result (λ reply. (reply.status, body_of reply) ≡ reply_of answer.now) }
     ensures status { IfOk result (λ reply. IsTrue (is_answer_status reply.status)) }
 {
     match texts.answer_text(alloc, answer) {
         Ok(reply) => Ok(Reply {
             status: reply.status,
             body: reply.body,
+            rest: reply.rest,
         }),
         Err(Memory) => Err(Memory),
     }
@@ -153,7 +154,7 @@ fn refused(alloc: Global, status: u16, body: &'static [u8]) -> Result<Asked, Mem
     ensures { IfOk result (Asks (Err (status, body.now))) }
 {
     let body = Vec::from_slice(alloc, body)?;
-    Ok(Asked::Refused(Reply { status, body }))
+    Ok(Asked::Refused(Reply::new(status, body)))
 }
 
 // What a caller asks by a route and a body.
@@ -171,7 +172,7 @@ fn read(
         Ok(request) => Ok(Asked::By(*caller, request)),
         Err(ReadFault::Malformed { field }) => {
             let body = malformed_text(alloc, field.name())?;
-            Ok(Asked::Refused(Reply { status: 400, body }))
+            Ok(Asked::Refused(Reply::new(400, body)))
         }
         Err(ReadFault::Memory) => Err(Memory),
     }

@@ -72,22 +72,26 @@ fn put_head(out: &mut Vec<u8>, status: u16, size: usize, closing: bool)
     put(out, end_of_head(closing));
 }
 
-/// Appends the bytes of a response with this body. `closing` says that the session ends after it. Where there is no
-/// memory for all of it, nothing is appended.
+/// Appends the bytes of a response whose body is this front with this rest behind it. `closing` says that the session
+/// ends after it. Where there is no memory for all of it, nothing is appended.
 pub fn append_response(
     out: &mut Vec<u8>,
     status: u16,
-    body: &[u8],
+    front: &[u8],
+    rest: &[u8],
     closing: bool,
 ) -> Result<(), Memory>
     requires { IsTrue (is_answer_status status) }
-    ensures ok { OnOk result (out.new.items ≡ out.old.items ++ response_text status body.now closing) }
+    ensures ok { OnOk result (out.new.items ≡ out.old.items ++ response_text status (front.now ++ rest.now) closing) }
     ensures err { OnErr result (out.new.items ≡ out.old.items) }
     ensures capacity { vec_capacity out.old ≤ vec_capacity out.new }
 {
-    out.reserve(HEAD_ROOM + body.len())?;
-    put_head(out, status, body.len(), closing);
-    put(out, body);
+    let size = front.len() + rest.len();
+    let room = size.checked_add(HEAD_ROOM).ok_or(Memory)?;
+    out.reserve(room)?;
+    put_head(out, status, size, closing);
+    put(out, front);
+    put(out, rest);
     Ok(())
 }
 

@@ -317,8 +317,8 @@ fn has_phrase(alloc: Global, status: u16, phrase: &str) -> Result<bool, Memory>
         "HTTP/1.1 {status} {phrase}\r\nContent-Type: application/json\r\nContent-Length: 2\r\nConnection: close\r\n\r\n{{}}"
     )?;
     let mut out = Vec::from_slice(alloc, b"before")?;
-    append_response(&mut out, status, b"{}", false)?;
-    append_response(&mut out, status, b"{}", true)?;
+    append_response(&mut out, status, b"{", b"}", false)?;
+    append_response(&mut out, status, b"{}", b"", true)?;
     let all = format!(in alloc; "before{open}{closing}")?;
     Ok(out.as_slice() == all.as_bytes())
 }
@@ -352,7 +352,7 @@ fn phrases_of_the_refused(rt: HostRuntime) -> Result<(), Fail> {
 fn want_of_memory_without_memory(rt: HostRuntime) -> Result<(), Fail> {
     for closing in [false, true] {
         let mut same = Vec::new(rt.alloc());
-        append_response(&mut same, 507, b"{\"error\":\"memory\"}", closing)?;
+        append_response(&mut same, 507, b"{\"error\":", b"\"memory\"}", closing)?;
         assert_eq!(rt; memory_response(closing), same.as_slice());
     }
     Ok(())

@@ -10,10 +10,10 @@ use Rattle.serde_json.specs.Written.{compact_text}
 use Rattle.serde_json.proofs.OnLiterals.{serde_json_on_literals}
 use Rattle.season_host.specs.declared.shown.ShownFixture.{ShownFixture}
 use Rattle.season_host.specs.declared.shown.ShownLine.{ShownLine}
-use Rattle.fpl_json.specs.FixtureTexts.{head_text, lines_text}
+use Rattle.fpl_json.specs.FixtureTexts.{head_text, tail_text}
 use Rattle.fpl_json.specs.ShownData.{fixture_data}
 
-pub joined_text : (f : ShownFixture) → (head_text f ++ lines_text f.lines) ++ codes "}" ≡ compact_text (fixture_data f)
+pub joined_text : (f : ShownFixture) → head_text f ++ tail_text f.lines ≡ compact_text (fixture_data f)
 unfolding serde_json_on_literals
 joined_text f = simp append_assoc refl
 

@@ -1,4 +1,4 @@
--- The text of a fixture in two parts: what stands before its lines, and its lines.
+-- The text of a fixture in two parts: what stands before its lines, and its lines with its end.
 use Rattle.std.specs.Prelude.{ℕ, List, ◌++◌, codes, decimal, map}
 use Rattle.serde_json.specs.Data.{array, boolean}
 use Rattle.serde_json.specs.View.{items_of}
@@ -11,6 +11,10 @@ use Rattle.fpl_json.specs.ShownData.{line_data}
 -- lines, as they stand in the text of a fixture
 abbrev pub lines_text : List ShownLine → List ℕ
 lines_text lines = compact_text (array (items_of (map line_data lines)))
+
+-- lines, and the end of the text of the fixture behind them
+abbrev pub tail_text : List ShownLine → List ℕ
+tail_text lines = lines_text lines ++ codes "}"
 
 -- the text of a fixture up to its lines
 abbrev pub head_text : ShownFixture → List ℕ

@@ -1,8 +1,10 @@
 pub mod Answers
+pub mod Bodies
 pub mod Callers
 pub mod FieldNames
 pub mod FixtureTexts
 pub mod KeptPlaces
+pub mod KeptTexts
 pub mod MemberData
 pub mod Members
 pub mod Reading

@@ -5,6 +5,7 @@ ghost use Rattle.std.specs.Prelude.{◌≡◌, ◌≤◌, ◌++◌, codes, decim
 ghost use Rattle.json.specs.Filled.{Placed};
 ghost use Rattle.serde_json.specs.Written.{compact_text};
 ghost use Rattle.fpl_json.specs.Answers.{answer_data, damaged_data, done_data, done_status, status_of};
+ghost use Rattle.fpl_json.specs.Bodies.{body_of};
 
 use crate::place::{place, place_count, place_slice, zeros};
 use crate::rules::rule_text;
@@ -13,6 +14,7 @@ use fpl_base::{Memory, RecordKey};
 use record_codec::Made;
 use season_host::Answer;
 use std::alloc::{AllocError, Global};
+use std::rc::Rc;
 
 /// What goes back to a caller: the status of HTTP, and a body of JSON without spaces whose members stand in the
 /// ascending order of their names' bytes.
@@ -20,16 +22,32 @@ use std::alloc::{AllocError, Global};
 pub struct Reply {
     pub status: u16,
     pub body: Vec<u8>,
+    /// The end of the body, shared with whoever keeps it.
+    pub rest: Option<Rc<Vec<u8>>>,
+}
+
+impl Reply {
+    /// A reply whose body is shared with nobody.
+    pub(crate) fn new(status: u16, body: Vec<u8>) -> Self
+        ensures status { result.status ≡ status }
+        ensures body { body_of result ≡ body.items }
+    {
+        Reply {
+            status,
+            body,
+            rest: None,
+        }
+    }
 }
 
 /// The status and the body of an answer. Its only error is want of memory.
 pub fn answer_text(alloc: Global, answer: &Answer) -> Result<Reply, Memory>
     ensures status { IfOk result (λ reply. reply.status ≡ status_of answer.now) }
-    ensures body { IfOk result (λ reply. reply.body.items ≡ compact_text (answer_data answer.now)) }
+    ensures body { IfOk result (λ reply. body_of reply ≡ compact_text (answer_data answer.now)) }
 {
     let status = status(answer);
     let body = answer_body(alloc, answer)?;
-    Ok(Reply { status, body })
+    Ok(Reply::new(status, body))
 }
 
 fn status(answer: &Answer) -> u16

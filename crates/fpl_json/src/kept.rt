@@ -3,20 +3,24 @@ ghost use Rattle.std.specs.Prelude.{◌≡◌, ◌↔◌, [], IfOk, IfSome, IsTr
 ghost use Rattle.std.specs.Option.{option_map};
 ghost use Rattle.serde_json.specs.Written.{compact_text};
 ghost use Rattle.fpl_json.specs.Answers.{answer_data, status_of};
-ghost use Rattle.fpl_json.specs.FixtureTexts.{lines_text};
+ghost use Rattle.fpl_json.specs.Bodies.{body_of};
+ghost use Rattle.fpl_json.specs.FixtureTexts.{tail_text};
+ghost use Rattle.fpl_json.specs.KeptTexts.{nothing_kept};
 ghost use Rattle.fpl_json.specs.ShownData.{fixture_data, season_data};
 
 use crate::answers::{Reply, answer_text};
 use crate::named::season_text;
-use crate::shown::{figures_text_in, lines_text, text_with_lines};
+use crate::shown::{figures_text_in, head_text_in, tail_text};
 use fpl_base::{FixtureId, Memory};
 use season_host::{Answer, Shown, ShownFixture, ShownLine, ShownSeason};
 use std::alloc::{AllocError, Global};
 use std::collections::BTreeMap;
 use std::marker::Model;
+use std::rc::Rc;
 
 /// Texts of answers that were given before: for each fixture that was shown, that of its lines, and that of the season.
-/// What is shown again as it was is copied, and not written anew.
+/// What is shown again as it was is not written anew: the text of lines is lent to the reply, and that of the season is
+/// copied. A contract sees of what texts are kept.
 #[derive(Drop)]
 pub struct Texts {
     fixtures: BTreeMap<FixtureId, KeptLines>,
@@ -25,23 +29,32 @@ pub struct Texts {
     spare: Option<Vec<u8>>,
 }
 
-/// Lines that were shown, and their text. A contract sees the lines.
+impl Model for Texts {
+    ghost use Rattle.fpl_json.specs.KeptTexts.{KeptTexts};
+
+    ghost Value = { KeptTexts };
+
+    ghost view = { λ t. record { lines = t.fixtures.entries; season = t.season } };
+}
+
+/// Lines that were shown, and their text with the end of the fixture behind it, which replies share. A contract sees the
+/// lines.
 #[derive(Drop)]
 struct KeptLines {
     lines: Vec<ShownLine>,
-    text: Vec<u8>,
+    text: Rc<Vec<u8>>,
 }
 
 impl Model for KeptLines {
     ghost use Rattle.std.specs.Prelude.{◌≡◌, List};
     ghost use Rattle.season_host.specs.declared.shown.ShownLine.{ShownLine};
-    ghost use Rattle.fpl_json.specs.FixtureTexts.{lines_text};
+    ghost use Rattle.fpl_json.specs.FixtureTexts.{tail_text};
 
     ghost Value = { List ShownLine };
 
     ghost view = { λ k. k.lines.items };
 
-    ghost invariant = { λ k. k.text.items ≡ lines_text k.lines.items };
+    ghost invariant = { λ k. k.text.value.items ≡ tail_text k.lines.items };
 }
 
 /// A season that was shown, and its text. A contract sees the season.
@@ -66,7 +79,9 @@ impl Model for KeptSeason {
 
 impl Texts {
     /// No texts. It takes no memory.
-    pub fn new(alloc: Global) -> Self {
+    pub fn new(alloc: Global) -> Self
+        ensures { result ≡ nothing_kept }
+    {
         Texts {
             fixtures: BTreeMap::new(alloc),
             season: None,
@@ -75,7 +90,9 @@ impl Texts {
     }
 
     /// Takes a body back that was handed on, so that its place serves for another one: the largest that came is kept.
-    pub fn reclaim(&mut self, body: Vec<u8>) {
+    pub fn reclaim(&mut self, body: Vec<u8>)
+        ensures { self.new ≡ self.old }
+    {
         let room = match &self.spare {
             Some(spare) => spare.capacity(),
             None => 0,
@@ -89,40 +106,56 @@ impl Texts {
     /// none is left to keep a text, it is written anew the next time.
     pub fn answer_text(&mut self, alloc: Global, answer: &Answer) -> Result<Reply, Memory>
         ensures status { IfOk result (λ reply. reply.status ≡ status_of answer.now) }
-        ensures body { IfOk result (λ reply. reply.body.items ≡ compact_text (answer_data answer.now)) }
+        ensures body { IfOk result (λ reply. body_of reply ≡ compact_text (answer_data answer.now)) }
     {
         match answer {
-            Answer::Shown(Shown::Fixture(shown)) => {
-                let body = self.fixture_text(alloc, shown)?;
-                Ok(Reply { status: 200, body })
-            }
+            Answer::Shown(Shown::Fixture(shown)) => self.fixture_reply(alloc, shown),
             Answer::Shown(Shown::Season(season)) => {
                 let body = self.season_text(alloc, season)?;
-                Ok(Reply { status: 200, body })
+                Ok(Reply::new(200, body))
             }
             Answer::Shown(Shown::PlayerGameweek(figures)) => {
                 let place = self.place(alloc);
                 let body = figures_text_in(place, figures)?;
-                Ok(Reply { status: 200, body })
+                Ok(Reply::new(200, body))
             }
             _ => answer_text(alloc, answer),
         }
     }
 
-    fn fixture_text(&mut self, alloc: Global, shown: &ShownFixture) -> Result<Vec<u8>, AllocError>
-        ensures { IfOk result (λ text. text.items ≡ compact_text (fixture_data shown.now)) }
+    fn fixture_reply(&mut self, alloc: Global, shown: &ShownFixture) -> Result<Reply, Memory>
+        ensures status { IfOk result (λ reply. reply.status ≡ 200) }
+        ensures body { IfOk result (λ reply. body_of reply ≡ compact_text (fixture_data shown.now)) }
     {
-        let fixture = shown.fixture.id;
-        let lines = shown.lines.as_slice();
+        let rest = self.lines_text(alloc, shown.fixture.id, shown.lines.as_slice())?;
         let place = self.place(alloc);
+        let body = head_text_in(place, shown)?;
+        Ok(Reply {
+            status: 200,
+            body,
+            rest: Some(rest),
+        })
+    }
+
+    // The text of the lines of a fixture and of its end: the kept one, or one that is kept from now on.
+    fn lines_text(
+        &mut self,
+        alloc: Global,
+        fixture: FixtureId,
+        lines: &[ShownLine],
+    ) -> Result<Rc<Vec<u8>>, Memory>
+        ensures { IfOk result (λ text. text.value.items ≡ tail_text lines.now) }
+    {
         if let Some(text) = self.kept_lines(fixture, lines) {
-            return text_with_lines(place, shown, text);
+            return Ok(text);
         }
-        let text = lines_text(alloc, lines)?;
-        if let Ok(kept) = KeptLines::new(alloc, lines, text.as_slice()) {
+        let mut text = tail_text(alloc, lines)?;
+        text.shrink_to_fit();
+        let text = Rc::new(alloc, text)?;
+        if let Ok(kept) = KeptLines::new(alloc, lines, &text) {
             drop(self.fixtures.insert(fixture, kept));
         }
-        text_with_lines(place, shown, text.as_slice())
+        Ok(text)
     }
 
     // A place for a body, of which nothing is written: the spare one, if there is one.
@@ -136,11 +169,11 @@ impl Texts {
     }
 
     // The text of these lines, if they are the ones that this fixture last showed.
-    fn kept_lines(&self, fixture: FixtureId, lines: &[ShownLine]) -> Option<&[u8]>
-        ensures { IfSome result (λ text. text.now ≡ lines_text lines.now) }
+    fn kept_lines(&self, fixture: FixtureId, lines: &[ShownLine]) -> Option<Rc<Vec<u8>>>
+        ensures { IfSome result (λ text. text.value.items ≡ tail_text lines.now) }
     {
         match self.fixtures.get(&fixture) {
-            Some(kept) => kept.text_of(lines),
+            Some(kept) => kept.text_of(lines)?.clone().ok(),
             None => None,
         }
     }
@@ -170,22 +203,22 @@ impl Texts {
 }
 
 impl KeptLines {
-    fn new(alloc: Global, lines: &[ShownLine], text: &[u8]) -> Result<Self, AllocError>
-        requires { text.now ≡ lines_text lines.now }
+    fn new(alloc: Global, lines: &[ShownLine], text: &Rc<Vec<u8>>) -> Result<Self, AllocError>
+        requires { text.now.value.items ≡ tail_text lines.now }
         ensures { IfOk result (λ kept. kept ≡ lines.now) }
     {
         Ok(KeptLines {
             lines: Vec::from_slice(alloc, lines)?,
-            text: Vec::from_slice(alloc, text)?,
+            text: text.clone()?,
         })
     }
 
-    // The text of these lines, if they are the kept ones.
-    fn text_of(&self, lines: &[ShownLine]) -> Option<&[u8]>
-        ensures { SomeIff (option_map (λ text. text.now) result) (self.now ≡ lines.now) (lines_text lines.now) }
+    // The text of these lines and of the end behind them, if they are the kept ones.
+    fn text_of(&self, lines: &[ShownLine]) -> Option<&Rc<Vec<u8>>>
+        ensures { SomeIff (option_map (λ text. text.now.value.items) result) (self.now ≡ lines.now) (tail_text lines.now) }
     {
         if self.lines.as_slice() == lines {
-            Some(self.text.as_slice())
+            Some(&self.text)
         } else {
             None
         }

@@ -10,7 +10,13 @@ use std::test::Fail;
 
 fn text_of(alloc: Global, reply: &Reply) -> Result<String, Fail> {
     let body = str::from_utf8(reply.body.as_slice()).ok().ok_or("a text")?;
-    Ok(format!(in alloc; "{} {}", reply.status, body)?)
+    let rest = match &reply.rest {
+        Some(rest) => str::from_utf8(rest.as_ref().as_slice())
+            .ok()
+            .ok_or("a text")?,
+        None => "",
+    };
+    Ok(format!(in alloc; "{} {}{}", reply.status, body, rest)?)
 }
 
 fn asked(alloc: Global, texts: &mut Texts, answer: &Answer) -> Result<String, Fail> {

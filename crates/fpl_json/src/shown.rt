@@ -6,7 +6,7 @@ ghost use Rattle.json.specs.Filled.{Placed};
 ghost use Rattle.serde_json.specs.Data.{array};
 ghost use Rattle.serde_json.specs.View.{items_of};
 ghost use Rattle.serde_json.specs.Written.{comma_if, compact_text};
-ghost use Rattle.fpl_json.specs.FixtureTexts.{head_text, lines_text};
+ghost use Rattle.fpl_json.specs.FixtureTexts.{head_text, tail_text};
 ghost use Rattle.fpl_json.specs.MemberData.{count_or_null};
 ghost use Rattle.fpl_json.specs.ShownData.{figures_data, fixture_data, line_data, shown_data};
 
@@ -50,38 +50,32 @@ pub(crate) fn figures_text_in(place: Vec<u8>, figures: &Figures) -> Result<Vec<u
 fn fixture_text(alloc: Global, shown: &ShownFixture) -> Result<Vec<u8>, AllocError>
     ensures { IfOk result (λ text. text.items ≡ compact_text (fixture_data shown.now)) }
 {
-    let lines = lines_text(alloc, shown.lines.as_slice())?;
-    text_with_lines(Vec::new(alloc), shown, lines.as_slice())
+    let tail = tail_text(alloc, shown.lines.as_slice())?;
+    let mut text = head_text_in(Vec::new(alloc), shown)?;
+    text.extend_from_slice(tail.as_slice())?;
+    Ok(text)
 }
 
-/// The text of lines.
-pub(crate) fn lines_text(alloc: Global, lines: &[ShownLine]) -> Result<Vec<u8>, AllocError>
-    ensures { IfOk result (λ text. text.items ≡ lines_text lines.now) }
+/// The text of lines, and of the end of the fixture behind them.
+pub(crate) fn tail_text(alloc: Global, lines: &[ShownLine]) -> Result<Vec<u8>, AllocError>
+    ensures { IfOk result (λ text. text.items ≡ tail_text lines.now) }
 {
-    let room = room_for(lines.len(), 128, 2)?;
+    let room = room_for(lines.len(), 128, 3)?;
     let mut text = zeros(alloc, room)?;
-    let end = place_lines(text.as_mut_slice(), 0, lines);
+    let end = place_tail(text.as_mut_slice(), lines);
     text.truncate(end);
     Ok(text)
 }
 
-/// The text of a fixture, whose lines have this text, in an empty place.
-pub(crate) fn text_with_lines(
-    place: Vec<u8>,
-    shown: &ShownFixture,
-    lines: &[u8],
-) -> Result<Vec<u8>, AllocError>
-    requires empty { place.items ≡ [] }
-    requires lines { lines.now ≡ lines_text shown.now.lines }
-    ensures { IfOk result (λ text. text.items ≡ compact_text (fixture_data shown.now)) }
+/// The text of a fixture up to its lines, in an empty place.
+pub(crate) fn head_text_in(place: Vec<u8>, shown: &ShownFixture) -> Result<Vec<u8>, AllocError>
+    requires { place.items ≡ [] }
+    ensures { IfOk result (λ text. text.items ≡ head_text shown.now) }
 {
     let mut head = [0; 192];
     let end = place_head(&mut head, shown);
     let mut text = place;
-    text.reserve(end + lines.len() + 1)?;
     text.extend_from_slice(&head[..end])?;
-    text.extend_from_slice(lines)?;
-    text.push(b'}')?;
     Ok(text)
 }
 
@@ -140,6 +134,14 @@ fn place_gameweek(block: &mut [u8], at: usize, gameweek: Option<Gw>) -> usize
         Some(gameweek) => place_count(block, at, u64::from(gameweek.get())),
         None => place(block, at, b"null"),
     }
+}
+
+fn place_tail(block: &mut [u8], lines: &[ShownLine]) -> usize
+    requires { 128 * length lines.now + 3 ≤ length block.old }
+    ensures { Placed block.old block.new 0 (tail_text lines.now) result }
+{
+    let at = place_lines(block, 0, lines);
+    place(block, at, b"}")
 }
 
 fn place_lines(block: &mut [u8], at: usize, lines: &[ShownLine]) -> usize

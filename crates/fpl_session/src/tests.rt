@@ -56,10 +56,7 @@ impl<K: Keeper, C: Clock, L: Ledger> Service<Count, K, C, L> for Counting {
         steps.tick();
         let moment = clock.now().get();
         let text = count_text(alloc, count.0, moment)?;
-        Ok(Reply {
-            status: 200,
-            body: text.into_bytes(),
-        })
+        Ok(Reply::new(200, text.into_bytes()))
     }
 
     fn reclaim(&self, _count: &mut Count, _body: Vec<u8>) {}
@@ -352,10 +349,7 @@ impl<K: Keeper, C: Clock, L: Ledger> Service<Count, K, C, L> for Lengthy {
         _steps: &mut Steps<L>,
         _message: &Message<'_>,
     ) -> Result<Reply, Memory> {
-        Ok(Reply {
-            status: 200,
-            body: vec![in alloc; b'x'; self.0]?,
-        })
+        Ok(Reply::new(200, vec![in alloc; b'x'; self.0]?))
     }
 
     fn reclaim(&self, _count: &mut Count, _body: Vec<u8>) {}
