@@ -16,8 +16,8 @@ use std::sync::ledger::Ledger;
 
 /// Answers the messages of a source into a sink, one after another. It reads pieces of 65,536 bytes, and takes 2^32 bytes
 /// at most. The answers to what a piece brought are written together, before the next read, and earlier where they are
-/// more than 65,536 bytes. A response that finds no memory is the fixed one of status 507, bytes that are no
-/// message are answered with the body `{"error":"bytes"}`, and nothing behind a message that closes is answered.
+/// more than 262,144 bytes. A response that finds no memory is the fixed one of status 507, bytes that are no message
+/// are answered with the body `{"error":"bytes"}`, and nothing behind a message that closes is answered.
 pub fn session<R: Service<H, K, C, L>, H, K: Keeper, S: Source, W: Sink, C: Clock, L: Ledger>(
     alloc: Global,
     service: &R,
