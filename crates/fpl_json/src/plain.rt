@@ -492,6 +492,9 @@ impl<'a> Plain<'a> {
     pub(crate) fn take_row(&mut self) -> Option<Row>
         ensures { MatchOption result (self.new ≡ self.old) (λ row. TakesRow self.old row self.new) }
     {
+        if after_spaces(self.text.as_bytes(), self.position).1 != b'{' {
+            return None;
+        }
         let mut ahead = Plain {
             text: self.text,
             position: self.position,
