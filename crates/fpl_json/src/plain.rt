@@ -378,6 +378,42 @@ fn push_digits(text: &[u8], from: usize, place: Place, counts: &mut Vec<u16>) ->
     (now, at)
 }
 
+// Where a run of numbers ends in a text, and how many numbers there are now.
+#[derive(Clone, Copy, Drop)]
+struct Run {
+    place: Place,
+    position: usize,
+    taken: usize,
+}
+
+// Takes numbers of one digit with a comma behind, as long as there is room for them behind those that were taken.
+#[inline(always)]
+fn put_digits(text: &[u8], from: usize, place: Place, numbers: &mut [u16; 28], taken: usize) -> Run
+    requires place { (from ≤ length text.now) × (may_begin (place_of place) ≡ true) }
+    requires room { taken ≤ 28 }
+    ensures on { GoesOn (take taken numbers.old) (left place from text.now) (take result.taken numbers.new) (left result.place result.position text.now) }
+    ensures within { (result.position ≤ length text.now) × (taken ≤ result.taken) × (result.taken ≤ 28) }
+{
+    let mut run = Run {
+        place,
+        position: from,
+        taken,
+    };
+    'digits: while run.taken < 28 && run.position + 1 < text.len() {
+        let value = digit(text[run.position]);
+        if value > 9 || text[run.position + 1] != b',' {
+            break;
+        }
+        numbers[run.taken] = value as u16;
+        run = Run {
+            place: Place::AfterComma,
+            position: run.position + 2,
+            taken: run.taken + 1,
+        };
+    }
+    run
+}
+
 // A clause sees the tokens that are still to come.
 #[derive(Drop)]
 pub(crate) struct Plain<'a> {
@@ -564,16 +600,38 @@ impl<'a> Plain<'a> {
         }
     }
 
-    // The 28 numbers that are next.
+    // The 28 numbers that are next. Most are of one digit.
     #[inline(always)]
     fn read_figures(&mut self) -> Option<[u16; 28]>
         ensures { IfSome result (λ figures. GoesOn [] self.old figures self.new) }
     {
         let mut figures = [0; 28];
-        'figures: for place in 0..28 {
-            figures[place] = self.take_count()?;
+        let mut taken = 0;
+        'figures: while taken < 28 {
+            taken = self.take_digits_into(&mut figures, taken);
+            if taken < 28 {
+                figures[taken] = self.take_count()?;
+                taken += 1;
+            }
         }
         Some(figures)
+    }
+
+    // Takes numbers of one digit with a comma behind, as long as they are next, behind those that were taken.
+    #[inline(always)]
+    fn take_digits_into(&mut self, numbers: &mut [u16; 28], taken: usize) -> usize
+        requires { taken ≤ 28 }
+        ensures on { GoesOn (take taken numbers.old) self.old (take result numbers.new) self.new }
+        ensures within { (taken ≤ result) × (result ≤ 28) }
+    {
+        if !self.place.may_begin() {
+            return taken;
+        }
+        let bytes = self.text.as_bytes();
+        let run = put_digits(bytes, self.position, self.place, numbers, taken);
+        self.place = run.place;
+        self.position = run.position;
+        run.taken
     }
 
     /// Nothing but spaces is left, where a text may end.

@@ -1,27 +1,23 @@
-use Rattle.std.proofs.Common.{◌∷◌, ◌++◌, [], take, arith, refl, subst, sym, ◌∙◌}
-use Rattle.std.proofs.lemmas.List.{length-set, take_more_set, take_all}
+use Rattle.std.proofs.Common.{◌∷◌, ◌++◌, [], take, arith, subst, sym, ◌∙◌}
+use Rattle.std.proofs.lemmas.List.{length-set, take_more_set}
 use Rattle.fpl_json.specs.Reading.{GoesOn}
 use Rattle.fpl_json.proofs.DigitLemmas.{count_on, goes_on_more}
 use Rattle.fpl_json.proofs.plain.Plain.read_figures.Goals as goal
 
-pub figures-init : goal.figures-init
-figures-init c = record { room = refl; on = ((λ depth. refl), omega arith) }
-
-pub figures-preserved : goal.figures-preserved
-figures-preserved c =
+pub figures-preserved-then-taken-lt28 : goal.figures-preserved-then-taken-lt28
+figures-preserved-then-taken-lt28 c =
     let l = c.figures in
+    let run = c.take_digits_into-taken in
+    let numbers = run.new.numbers in
     let n = c.in_ok-figures.field-0 in
-    let so_far = take l.place l.figures in
     let rest = c.take_count.new.self in
-    let on : GoesOn so_far l.self (so_far ++ n ∷ []) rest = count_on so_far n l.self rest c.in_ok-figures.ensures (omega arith) in
-    let more = take_more_set l.figures l.place n (omega (arith, l.invariant.room, c.figures-test.true)) in
+    let so_far = take run.result numbers in
+    let digits = goes_on_more [] (take l.taken l.figures) so_far c.args.self.now l.self run.new.self l.invariant.on run.ensures.on in
+    let one = count_on so_far n run.new.self rest c.in_ok-figures.ensures (omega arith) in
+    let all = goes_on_more [] so_far (so_far ++ n ∷ []) c.args.self.now run.new.self rest digits one in
+    let put = take_more_set numbers run.result n (omega (arith, run.array_long, c.if-taken-lt28.true)) in
     record {
-      room = length-set l.figures l.place n ∙ l.invariant.room;
-      on = subst (λ ns. GoesOn [] c.args.self.now ns rest) (sym more) (goes_on_more [] so_far (so_far ++ n ∷ []) c.args.self.now l.self rest l.invariant.on on);
+      room = length-set numbers run.result n ∙ run.array_long;
+      few = omega (arith, c.if-taken-lt28.true);
+      on = subst (λ ns. GoesOn [] c.args.self.now ns rest) (sym put) all;
     }
-
-pub returns : goal.returns
-returns c =
-    let l = c.figures in
-    let all = take_all l.place l.figures (omega (arith, l.invariant.room, c.figures-test.false)) in
-    subst (λ ns. GoesOn [] c.args.self.now ns l.self) all l.invariant.on

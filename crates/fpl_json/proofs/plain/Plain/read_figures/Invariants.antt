@@ -1,4 +1,4 @@
-use Rattle.std.proofs.Common.{◌≡◌, [], length, take}
+use Rattle.std.proofs.Common.{◌≡◌, ◌≤◌, ◌-◌, [], length, take}
 use Rattle.fpl_json.specs.Reading.{GoesOn}
 use Rattle.fpl_json.proofs.plain.Plain.read_figures.Given as goal
 
@@ -6,5 +6,9 @@ use Rattle.fpl_json.proofs.plain.Plain.read_figures.Given as goal
 abbrev pub invariant-figures : goal.invariant-figures
 invariant-figures l = record {
   room : length l.figures ≡ 28;
-  on : GoesOn [] l.initial.self (take l.place l.figures) l.self;
+  few : l.taken ≤ 28;
+  on : GoesOn [] l.initial.self (take l.taken l.figures) l.self;
 }
+
+abbrev pub decreases-figures : goal.decreases-figures
+decreases-figures l = 28 - l.taken
