@@ -75,32 +75,35 @@ fn a_list_is_named_for_what_is_no_row(rt: HostRuntime) {
 }
 
 // A sheet with this item between two rows.
-fn with_sheet<T>(
-    alloc: Global,
-    item: &str,
-    then: fn(Result<Request, ReadFault>) -> T,
-) -> Result<T, AllocError> {
+fn sheet_with(alloc: Global, item: &str) -> Result<String, AllocError> {
     let row = ROW;
-    let body = format!(in alloc; r#"{{"number":1,"lines":[{row},{item},{row}],"finished":true}}"#)?;
-    let mut scratch = Scratch::new(alloc);
-    Ok(then(read_request(alloc, &mut scratch, Route::Sheet, [4, 0], body.as_bytes())))
+    format!(in alloc; r#"{{"number":1,"lines":[{row},{item},{row}],"finished":true}}"#)
 }
 
 fn fault_of(alloc: Global, item: &str) -> Result<Option<ReadFault>, AllocError> {
-    with_sheet(alloc, item, |read| read.err())
+    let body = sheet_with(alloc, item)?;
+    let mut scratch = Scratch::new(alloc);
+    match read_request(alloc, &mut scratch, Route::Sheet, [4, 0], body.as_bytes()) {
+        Ok(_) => Ok(None),
+        Err(fault) => Ok(Some(fault)),
+    }
 }
 
 // The player of the line between two others, if all three have the figures of `ROW`.
 fn middle_player(alloc: Global, item: &str) -> Result<Option<u32>, AllocError> {
-    with_sheet(alloc, item, |read| match read {
-        Ok(
-            Request::Command {
-                command: Command::Sheet { lines, .. },
-                ..
-            },
-        ) => player_among(&lines),
+    let body = sheet_with(alloc, item)?;
+    let mut scratch = Scratch::new(alloc);
+    match read_request(alloc, &mut scratch, Route::Sheet, [4, 0], body.as_bytes()) {
+        Ok(Request::Command { number: _, command }) => Ok(player_of(&command)),
+        _ => Ok(None),
+    }
+}
+
+fn player_of(command: &Command) -> Option<u32> {
+    match command {
+        Command::Sheet { lines, .. } => player_among(lines),
         _ => None,
-    })
+    }
 }
 
 fn player_among(lines: &Lines) -> Option<u32> {
