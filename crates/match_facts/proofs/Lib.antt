@@ -2,6 +2,7 @@ pub mod ColumnLemmas
 pub mod FirstAbove
 pub mod HandedIn
 pub mod Maps
+pub mod MarkLemmas
 pub mod Placed
 pub mod Repeats
 pub mod SheetEntries

@@ -2,4 +2,5 @@ pub mod Columns
 pub mod Entries
 pub mod Laws
 pub mod Lending
+pub mod Marks
 pub mod Tables

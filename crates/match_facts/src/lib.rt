@@ -5,6 +5,7 @@ mod columns;
 mod facts;
 mod judge;
 mod laws;
+mod marks;
 mod ranges;
 mod reads;
 mod sheet;

@@ -7,6 +7,7 @@ ghost use Rattle.rule_book.specs.MatchFacts.{line_in, players_in, with_line, wit
 
 use crate::columns::{line_at, place_of, put_row, remove_row};
 use crate::judge::MOST_LINES;
+use crate::marks::{Marks, is_marked, mark, no_marks};
 use fpl_base::{Memory, PlayerId};
 use rule_book::Line;
 use std::alloc::Global;
@@ -18,18 +19,19 @@ pub struct Sheet {
     players: Vec<PlayerId>,
     lines: Vec<Line>,
     finished: bool,
+    marks: Marks,
 }
 
 impl Model for Sheet {
     ghost use Rattle.std.specs.List.{zip};
     ghost use Rattle.rule_book.specs.MatchFacts as facts;
-    ghost use Rattle.match_facts.specs.Columns.{AreColumns};
+    ghost use Rattle.match_facts.specs.Marks.{AreMarkedColumns};
 
     ghost Value = { facts.Sheet };
 
     ghost view = { λ s. record { lines = zip s.players.items s.lines.items; finished = s.finished } };
 
-    ghost invariant = { λ s. AreColumns s.players.items s.lines.items };
+    ghost invariant = { λ s. AreMarkedColumns s.players.items s.lines.items s.marks };
 }
 
 impl Sheet {
@@ -41,6 +43,7 @@ impl Sheet {
             players: Vec::with_capacity(alloc, room)?,
             lines: Vec::with_capacity(alloc, room)?,
             finished,
+            marks: no_marks(),
         })
     }
 
@@ -78,7 +81,11 @@ impl Sheet {
     pub fn line(&self, player: PlayerId) -> Option<Line>
         ensures { result ≡ line_in self.now.lines player }
     {
-        line_at(&self.players, &self.lines, player)
+        if is_marked(&self.marks, player) {
+            line_at(&self.players, &self.lines, player)
+        } else {
+            None
+        }
     }
 
     pub fn finished(&self) -> bool
@@ -110,6 +117,7 @@ impl Sheet {
         ensures ok { OnOk result (self.new ≡ record { lines = with_line self.old.lines player line.now; finished = self.old.finished }) }
         ensures err { OnErr result (self.new ≡ self.old) }
     {
+        mark(&mut self.marks, player);
         put_row(&mut self.players, &mut self.lines, player, line)
     }
 

@@ -7,4 +7,4 @@ use Rattle.match_facts.proofs.sheet.Sheet.tells_facts.Goals as goal
 pub returns-else-self : goal.returns-else-self
 returns-else-self c =
     let long = length-zip c.self.inside.players.items c.self.inside.lines.items in
-    rw (← c.self.view_is) (grind (arith, nat_tests, common_steps, long, c.self.invariant.paired, c.if-self.false))
+    rw (← c.self.view_is) (grind (arith, nat_tests, common_steps, long, c.self.invariant.columns.paired, c.if-self.false))
