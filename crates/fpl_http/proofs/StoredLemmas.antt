@@ -37,10 +37,10 @@ kept_same items more from start end ordered before within =
     ∙ ap (take (start - from)) (front_cut items from end (omega arith))
     ∙ take-take (start - from) (end - from) (drop from items) (omega arith)
 
--- bytes moved to the front wait there
-pub moved_front : (items a b : List ℕ) (start end : ℕ) → start ≤ end → end ≤ length items
+-- bytes turned to the front wait there
+pub turned_front : (items a b : List ℕ) (start end : ℕ) → start ≤ end → end ≤ length items
     → take (end - start) (drop start (take end items) ++ a ++ b) ≡ take (end - start) (drop start items)
-moved_front items a b start end ordered within =
+turned_front items a b start end ordered within =
     let len : length (drop start (take end items)) ≡ end - start = omega (arith, length-take end items, length-drop start (take end items)) in
     ap (take (end - start)) (append_assoc (drop start (take end items)) a b)
     ∙ take_at (drop start (take end items)) (a ++ b) (end - start) len

@@ -1,5 +1,5 @@
 // The bytes of a stream in one place that never grows.
-ghost use Rattle.std.specs.Prelude.{◌≡◌, ◌++◌, ◌≤◌, ◌<◌, ◌+◌, ◌-◌, [], IfOk, length, take, drop, min, IsTrue, ◌↔◌};
+ghost use Rattle.std.specs.Prelude.{◌≡◌, ◌++◌, ◌≤◌, ◌<◌, ◌+◌, ◌-◌, [], IfOk, length, take, drop, min, nat_le, ◌||◌, IsTrue, ◌↔◌};
 ghost use Rattle.fpl_http.specs.Stored.{Stored};
 
 use std::alloc::{AllocError, Global};
@@ -7,6 +7,10 @@ use std::marker::Model;
 
 /// How many bytes there is room for: the most that a message may have, with its head.
 pub const ROOM: usize = 270336;
+
+/// How many bytes may lie before those that wait. A stream of short messages so stays in the first part of the place,
+/// which the processor then has at hand.
+const FAR: usize = 65536;
 
 /// Bytes that wait at the end of those that are kept.
 #[derive(Drop)]
@@ -101,13 +105,13 @@ impl Buffer {
         count
     }
 
-    /// Moves the bytes that wait to the front where there is no room after them, and keeps none.
+    /// Moves the bytes that wait to the front where there is no room after them or much before them, and keeps none.
     pub fn make_room(&mut self)
         ensures waits { self.new.waits ≡ self.old.waits }
         ensures kept { self.new.kept ≡ [] }
         ensures room { length self.old.waits < 270336 → 0 < self.new.room }
     {
-        if self.end == self.bytes.len() {
+        if is_due(self.start, self.end) {
             bring_forward(&mut self.bytes, self.start, self.end);
             self.end -= self.start;
             self.start = 0;
@@ -125,13 +129,35 @@ fn put(bytes: &mut Vec<u8>, at: usize, piece: &[u8])
     bytes[at..at + piece.len()].copy_from_slice(piece);
 }
 
+/// Whether what waits in a range has no room after it, or much before it.
+fn is_due(start: usize, end: usize) -> bool
+    ensures { result ≡ (nat_le 270336 end || nat_le 65536 start) }
+{
+    end >= ROOM || start >= FAR
+}
+
 /// Moves the bytes of a range to the front.
 fn bring_forward(bytes: &mut [u8], start: usize, end: usize)
     requires ordered { start ≤ end }
     requires within { end ≤ length bytes.old }
     ensures len { length bytes.new ≡ length bytes.old }
-    ensures moved { bytes.new
-        ≡ drop start (take end bytes.old) ++ take start (take end bytes.old) ++ drop end bytes.old }
+    ensures moved { take (end - start) bytes.new ≡ take (end - start) (drop start bytes.old) }
 {
-    bytes[..end].rotate_left(start);
+    let count = end - start;
+    if count <= start {
+        copy_forward(bytes, start, count);
+    } else {
+        bytes[..end].rotate_left(start);
+    }
+}
+
+/// Copies so many bytes from a place to the front, which they do not reach beyond.
+fn copy_forward(bytes: &mut [u8], start: usize, count: usize)
+    requires apart { count ≤ start }
+    requires within { start + count ≤ length bytes.old }
+    ensures len { length bytes.new ≡ length bytes.old }
+    ensures moved { take count bytes.new ≡ take count (drop start bytes.old) }
+{
+    let (front, back) = bytes.split_at_mut(start);
+    front[..count].copy_from_slice(&back[..count]);
 }
