@@ -311,3 +311,19 @@ fn fixtures_are_found_behind_one_that_went(rt: HostRuntime) {
     assert!(rt; put_all(&mut facts, &ids));
     assert!(rt; all_stand(&facts, &ids) && none_stands(&facts, &[9]));
 }
+
+#[test]
+fn players_whose_ids_differ_by_256_are_told_apart(rt: HostRuntime) -> Result<(), Fail> {
+    let mut facts = MatchFacts::new(rt.alloc());
+    let at = fixture(7)?;
+    let (near, far, other) = (player(5)?, player(261)?, player(517)?);
+    assert!(rt; facts.put_line(at, true, far, &line(&[(1, 61)])).is_ok());
+    assert_eq!(rt; minutes(&facts, at, near), None);
+    assert_eq!(rt; minutes(&facts, at, far), Some(61));
+    assert!(rt; facts.put_line(at, true, near, &line(&[(1, 5)])).is_ok());
+    facts.drop_line(at, far);
+    assert_eq!(rt; minutes(&facts, at, near), Some(5));
+    assert_eq!(rt; minutes(&facts, at, far), None);
+    assert_eq!(rt; minutes(&facts, at, other), None);
+    Ok(())
+}

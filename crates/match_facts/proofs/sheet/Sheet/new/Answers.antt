@@ -5,5 +5,5 @@ use Rattle.match_facts.proofs.sheet.Sheet.new.Goals as goal
 pub invariant_of-result : goal.invariant_of-result
 invariant_of-result c = record {
   columns = rw (c.in_ok-with_capacity.ensures.items, c.in_ok-with_capacity-2.ensures.items) no_columns;
-  marked = λ player none. rw c.in_ok-with_capacity.ensures.items refl
+  marked = λ player none. rw c.in_ok-with_capacity.ensures.items refl;
 }

@@ -8,5 +8,5 @@ invariant_of-self c =
     record {
       columns = c.put_row.ensures.columns;
       marked = rw c.mark.ensures (marked_put c.self.inside.marks c.self.told c.args.player before c.args.line.now c.self.invariant.marked
-          (zip c.put_row.new.players.items c.put_row.new.lines.items) c.put_row.result c.put_row.ensures.ok c.put_row.ensures.err)
+          (zip c.put_row.new.players.items c.put_row.new.lines.items) c.put_row.result c.put_row.ensures.ok c.put_row.ensures.err);
     }
