@@ -1,5 +1,5 @@
 // A sheet's lines in two columns: ascending players, and the line of each.
-ghost use Rattle.std.specs.Prelude.{◌≡◌, ◌≤◌, [], ◌∷◌, OnOk, OnErr, length};
+ghost use Rattle.std.specs.Prelude.{◌≡◌, ◌≤◌, [], ◌∷◌, OnOk, OnErr, length, option_copied};
 ghost use Rattle.std.specs.List.{zip};
 ghost use Rattle.rule_book.specs.MatchFacts.{line_in, with_line, without_line};
 ghost use Rattle.match_facts.specs.Columns.{AreColumns, IsAscending, IsSought};
@@ -16,12 +16,12 @@ pub fn place_of(players: &[PlayerId], player: PlayerId) -> Result<usize, usize>
 }
 
 /// The line of a player.
-pub fn line_at(players: &[PlayerId], lines: &[Line], player: PlayerId) -> Option<Line>
+pub fn line_at<'a>(players: &[PlayerId], lines: &'a [Line], player: PlayerId) -> Option<&'a Line>
     requires { AreColumns players.now lines.now }
-    ensures { result ≡ line_in (zip players.now lines.now) player }
+    ensures { option_copied result ≡ line_in (zip players.now lines.now) player }
 {
     match place_of(players, player) {
-        Ok(place) => Some(lines[place]),
+        Ok(place) => Some(&lines[place]),
         Err(_) => None,
     }
 }

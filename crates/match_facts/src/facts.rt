@@ -1,4 +1,4 @@
-ghost use Rattle.std.specs.Prelude.{◌≡◌, ◌≤◌, ◌+◌, [], length, OnOk, OnErr, IsTrue, ◌↔◌};
+ghost use Rattle.std.specs.Prelude.{◌≡◌, ◌≤◌, ◌+◌, [], length, OnOk, OnErr, IsTrue, ◌↔◌, option_copied};
 ghost use Rattle.std.specs.List.{zip};
 ghost use Rattle.std.specs.List.Sorted.{IsStrictlyIncreasing};
 ghost use Rattle.rule_book.specs.MatchFacts.{line_of, lines_of, with_line, players_in, is_finished, has_facts};
@@ -139,8 +139,8 @@ impl MatchFacts {
         fixture: FixtureId,
         player: PlayerId,
         steps: &mut Steps<L>,
-    ) -> Option<Line>
-        ensures line { result ≡ line_of self.now fixture player }
+    ) -> Option<&Line>
+        ensures line { option_copied result ≡ line_of self.now fixture player }
         ensures counted { steps.new ≡ steps.old + 1 }
     {
         steps.tick();

@@ -1,5 +1,5 @@
 // The facts of one fixture.
-ghost use Rattle.std.specs.Prelude.{◌≡◌, ◌≤◌, ◌<◌, [], length, IfOk, OnOk, OnErr, IsTrue, ◌↔◌};
+ghost use Rattle.std.specs.Prelude.{◌≡◌, ◌≤◌, ◌<◌, [], length, IfOk, OnOk, OnErr, IsTrue, ◌↔◌, option_copied};
 ghost use Rattle.std.specs.List.{zip};
 ghost use Rattle.std.specs.List.Sorted.{IsStrictlyIncreasing};
 ghost use Rattle.rule_book.specs.declared.line.Line.{Line};
@@ -78,8 +78,8 @@ impl Sheet {
         (self.players.as_slice(), self.lines.as_slice())
     }
 
-    pub fn line(&self, player: PlayerId) -> Option<Line>
-        ensures { result ≡ line_in self.now.lines player }
+    pub fn line(&self, player: PlayerId) -> Option<&Line>
+        ensures { option_copied result ≡ line_in self.now.lines player }
     {
         if is_marked(&self.marks, player) {
             line_at(&self.players, &self.lines, player)

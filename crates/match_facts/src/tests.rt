@@ -48,7 +48,7 @@ fn read<L: Ledger>(
     requires some { 0 < blank.parts }
 {
     let mut steps: Steps<L> = Steps::open(blank);
-    facts.line(fixture, player, &mut steps)
+    facts.line(fixture, player, &mut steps).copied()
 }
 
 // The minutes of a player in a fixture.

@@ -64,7 +64,8 @@ fn with_fixture<L: Ledger>(
     ensures same { season.new ≡ season.old }
 {
     match line_of(season, fixture, player, steps) {
-        Some(line) => {
+        Some(there) => {
+            let line = *there;
             let points = points_of(alloc, season, player, fixture, &line, steps);
             with_line(figures, &line, points)
         }

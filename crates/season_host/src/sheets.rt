@@ -1,5 +1,5 @@
 // The lines of a fixture, and what they are worth.
-ghost use Rattle.std.specs.Prelude.{◌≡◌, ◌-◌, ℤ, All, IfOk, IfSome, Some, length, true, false, map, if◌then◌else◌};
+ghost use Rattle.std.specs.Prelude.{◌≡◌, ◌-◌, ℤ, All, IfOk, IfSome, Some, length, true, false, map, option_copied, if◌then◌else◌};
 ghost use Rattle.std.specs.List.{zip};
 ghost use Rattle.line_scoring.specs.Levels.{above, bonus_by};
 ghost use Rattle.rule_book.specs.declared.line.Line.{Line};
@@ -61,14 +61,14 @@ fn position_among(players: &Players, player: PlayerId) -> Position
 }
 
 // A player's line in a fixture, which is one that a player can have.
-pub(crate) fn line_of<L: Ledger>(
-    season: &Season,
+pub(crate) fn line_of<'a, L: Ledger>(
+    season: &'a Season,
     fixture: FixtureId,
     player: PlayerId,
     steps: &mut Steps<L>,
-) -> Option<Line>
-    ensures line { result ≡ line_of season.now.matches fixture player }
-    ensures in_range { IfSome result IsLine }
+) -> Option<&'a Line>
+    ensures line { option_copied result ≡ line_of season.now.matches fixture player }
+    ensures in_range { IfSome result (λ line. IsLine line.now) }
 {
     season.matches.line(fixture, player, steps)
 }
