@@ -10,7 +10,7 @@ ghost use Rattle.fpl_json.specs.ShownData.{fixture_data, season_data};
 
 use crate::answers::{Reply, answer_text};
 use crate::named::season_text;
-use crate::shown::{figures_text_in, head_text_in, tail_text};
+use crate::shown::{drafted_tail_text, figures_text_in, head_text_in};
 use fpl_base::{FixtureId, Memory};
 use season_host::{Answer, Shown, ShownFixture, ShownLine, ShownSeason};
 use std::alloc::{AllocError, Global};
@@ -27,6 +27,8 @@ pub struct Texts {
     season: Option<KeptSeason>,
     // A body that was handed on, whose place serves again.
     spare: Option<Vec<u8>>,
+    // Where the text of lines is first written.
+    draft: Vec<u8>,
 }
 
 impl Model for Texts {
@@ -86,6 +88,7 @@ impl Texts {
             fixtures: BTreeMap::new(alloc),
             season: None,
             spare: None,
+            draft: Vec::new(alloc),
         }
     }
 
@@ -149,8 +152,7 @@ impl Texts {
         if let Some(text) = self.kept_lines(fixture, lines) {
             return Ok(text);
         }
-        let mut text = tail_text(alloc, lines)?;
-        text.shrink_to_fit();
+        let text = drafted_tail_text(alloc, &mut self.draft, lines)?;
         let text = Rc::new(alloc, text)?;
         if let Ok(kept) = KeptLines::new(alloc, lines, &text) {
             drop(self.fixtures.insert(fixture, kept));

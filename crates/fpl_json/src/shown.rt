@@ -57,14 +57,34 @@ fn fixture_text(alloc: Global, shown: &ShownFixture) -> Result<Vec<u8>, AllocErr
 }
 
 /// The text of lines, and of the end of the fixture behind them.
-pub(crate) fn tail_text(alloc: Global, lines: &[ShownLine]) -> Result<Vec<u8>, AllocError>
+fn tail_text(alloc: Global, lines: &[ShownLine]) -> Result<Vec<u8>, AllocError>
+    ensures { IfOk result (λ text. text.items ≡ tail_text lines.now) }
+{
+    drafted_tail_text(alloc, &mut Vec::new(alloc), lines)
+}
+
+/// The same. It is first written into a draft, which may hold anything, grows where it is too small, and serves again.
+pub(crate) fn drafted_tail_text(
+    alloc: Global,
+    draft: &mut Vec<u8>,
+    lines: &[ShownLine],
+) -> Result<Vec<u8>, AllocError>
     ensures { IfOk result (λ text. text.items ≡ tail_text lines.now) }
 {
     let room = room_for(lines.len(), 128, 3)?;
-    let mut text = zeros(alloc, room)?;
-    let end = place_tail(text.as_mut_slice(), lines);
-    text.truncate(end);
-    Ok(text)
+    if draft.len() < room {
+        *draft = zeros(alloc, room)?;
+    }
+    written_tail(alloc, draft.as_mut_slice(), lines)
+}
+
+// The text of lines and of the end behind them, written into a draft that has room for it.
+fn written_tail(alloc: Global, draft: &mut [u8], lines: &[ShownLine]) -> Result<Vec<u8>, AllocError>
+    requires { 128 * length lines.now + 3 ≤ length draft.old }
+    ensures { IfOk result (λ text. text.items ≡ tail_text lines.now) }
+{
+    let end = place_tail(draft, lines);
+    Vec::from_slice(alloc, &draft[..end])
 }
 
 /// The text of a fixture up to its lines, in an empty place.
