@@ -40,7 +40,7 @@ impl Text {
 }
 
 /// The name of a club, a player, an entry or a league: UTF-8 text of 1 to 64 bytes without control characters.
-#[derive(Clone, Drop)]
+#[derive(Drop)]
 pub struct Name {
     bytes: Vec<u8>,
 }
@@ -86,7 +86,7 @@ impl Name {
 }
 
 /// What a caller shows to be let in: 8 to 64 small letters and digits.
-#[derive(Clone, Drop)]
+#[derive(Drop)]
 pub struct Key {
     bytes: Vec<u8>,
 }
@@ -132,7 +132,7 @@ impl Key {
 }
 
 /// What an entry needs to join a league: 4 to 16 small letters and digits.
-#[derive(Clone, Drop)]
+#[derive(Drop)]
 pub struct Code {
     bytes: Vec<u8>,
 }

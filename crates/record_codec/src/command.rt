@@ -1,10 +1,11 @@
-use crate::{Clubs, Lines, Moments};
-use fpl_base::{ClubId, FixtureId, Gw, Moment, Name, PlayerId, Position};
-use rule_book::Line;
+use crate::{Clubs, Coins, Lines, Moments, Order, Slots, Swaps};
+use fpl_base::{Chip, ClubId, Code, FixtureId, Gw, Key, Moment, Name, PlayerId, Position};
+use rule_book::{LeagueKind, Line};
 
 /// What a caller orders: one variant for each command, with the ids of its target and its members. An id of a target
 /// is any number that can be spelled, since what is not there is only told when the command is judged. Prices are in
-/// tenths of a million, from 0 to 65535; which of them a player can have is judged too.
+/// tenths of a million, from 0 to 65535; which of them a player can have is judged too. The operator gives the commands
+/// up to `Finished`, `Key`, `Draw` and `Cup`, and an entry's manager the others.
 #[derive(Drop)]
 pub enum Command {
     /// Begins the season: its deadlines, the last gameweek of its first half, and its clubs.
@@ -76,5 +77,55 @@ pub enum Command {
     Finished {
         fixture: u32,
         finished: bool,
+    },
+    /// Makes an entry, which is let in with this key.
+    Key {
+        key: Key,
+        name: Name,
+    },
+    /// Registers the caller's squad: fifteen players by slot, captain and vice-captain.
+    Squad {
+        players: [PlayerId; 15],
+        captain: PlayerId,
+        vice: PlayerId,
+    },
+    /// Makes a batch of 1 to 15 transfers, whole or not at all.
+    Transfers {
+        swaps: Swaps,
+    },
+    /// Sets the slots of the caller's players, captain and vice-captain.
+    Lineup {
+        players: [PlayerId; 15],
+        captain: PlayerId,
+        vice: PlayerId,
+    },
+    /// Plays a chip, which is not `Chip::None`.
+    Chip {
+        chip: Chip,
+    },
+    /// Takes a chip back.
+    CancelChip,
+    /// Creates a league, which others join with its code.
+    League {
+        kind: LeagueKind,
+        name: Name,
+        code: Code,
+        start: Gw,
+    },
+    /// Joins a league.
+    Join {
+        league: u32,
+        code: Code,
+    },
+    /// Draws a head-to-head league: its members by place, at most 64.
+    Draw {
+        league: u32,
+        order: Order,
+    },
+    /// Draws a cup: slots with the numbers of entries, 0 for a bye, and a coin of 0 or 1 for each tie; at most 1024.
+    Cup {
+        start: Gw,
+        slots: Slots,
+        coins: Coins,
     },
 }

@@ -2,6 +2,7 @@
 ghost use Rattle.std.specs.Prelude.{◌≡◌, IfOk};
 
 use crate::Command;
+use crate::lists::copy_of_clubs;
 use fpl_base::Memory;
 
 impl Command {
@@ -17,11 +18,12 @@ impl Command {
             } => Ok(Command::Season {
                 deadlines: deadlines.copy()?,
                 split,
-                clubs: clubs.copy()?,
+                clubs: copy_of_clubs(clubs)?,
             }),
-            Command::Deadline { gameweek, deadline } => {
-                Ok(Command::Deadline { gameweek, deadline })
-            }
+            Command::Deadline { gameweek, deadline } => Ok(Command::Deadline {
+                gameweek,
+                deadline,
+            }),
             Command::Player {
                 id,
                 ref name,
@@ -80,6 +82,61 @@ impl Command {
             }),
             Command::Drop { fixture, player } => Ok(Command::Drop { fixture, player }),
             Command::Finished { fixture, finished } => Ok(Command::Finished { fixture, finished }),
+            Command::Key { ref key, ref name } => Ok(Command::Key {
+                key: key.copy()?,
+                name: name.copy()?,
+            }),
+            Command::Squad {
+                players,
+                captain,
+                vice,
+            } => Ok(Command::Squad {
+                players,
+                captain,
+                vice,
+            }),
+            Command::Transfers { ref swaps } => Ok(Command::Transfers {
+                swaps: swaps.copy()?,
+            }),
+            Command::Lineup {
+                players,
+                captain,
+                vice,
+            } => Ok(Command::Lineup {
+                players,
+                captain,
+                vice,
+            }),
+            Command::Chip { chip } => Ok(Command::Chip { chip }),
+            Command::CancelChip => Ok(Command::CancelChip),
+            Command::League {
+                kind,
+                ref name,
+                ref code,
+                start,
+            } => Ok(Command::League {
+                kind,
+                name: name.copy()?,
+                code: code.copy()?,
+                start,
+            }),
+            Command::Join { league, ref code } => Ok(Command::Join {
+                league,
+                code: code.copy()?,
+            }),
+            Command::Draw { league, ref order } => Ok(Command::Draw {
+                league,
+                order: order.copy()?,
+            }),
+            Command::Cup {
+                start,
+                ref slots,
+                ref coins,
+            } => Ok(Command::Cup {
+                start,
+                slots: slots.copy()?,
+                coins: coins.copy()?,
+            }),
         }
     }
 }

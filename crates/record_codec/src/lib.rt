@@ -9,8 +9,6 @@ mod made;
 mod same;
 
 pub use command::Command;
-pub use lists::{Clubs, Lines, Moments};
+pub use lists::{Clubs, Lines, Moments, Order, Swaps};
 pub use made::Made;
-
-#[cfg(test)]
-mod tests;
+pub use rule_book::{Coins, Slots};

@@ -1,193 +1,26 @@
-// The lists that commands and answers hold. A contract sees each as a list.
-ghost use Rattle.std.specs.Prelude.{◌≡◌, ◌↔◌, ◌++◌, ◌∷◌, [], ℕ, List, IsTrue, IfOk, OnErr, OnOk};
+// The lists that commands hold, and when two of them are the same.
+ghost use Rattle.std.specs.Prelude.{◌≡◌, ◌↔◌, IfOk, IsTrue};
 
-use fpl_base::{ClubId, Memory, Moment, Name, PlayerId};
-use rule_book::Line;
-use std::alloc::Global;
-use std::marker::Model;
+use fpl_base::{ClubId, EntryId, ListOf, Memory, Moment, Name, PlayerId};
+use rule_book::{Line, Swap};
 
 /// Moments, as the deadlines of a season.
-#[derive(Drop)]
-pub struct Moments {
-    items: Vec<Moment>,
-}
-
-impl Model for Moments {
-    ghost Value = { List ℕ };
-
-    ghost view = { λ m. m.items.items };
-}
-
-impl Moments {
-    /// No moments. It takes no memory.
-    pub fn new(alloc: Global) -> Self
-        ensures { result ≡ [] }
-    {
-        Moments {
-            items: Vec::new(alloc),
-        }
-    }
-
-    /// The list with this moment at its end; unchanged after want of memory.
-    pub fn push(&mut self, item: Moment) -> Result<(), Memory>
-        ensures ok { OnOk result (self.new ≡ self.old ++ item ∷ []) }
-        ensures err { OnErr result (self.new ≡ self.old) }
-    {
-        self.items.push(item)?;
-        Ok(())
-    }
-
-    /// The moments themselves.
-    pub fn as_slice(&self) -> &[Moment]
-        ensures { result.now ≡ self.now }
-    {
-        self.items.as_slice()
-    }
-
-    /// Whether the same moments stand in both lists.
-    pub fn is_same(&self, other: &Self) -> bool
-        ensures { IsTrue result ↔ (self.now ≡ other.now) }
-    {
-        are_same_moments(self.as_slice(), other.as_slice())
-    }
-
-    /// Another list of the same moments.
-    pub fn copy(&self) -> Result<Self, Memory>
-        ensures { IfOk result (λ copy. copy ≡ self.now) }
-    {
-        let alloc = *self.items.allocator();
-        let items = Vec::from_slice(alloc, self.items.as_slice())?;
-        Ok(Moments { items })
-    }
-}
-
-/// Players with their lines in a fixture.
-#[derive(Drop)]
-pub struct Lines {
-    items: Vec<(PlayerId, Line)>,
-}
-
-impl Model for Lines {
-    ghost use Rattle.std.specs.Prelude.{List, ℕ};
-    ghost use Rattle.rule_book.specs.declared.line.Line.{Line};
-
-    ghost Value = { List (ℕ × Line) };
-
-    ghost view = { λ l. l.items.items };
-}
-
-impl Lines {
-    /// No lines. It takes no memory.
-    pub fn new(alloc: Global) -> Self
-        ensures { result ≡ [] }
-    {
-        Lines {
-            items: Vec::new(alloc),
-        }
-    }
-
-    /// No lines, with room for so many.
-    pub fn with_room(alloc: Global, room: usize) -> Result<Self, Memory>
-        ensures { IfOk result (λ lines. lines ≡ []) }
-    {
-        Ok(Lines {
-            items: Vec::with_capacity(alloc, room)?,
-        })
-    }
-
-    /// The list with this line at its end; unchanged after want of memory.
-    pub fn push(&mut self, item: (PlayerId, Line)) -> Result<(), Memory>
-        ensures ok { OnOk result (self.new ≡ self.old ++ item ∷ []) }
-        ensures err { OnErr result (self.new ≡ self.old) }
-    {
-        self.items.push(item)?;
-        Ok(())
-    }
-
-    /// The lines themselves.
-    pub fn as_slice(&self) -> &[(PlayerId, Line)]
-        ensures { result.now ≡ self.now }
-    {
-        self.items.as_slice()
-    }
-
-    /// Whether the same lines stand in both lists.
-    pub fn is_same(&self, other: &Self) -> bool
-        ensures { IsTrue result ↔ (self.now ≡ other.now) }
-    {
-        are_same_lines(self.as_slice(), other.as_slice())
-    }
-
-    /// Another list of the same lines.
-    pub fn copy(&self) -> Result<Self, Memory>
-        ensures { IfOk result (λ copy. copy ≡ self.now) }
-    {
-        let alloc = *self.items.allocator();
-        let items = Vec::from_slice(alloc, self.items.as_slice())?;
-        Ok(Lines { items })
-    }
-}
+pub type Moments = ListOf<Moment>;
 
 /// Clubs with their names.
-#[derive(Drop)]
-pub struct Clubs {
-    items: Vec<(ClubId, Name)>,
-}
+pub type Clubs = ListOf<(ClubId, Name)>;
 
-impl Model for Clubs {
-    ghost Value = { List (ℕ × List ℕ) };
+/// Players with their lines in a fixture.
+pub type Lines = ListOf<(PlayerId, Line)>;
 
-    ghost view = { λ c. c.items.items };
-}
+/// Transfers that are asked for, in their order.
+pub type Swaps = ListOf<Swap>;
 
-impl Clubs {
-    /// No clubs. It takes no memory.
-    pub fn new(alloc: Global) -> Self
-        ensures { result ≡ [] }
-    {
-        Clubs {
-            items: Vec::new(alloc),
-        }
-    }
-
-    /// The list with this club at its end; unchanged after want of memory.
-    pub fn push(&mut self, item: (ClubId, Name)) -> Result<(), Memory>
-        ensures ok { OnOk result (self.new ≡ self.old ++ item ∷ []) }
-        ensures err { OnErr result (self.new ≡ self.old) }
-    {
-        self.items.push(item)?;
-        Ok(())
-    }
-
-    /// The clubs themselves.
-    pub fn as_slice(&self) -> &[(ClubId, Name)]
-        ensures { result.now ≡ self.now }
-    {
-        self.items.as_slice()
-    }
-
-    /// Whether the same clubs stand in both lists, with the same names.
-    pub fn is_same(&self, other: &Self) -> bool
-        ensures { IsTrue result ↔ (self.now ≡ other.now) }
-    {
-        are_same_clubs(self.as_slice(), other.as_slice())
-    }
-
-    /// Another list of the same clubs.
-    pub fn copy(&self) -> Result<Self, Memory>
-        ensures { IfOk result (λ copy. copy ≡ self.now) }
-    {
-        let alloc = *self.items.allocator();
-        let mut copy = Clubs::new(alloc);
-        'clubs: for (club, name) in &self.items {
-            copy.push((*club, name.copy()?))?;
-        }
-        Ok(copy)
-    }
-}
+/// Entries by their places in a draw.
+pub type Order = ListOf<EntryId>;
 
 // Whether the same moments stand in both lists.
-fn are_same_moments(moments: &[Moment], others: &[Moment]) -> bool
+pub fn are_same_moments(moments: &[Moment], others: &[Moment]) -> bool
     ensures { IsTrue result ↔ (moments.now ≡ others.now) }
 {
     if moments.len() != others.len() {
@@ -202,7 +35,7 @@ fn are_same_moments(moments: &[Moment], others: &[Moment]) -> bool
 }
 
 // Whether the same lines stand in both lists.
-fn are_same_lines(lines: &[(PlayerId, Line)], others: &[(PlayerId, Line)]) -> bool
+pub fn are_same_lines(lines: &[(PlayerId, Line)], others: &[(PlayerId, Line)]) -> bool
     ensures { IsTrue result ↔ (lines.now ≡ others.now) }
 {
     if lines.len() != others.len() {
@@ -222,8 +55,8 @@ fn is_same_row(line: &(PlayerId, Line), other: &(PlayerId, Line)) -> bool
     line.0 == other.0 && line.1 == other.1
 }
 
-// Whether the same clubs stand in both lists, with the same names.
-fn are_same_clubs(clubs: &[(ClubId, Name)], others: &[(ClubId, Name)]) -> bool
+// Whether the same clubs stand in both lists.
+pub fn are_same_clubs(clubs: &[(ClubId, Name)], others: &[(ClubId, Name)]) -> bool
     ensures { IsTrue result ↔ (clubs.now ≡ others.now) }
 {
     if clubs.len() != others.len() {
@@ -241,4 +74,60 @@ fn is_same_club(club: &(ClubId, Name), other: &(ClubId, Name)) -> bool
     ensures { IsTrue result ↔ (club.now ≡ other.now) }
 {
     club.0 == other.0 && club.1.bytes() == other.1.bytes()
+}
+
+// Whether the same transfers stand in both lists.
+pub fn are_same_swaps(swaps: &[Swap], others: &[Swap]) -> bool
+    ensures { IsTrue result ↔ (swaps.now ≡ others.now) }
+{
+    if swaps.len() != others.len() {
+        return false;
+    }
+    'swaps: for (place, swap) in swaps.iter().enumerate() {
+        if *swap != others[place] {
+            return false;
+        }
+    }
+    true
+}
+
+// Whether the same entries stand in both lists.
+pub fn are_same_entries(entries: &[EntryId], others: &[EntryId]) -> bool
+    ensures { IsTrue result ↔ (entries.now ≡ others.now) }
+{
+    if entries.len() != others.len() {
+        return false;
+    }
+    'entries: for (place, entry) in entries.iter().enumerate() {
+        if *entry != others[place] {
+            return false;
+        }
+    }
+    true
+}
+
+// Whether the same players stand in both lists.
+pub fn are_same_players(players: &[PlayerId], others: &[PlayerId]) -> bool
+    ensures { IsTrue result ↔ (players.now ≡ others.now) }
+{
+    if players.len() != others.len() {
+        return false;
+    }
+    'players: for (place, player) in players.iter().enumerate() {
+        if *player != others[place] {
+            return false;
+        }
+    }
+    true
+}
+
+// The same clubs, with copies of their names.
+pub fn copy_of_clubs(clubs: &Clubs) -> Result<Clubs, Memory>
+    ensures { IfOk result (λ copy. copy ≡ clubs.now) }
+{
+    let mut copy = Clubs::new(clubs.allocator());
+    'clubs: for (club, name) in clubs.as_slice() {
+        copy.push((*club, name.copy()?))?;
+    }
+    Ok(copy)
 }

@@ -1,9 +1,13 @@
 // Whether two commands are the same.
 ghost use Rattle.std.specs.Prelude.{◌≡◌, ◌↔◌, IsTrue};
 
-use crate::{Clubs, Command, Lines, Moments};
-use fpl_base::{ClubId, FixtureId, Gw, Moment, Name, PlayerId, Position};
-use rule_book::Line;
+use crate::lists::{
+    are_same_clubs, are_same_entries, are_same_lines, are_same_moments, are_same_players,
+    are_same_swaps,
+};
+use crate::{Clubs, Coins, Command, Lines, Moments, Order, Slots, Swaps};
+use fpl_base::{Chip, ClubId, Code, FixtureId, Gw, Key, Moment, Name, PlayerId, Position};
+use rule_book::{LeagueKind, Line};
 
 impl Command {
     /// Whether this is the same command, with the same ids and members.
@@ -51,6 +55,33 @@ impl Command {
             } => is_line(other, *fixture, *player, line),
             Command::Drop { fixture, player } => is_drop(other, *fixture, *player),
             Command::Finished { fixture, finished } => is_finished(other, *fixture, *finished),
+            Command::Key { key, name } => is_key(other, key, name),
+            Command::Squad {
+                players,
+                captain,
+                vice,
+            } => is_squad(other, players, *captain, *vice),
+            Command::Transfers { swaps } => is_transfers(other, swaps),
+            Command::Lineup {
+                players,
+                captain,
+                vice,
+            } => is_lineup(other, players, *captain, *vice),
+            Command::Chip { chip } => is_chip(other, *chip),
+            Command::CancelChip => is_cancel_chip(other),
+            Command::League {
+                kind,
+                name,
+                code,
+                start,
+            } => is_league(other, *kind, name, code, *start),
+            Command::Join { league, code } => is_join(other, *league, code),
+            Command::Draw { league, order } => is_draw(other, *league, order),
+            Command::Cup {
+                start,
+                slots,
+                coins,
+            } => is_cup(other, *start, slots, coins),
         }
     }
 }
@@ -63,11 +94,9 @@ fn is_season(command: &Command, deadlines: &Moments, split: u8, clubs: &Clubs) -
             deadlines: other_deadlines,
             split: other_split,
             clubs: other_clubs,
-        } => {
-            deadlines.is_same(other_deadlines)
-                && split == *other_split
-                && clubs.is_same(other_clubs)
-        }
+        } => are_same_moments(deadlines.as_slice(), other_deadlines.as_slice())
+            && split == *other_split
+            && are_same_clubs(clubs.as_slice(), other_clubs.as_slice()),
         _ => false,
     }
 }
@@ -101,13 +130,11 @@ fn is_player(
             position: other_position,
             club: other_club,
             price: other_price,
-        } => {
-            id == *other_id
-                && name.bytes() == other_name.bytes()
-                && position == *other_position
-                && club == *other_club
-                && price == *other_price
-        }
+        } => id == *other_id
+            && name.bytes() == other_name.bytes()
+            && position == *other_position
+            && club == *other_club
+            && price == *other_price,
         _ => false,
     }
 }
@@ -165,13 +192,11 @@ fn is_fixture(
             away: other_away,
             gameweek: other_gameweek,
             kickoff: other_kickoff,
-        } => {
-            id == *other_id
-                && home == *other_home
-                && away == *other_away
-                && gameweek == *other_gameweek
-                && kickoff == *other_kickoff
-        }
+        } => id == *other_id
+            && home == *other_home
+            && away == *other_away
+            && gameweek == *other_gameweek
+            && kickoff == *other_kickoff,
         _ => false,
     }
 }
@@ -184,9 +209,7 @@ fn is_move(command: &Command, fixture: u32, gameweek: Option<Gw>, kickoff: Momen
             fixture: other_fixture,
             gameweek: other_gameweek,
             kickoff: other_kickoff,
-        } => {
-            fixture == *other_fixture && gameweek == *other_gameweek && kickoff == *other_kickoff
-        }
+        } => fixture == *other_fixture && gameweek == *other_gameweek && kickoff == *other_kickoff,
         _ => false,
     }
 }
@@ -199,9 +222,9 @@ fn is_sheet(command: &Command, fixture: u32, lines: &Lines, finished: bool) -> b
             fixture: other_fixture,
             lines: other_lines,
             finished: other_finished,
-        } => {
-            fixture == *other_fixture && lines.is_same(other_lines) && finished == *other_finished
-        }
+        } => fixture == *other_fixture
+            && are_same_lines(lines.as_slice(), other_lines.as_slice())
+            && finished == *other_finished,
         _ => false,
     }
 }
@@ -239,6 +262,134 @@ fn is_finished(command: &Command, fixture: u32, finished: bool) -> bool
             fixture: other_fixture,
             finished: other_finished,
         } => fixture == *other_fixture && finished == *other_finished,
+        _ => false,
+    }
+}
+
+fn is_key(command: &Command, key: &Key, name: &Name) -> bool
+    ensures { IsTrue result ↔ (command.now ≡ Command.Key key.now name.now) }
+{
+    match command {
+        Command::Key {
+            key: other_key,
+            name: other_name,
+        } => key.bytes() == other_key.bytes() && name.bytes() == other_name.bytes(),
+        _ => false,
+    }
+}
+
+fn is_squad(command: &Command, players: &[PlayerId; 15], captain: PlayerId, vice: PlayerId) -> bool
+    ensures { IsTrue result ↔ (command.now ≡ Command.Squad players.now captain vice) }
+{
+    match command {
+        Command::Squad {
+            players: other_players,
+            captain: other_captain,
+            vice: other_vice,
+        } => are_same_players(players, other_players)
+            && captain == *other_captain
+            && vice == *other_vice,
+        _ => false,
+    }
+}
+
+fn is_transfers(command: &Command, swaps: &Swaps) -> bool
+    ensures { IsTrue result ↔ (command.now ≡ Command.Transfers swaps.now) }
+{
+    match command {
+        Command::Transfers { swaps: other_swaps } => are_same_swaps(
+            swaps.as_slice(),
+            other_swaps.as_slice(),
+        ),
+        _ => false,
+    }
+}
+
+fn is_lineup(command: &Command, players: &[PlayerId; 15], captain: PlayerId, vice: PlayerId) -> bool
+    ensures { IsTrue result ↔ (command.now ≡ Command.Lineup players.now captain vice) }
+{
+    match command {
+        Command::Lineup {
+            players: other_players,
+            captain: other_captain,
+            vice: other_vice,
+        } => are_same_players(players, other_players)
+            && captain == *other_captain
+            && vice == *other_vice,
+        _ => false,
+    }
+}
+
+fn is_chip(command: &Command, chip: Chip) -> bool
+    ensures { IsTrue result ↔ (command.now ≡ Command.Chip chip) }
+{
+    match command {
+        Command::Chip { chip: other_chip } => chip == *other_chip,
+        _ => false,
+    }
+}
+
+fn is_cancel_chip(command: &Command) -> bool
+    ensures { IsTrue result ↔ (command.now ≡ Command.CancelChip) }
+{
+    match command {
+        Command::CancelChip => true,
+        _ => false
+    }
+}
+
+fn is_league(command: &Command, kind: LeagueKind, name: &Name, code: &Code, start: Gw) -> bool
+    ensures { IsTrue result ↔ (command.now ≡ Command.League kind name.now code.now start) }
+{
+    match command {
+        Command::League {
+            kind: other_kind,
+            name: other_name,
+            code: other_code,
+            start: other_start,
+        } => kind == *other_kind
+            && name.bytes() == other_name.bytes()
+            && code.bytes() == other_code.bytes()
+            && start == *other_start,
+        _ => false,
+    }
+}
+
+fn is_join(command: &Command, league: u32, code: &Code) -> bool
+    ensures { IsTrue result ↔ (command.now ≡ Command.Join league code.now) }
+{
+    match command {
+        Command::Join {
+            league: other_league,
+            code: other_code,
+        } => league == *other_league && code.bytes() == other_code.bytes(),
+        _ => false,
+    }
+}
+
+fn is_draw(command: &Command, league: u32, order: &Order) -> bool
+    ensures { IsTrue result ↔ (command.now ≡ Command.Draw league order.now) }
+{
+    match command {
+        Command::Draw {
+            league: other_league,
+            order: other_order,
+        } => league == *other_league && are_same_entries(order.as_slice(), other_order.as_slice()),
+        _ => false,
+    }
+}
+
+fn is_cup(command: &Command, start: Gw, slots: &Slots, coins: &Coins) -> bool
+    ensures { IsTrue result ↔ (command.now ≡ Command.Cup start slots.now coins.now) }
+{
+    match command {
+        Command::Cup {
+            start: other_start,
+            slots: other_slots,
+            coins: other_coins,
+        } => start == *other_start
+            && slots.as_slice() == other_slots.as_slice()
+            && coins.as_slice() == other_coins.as_slice(),
         _ => false,
     }
 }
