@@ -1,12 +1,14 @@
 // What is outside of the program: each by what it tells, if it tells it, and by a count of its faults.
-ghost use Rattle.std.specs.Prelude.{◌≡◌, ◌<◌, ℕ, List, Option, length, IfSome, IfOk, OnOk, OnErr};
+ghost use Rattle.std.specs.Prelude.{◌≡◌, ◌<◌, ◌⊎◌, ℕ, List, Option, length, IfSome, IfOk, OnOk, OnErr, Err};
 ghost use Rattle.std.specs.Io.{ReadsAtMost};
 ghost use Rattle.std.specs.Io.KnownBytes.{Appends, ReadConsumes};
 ghost use Rattle.fpl_base.specs.Causes.{HasCause, AppendsFront};
 ghost use Rattle.fpl_base.specs.Doors.{Ended, Opens, GivesBack};
+ghost use Rattle.fpl_base.specs.Keeping.{Map, applied, map_of, KeysRise, HasKeeperCause};
 ghost use Rattle.fpl_base.specs.Moments.{Moments, Tells};
 
-use crate::Moment;
+use crate::{Bytes, Memory, Moment, Op, RecordKey};
+use std::alloc::Global;
 
 /// A call to the outside failed.
 #[derive(Clone, Copy, Debug, PartialEq, Eq)]
@@ -53,10 +55,68 @@ pub trait Clock {
         ensures told { Tells (left self.old) result (left self.new) };
 }
 
-/// What keeps the records.
+/// Why a keeper gave no answer.
+#[derive(Clone, Copy, Debug, PartialEq, Eq)]
+pub enum KeeperFault {
+    /// It failed, which its count of faults shows. What it keeps may be the old records or the new ones.
+    Failed,
+    /// Memory ran out. It keeps the old records.
+    Memory,
+}
+
+impl From<Memory> for KeeperFault {
+    ghost use Rattle.fpl_base.specs.declared.outside.KeeperFault.TheVariants as fault;
+
+    ghost from_gives = { λ _ gives. gives ≡ fault.Memory };
+
+    fn from(_: Memory) -> Self {
+        KeeperFault::Memory
+    }
+}
+
+/// What keeps the records, through any stop of the program.
 pub trait Keeper {
+    ghost use Rattle.fpl_base.specs.declared.outside.KeeperFault.TheVariants as fault;
+
+    /// So far what it says of itself is true. That may cease at any call, as when a disk does not return what was
+    /// written, and no answer shows it.
+    ghost tells: { Self → Type 0 };
+
+    /// It can still answer `Ok`. That too may cease at any call.
+    ghost serves: { Self → Type 0 };
+
+    /// It holds this map. One that holds none does not tell what it keeps.
+    ghost holds: { Self → Map → Type 0 };
+
+    /// A stop at this moment may leave this map.
+    ghost passes: { Self → Map → Type 0 };
+
     /// How often it failed, up to the last value of a `u64`.
     ghost faults: { Self → ℕ };
+
+    /// It holds one map at most.
+    ghost one_map: { (k : Self) (m n : Map) → holds k m → holds k n → m ≡ n };
+
+    /// All records, in the order of their keys. It takes memory.
+    fn load(&mut self, alloc: Global) -> Result<Vec<(RecordKey, Bytes)>, KeeperFault>
+        ensures rise { IfOk result (λ pairs. KeysRise pairs.items) }
+        ensures gave { IfOk result (λ pairs. tells self.new → (m : Map) → holds self.old m → m ≡ map_of pairs.items) }
+        ensures alone { OnOk result (tells self.new → (m : Map) → holds self.old m → (x : Map) → passes self.new x → x ≡ m) }
+        ensures done { OnOk result (tells self.new → (m : Map) → holds self.old m → holds self.new m) }
+        ensures kept { OnErr result (tells self.new → serves self.new → (m : Map) → holds self.old m → holds self.new m) }
+        ensures stops { tells self.new → (m : Map) → holds self.old m → (x : Map) → passes self.new x → passes self.old x }
+        ensures told { tells self.new → tells self.old }
+        ensures cause { HasKeeperCause (faults self.old) (faults self.new) result };
+
+    /// Applies all changes, in their order, or none. It takes memory.
+    fn commit(&mut self, alloc: Global, ops: &[Op]) -> Result<(), KeeperFault>
+        ensures done { OnOk result (tells self.new → (m : Map) → holds self.old m → holds self.new (applied m ops.now)) }
+        ensures alone { OnOk result (tells self.new → (m : Map) → holds self.old m → (x : Map) → passes self.new x → x ≡ applied m ops.now) }
+        ensures failed { OnErr result (tells self.new → serves self.new → (m : Map) → holds self.old m → holds self.new m ⊎ holds self.new (applied m ops.now)) }
+        ensures kept { result ≡ Err fault.Memory → tells self.new → serves self.new → (m : Map) → holds self.old m → holds self.new m }
+        ensures stops { tells self.new → (m : Map) → holds self.old m → (x : Map) → passes self.new x → passes self.old x ⊎ (x ≡ applied m ops.now) }
+        ensures told { tells self.new → tells self.old }
+        ensures cause { HasKeeperCause (faults self.old) (faults self.new) result };
 }
 
 /// What takes connections.
