@@ -1,3 +1,5 @@
 pub mod Examples
 pub mod RankLemmas
 pub mod TableLemmas
+pub mod TeamFacts
+pub mod UpToFacts

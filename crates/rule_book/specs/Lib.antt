@@ -8,6 +8,7 @@ pub mod ClassicTable
 pub mod CupLaws
 pub mod Cups
 pub mod Elevens
+pub mod Entries
 pub mod EntryRecords
 pub mod Figures
 pub mod FreeTransfers
@@ -32,5 +33,8 @@ pub mod Refusals
 pub mod Repeats
 pub mod Scoring
 pub mod Squads
+pub mod TeamOfHistory
 pub mod TeamScores
 pub mod Teams
+pub mod UpTo
+pub mod UpToLaws
