@@ -11,6 +11,7 @@ pub mod Elevens
 pub mod Entries
 pub mod EntryRecords
 pub mod Figures
+pub mod FinalSlots
 pub mod FreeTransfers
 pub mod HeadToHead
 pub mod History
@@ -31,6 +32,7 @@ pub mod Prices
 pub mod Ranks
 pub mod Refusals
 pub mod Repeats
+pub mod ScoreOfTeam
 pub mod Scoring
 pub mod Squads
 pub mod TeamOfHistory
