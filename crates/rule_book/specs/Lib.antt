@@ -10,6 +10,7 @@ pub mod Cups
 pub mod Elevens
 pub mod Entries
 pub mod EntryRecords
+pub mod EntryScores
 pub mod Figures
 pub mod FinalSlots
 pub mod FreeTransfers
@@ -19,10 +20,12 @@ pub mod HistoryRules
 pub mod HistorySquad
 pub mod HistoryTeam
 pub mod HistoryTransfers
+pub mod LeagueRows
 pub mod Leagues
 pub mod Lineups
 pub mod MatchCalls
 pub mod MatchFacts
+pub mod Opponents
 pub mod Pairings
 pub mod PlayerFigures
 pub mod Players
@@ -32,11 +35,14 @@ pub mod Prices
 pub mod Ranks
 pub mod Refusals
 pub mod Repeats
+pub mod RowsInOrder
 pub mod ScoreOfTeam
 pub mod Scoring
 pub mod Squads
+pub mod Tables
 pub mod TeamOfHistory
 pub mod TeamScores
 pub mod Teams
+pub mod Totals
 pub mod UpTo
 pub mod UpToLaws

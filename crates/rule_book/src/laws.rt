@@ -2,6 +2,7 @@
 ghost use Rattle.std.specs.Prelude.{ℕ, List};
 ghost use Rattle.fpl_base.specs.declared.kinds.Position.{Position};
 ghost use Rattle.rule_book.specs.History.{Event};
+ghost use Rattle.rule_book.specs.Tables.{ClassicTableIsTheOne, HeadTableIsTheOne};
 ghost use Rattle.rule_book.specs.TeamOfHistory.{FirstIsTheStart, FreeIsTold, TeamIsTheOne, TeamIsTold};
 ghost use Rattle.rule_book.specs.UpTo.{AgreeUpTo};
 ghost use Rattle.rule_book.specs.UpToLaws.{LaterEventsAgree, OpenDeedsAgree, UpToTellsAll, UpToTellsTheFirst};
@@ -36,4 +37,10 @@ pub fn later_events_agree()
 /// A law: deeds of a later gameweek change nothing of what was.
 pub fn open_deeds_agree()
     ensures { OpenDeedsAgree }
+{}
+
+/// A law: of rows whose entries differ, the table of a league is `classic_table_of` or `head_table_of`, and no other.
+pub fn tables_are_the_one()
+    ensures classic { ClassicTableIsTheOne }
+    ensures head { HeadTableIsTheOne }
 {}
