@@ -4,6 +4,7 @@
 #![tactic(auto)]
 
 mod cup;
+mod laws;
 mod league;
 mod line;
 mod pairing;
@@ -16,6 +17,10 @@ mod team_score;
 mod transfers;
 
 pub use cup::{Bracket, Coins, Side, Slots};
+pub use laws::{
+    later_events_agree, open_deeds_agree, team_is_the_one, told_values, up_to_tells_all,
+    up_to_tells_the_first,
+};
 pub use league::LeagueKind;
 pub use line::{Appearance, Line};
 pub use pairing::Opponent;

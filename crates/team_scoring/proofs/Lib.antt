@@ -4,3 +4,5 @@ pub mod Steps
 pub mod Standers
 pub mod Legal
 pub mod Enough
+pub mod SlotFacts
+pub mod ScoreFacts

@@ -1,0 +1,46 @@
+// What follows from the definitions alone.
+ghost use Rattle.std.specs.Prelude.{ℕ, List};
+ghost use Rattle.fpl_base.specs.declared.kinds.Position.{Position};
+ghost use Rattle.rule_book.specs.History.{Event};
+ghost use Rattle.rule_book.specs.Tables.{ClassicTableIsTheOne, HeadTableIsTheOne};
+ghost use Rattle.rule_book.specs.TeamOfHistory.{FirstIsTheStart, FreeIsTold, TeamIsTheOne, TeamIsTold};
+ghost use Rattle.rule_book.specs.UpTo.{AgreeUpTo};
+ghost use Rattle.rule_book.specs.UpToLaws.{LaterEventsAgree, OpenDeedsAgree, UpToTellsAll, UpToTellsTheFirst};
+
+/// A law: a team is that of a history in a gameweek exactly where what counts there can be paid, and it is `team_of`.
+pub fn team_is_the_one()
+    ensures { TeamIsTheOne }
+{}
+
+/// A law: what a history says of a team, of its first gameweek and of its free transfers are values.
+pub fn told_values()
+    ensures team { (position : ℕ → Position) (h : List Event) (g : ℕ) → TeamIsTold position h g }
+    ensures first { FirstIsTheStart }
+    ensures free { FreeIsTold }
+{}
+
+/// A law: what a history tells of a gameweek hangs on its events of gameweeks up to that one, and on its start.
+pub fn up_to_tells_all()
+    ensures { (k : ℕ) (h h2 : List Event) → AgreeUpTo k h h2 → UpToTellsAll k h h2 }
+{}
+
+/// A law: where a history in order has begun, its start is told too.
+pub fn up_to_tells_the_first()
+    ensures { UpToTellsTheFirst }
+{}
+
+/// A law: later events change nothing of what was.
+pub fn later_events_agree()
+    ensures { (k : ℕ) (h more : List Event) → LaterEventsAgree k h more }
+{}
+
+/// A law: deeds of a later gameweek change nothing of what was.
+pub fn open_deeds_agree()
+    ensures { OpenDeedsAgree }
+{}
+
+/// A law: of rows whose entries differ, the table of a league is `classic_table_of` or `head_table_of`, and no other.
+pub fn tables_are_the_one()
+    ensures classic { ClassicTableIsTheOne }
+    ensures head { HeadTableIsTheOne }
+{}
