@@ -40,7 +40,7 @@ at_least g t = grind (arith, nat_tests)
 at_most : (g n : ℕ) → nat_le g n ≡ true → g ≤ 0 + n
 at_most g n t = grind (arith, nat_tests)
 
-module _ (b d : SeasonFacts) (p : ℕ) (c : DifferInPlayer b d p) where
+module _ (b d : SeasonFacts) (is_b : IsSeason b) (p : ℕ) (c : DifferInPlayer b d p) where
   abbrev nodes : List Node
   nodes = player_nodes p 0 d.calendar.locked
 
@@ -54,7 +54,7 @@ module _ (b d : SeasonFacts) (p : ℕ) (c : DifferInPlayer b d p) where
   fixtures_same q g = λ i. filter (λ f. is_some (line_of (c.matches i) f q)) (standing (c.calendar i) g)
 
   dead : (f q : ℕ) → q ≡ p → is_live d (node.Line f q) ≡ true → ⊥
-  dead f q i l = clash (sym l ∙ ap (λ x. has_line d x f) i ∙ c.idle f)
+  dead f q i l = clash (sym (is_b.there f p (line_same p f ∙ sym (ap (λ x. has_line d x f) i) ∙ l)) ∙ c.absent)
 
   pub coming_listed : (n : Node) → IsKept b d n ⊎ Among nodes n
   coming_listed (node.Line f q) = inl (line_same q f, λ l. (ap (λ m. line_of m f q) c.matches, c.profile, ⊎_elim (λ i. absurd (dead f q i l)) (position_same q) (same_or_not q p)))
@@ -73,7 +73,7 @@ module _ (b d : SeasonFacts) (p : ℕ) (c : DifferInPlayer b d p) where
       (l, λ k. clash (sym l ∙ sym k.0 ∙ subst (λ z. is_live b z ≡ false) r.1.1 (and_false (is_some (player_of b.players p)) (nat_le 1 r.0 && nat_le r.0 b.calendar.locked) c.absent)))
 
   -- the cells follow
-  module _ (is_b : IsSeason b) (is_d : IsSeason d) (s t : State Node Value) (r : Refreshed (is_live d) (Among nodes) s t) where
+  module _ (is_d : IsSeason d) (s t : State Node Value) (r : Refreshed (is_live d) (Among nodes) s t) where
     pub coming_follows : Follows b d s t
     coming_follows sound = change_sound b d is_b is_d nodes coming_listed s t sound r
 

@@ -8,3 +8,4 @@ pub mod LockFacts
 pub mod ToldFacts
 pub mod SheetFacts
 pub mod ComingFacts
+pub mod WholeFacts

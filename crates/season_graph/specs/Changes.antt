@@ -70,7 +70,6 @@ module _ (b d : SeasonFacts) where
     pub matches : b.matches ≡ d.matches
     pub absent : is_some (player_of b.players p) ≡ false
     pub others : (q : ℕ) → q ≢ p → player_of b.players q ≡ player_of d.players q
-    pub idle : (f : ℕ) → has_line d p f ≡ false
 
   -- more gameweeks are locked than the first ones
   pub record DifferInLocks (first : ℕ) : Type 0 where

@@ -7,15 +7,17 @@ use Rattle.rule_book.specs.MatchFacts.{is_finished, line_of}
 use Rattle.rescore_graph.specs.declared.cells.Slot.{Slot}
 use Rattle.rescore_graph.specs.Graph.{Among}
 use Rattle.rescore_graph.specs.States.{State, look, values_in}
+use Rattle.rescore_graph.specs.Settling.{Remains, Settles, Sound}
 use Rattle.season_graph.specs.declared.books.Books.{Books}
 use Rattle.season_graph.specs.declared.nodes.Node.{Node}
 use Rattle.season_graph.specs.declared.nodes.Node.TheVariants as node
 use Rattle.season_graph.specs.declared.nodes.Value.{Value}
 use Rattle.season_graph.specs.BookFacts.{facts_of}
 use Rattle.season_graph.specs.Changes.{DifferInLine, DifferInLocks, DifferInMark, DifferInPlace, DifferInPlayer, DifferInSheet, Follows, MarksTouched}
+use Rattle.season_graph.specs.Evaluated.{IsEvaluated}
 use Rattle.season_graph.specs.NodeOrder.{node_cmp}
 use Rattle.season_graph.specs.Refreshed.{Refreshed}
-use Rattle.season_graph.specs.Season.{SeasonFacts, IsSeason, is_live}
+use Rattle.season_graph.specs.Season.{SeasonFacts, IsSeason, is_live, season_graph}
 use Rattle.season_graph.specs.Touched.{gameweek_beside, line_nodes, lines_nodes, locked_nodes, moved_nodes, player_nodes, sheet_nodes}
 
 -- the cells of a season, as contracts see them
@@ -33,6 +35,21 @@ held_values cells = values_in (held cells)
 -- whether a player's line in a fixture has a cell
 abbrev pub had_line : SeasonRows → ℕ → ℕ → Bool
 had_line cells f p = is_some (held cells (node.Line f p))
+
+-- they are those of some facts, and evaluated
+abbrev pub AreEvaluated : SeasonFacts → SeasonRows → Type 0
+AreEvaluated facts cells = IsEvaluated facts (held cells)
+
+-- they can be settled
+abbrev pub AreSound : SeasonFacts → SeasonRows → Type 0
+AreSound facts cells = Sound (season_graph facts) (held cells)
+
+-- what settling them did, and what holds after it, also where memory ran out
+abbrev pub HasSettled : SeasonFacts → SeasonRows → SeasonRows → List Node → Type 0
+HasSettled facts old new done = Settles (season_graph facts) (held old) (held new) done
+
+abbrev pub HasRemained : SeasonFacts → SeasonRows → SeasonRows → Type 0
+HasRemained facts old new = Remains (season_graph facts) (held old) (held new)
 
 module _ (b : Books) where
   -- these nodes were brought up to date, and no other cell changed

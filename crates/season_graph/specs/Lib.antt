@@ -1,6 +1,7 @@
 pub mod BookFacts
 pub mod Changes
 pub mod Dependents
+pub mod Evaluated
 pub mod Followed
 pub mod NodeOrder
 pub mod Reading

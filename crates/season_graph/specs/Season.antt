@@ -1,5 +1,5 @@
 -- The season as a graph: the live nodes, the inputs of each, and its own function of their values.
-use Rattle.std.specs.Prelude.{◌≡◌, ℕ, ◌+◌, ◌*◌, ◌≤◌, ℤ, pos, neg_ℤ, ◌+ℤ◌, ◌≤ℤ◌, Bool, true, false, ◌&&◌, ◌||◌, ◌==◌, if◌then◌else◌, nat_le, nat_lt, List, [], ◌∷◌, Option, Some, None, is_some, length, map, filter, fold}
+use Rattle.std.specs.Prelude.{◌≡◌, ℕ, ◌+◌, ◌*◌, ◌<◌, ◌≤◌, ℤ, pos, neg_ℤ, ◌+ℤ◌, ◌≤ℤ◌, Bool, true, false, ◌&&◌, ◌||◌, ◌==◌, if◌then◌else◌, nat_le, nat_lt, List, [], ◌∷◌, Option, Some, None, is_some, length, map, filter, fold}
 use Rattle.std.specs.List.{flat_map}
 use Rattle.std.specs.Option.{option_map_or, unwrap_or}
 use Rattle.fpl_base.specs.declared.kinds.Position.{Position}
@@ -171,13 +171,15 @@ season_graph b = record {
   own = own_value b;
 }
 
--- no player has two lines
-abbrev pub Distinct : Lines → Type 0
-Distinct [] = Unit {0}
-Distinct (row ∷ lines) = (¬ Among (players_in lines) row.0) × Distinct lines
+-- lines stand by ascending player
+abbrev pub Ascending : Lines → Type 0
+Ascending [] = Unit {0}
+Ascending (row ∷ lines) = ((p : ℕ) → Among (players_in lines) p → row.0 < p) × Ascending lines
 
--- the facts are those of a season: a lawful calendar, and in each fixture lines of different players, each in its ranges
+-- the facts are those of a season: a lawful calendar; in each fixture lines by ascending player, each in its ranges, and
+-- each of a player who is there
 pub record IsSeason (b : SeasonFacts) : Type 0 where
   pub calendar : IsCalendar b.calendar
-  pub distinct : (f : ℕ) → Distinct (lines_of b.matches f)
-  pub lines : (f p : ℕ) (line : Line) → line_of b.matches f p ≡ Some line → IsLine line
+  pub ascending : (f : ℕ) → Ascending (lines_of b.matches f)
+  pub ranges : (f p : ℕ) (line : Line) → line_of b.matches f p ≡ Some line → IsLine line
+  pub there : (f p : ℕ) → has_line b p f ≡ true → is_some (player_of b.players p) ≡ true

@@ -1,6 +1,7 @@
 -- Which nodes a change of the facts touches.
-use Rattle.std.specs.Prelude.{ℕ, zero, suc, ◌+◌, ◌-◌, Bool, true, false, not, if◌then◌else◌, List, [], ◌∷◌, ◌++◌, Option}
+use Rattle.std.specs.Prelude.{ℕ, zero, suc, ◌+◌, ◌-◌, Bool, true, false, not, if◌then◌else◌, List, [], ◌∷◌, ◌++◌, Option, map}
 use Rattle.std.specs.List.{flat_map}
+use Rattle.std.specs.Map.{keys_of}
 use Rattle.std.specs.Option.{option_map_or}
 use Rattle.rule_book.specs.Calendar.{stands_in}
 use Rattle.season_graph.specs.declared.nodes.Node.{Node}
@@ -45,3 +46,15 @@ module _ (b : SeasonFacts) where
   -- the nodes that a fixture touches which stands in another gameweek
   abbrev pub moved_nodes : ℕ → Option ℕ → Option ℕ → List Node
   moved_nodes f from to = flat_map (λ p. gameweek_beside p from ++ gameweek_beside p to) (players_of b f)
+
+  -- the nodes of a fixture: its bonus, and its lines
+  abbrev pub fixture_nodes : ℕ → List Node
+  fixture_nodes f = node.Bonus f ∷ map (node.Line f) (players_of b f)
+
+  -- the nodes of all fixtures that have facts
+  abbrev pub fixtures_nodes : List Node
+  fixtures_nodes = flat_map fixture_nodes (keys_of b.matches)
+
+  -- all nodes that can be live
+  abbrev pub season_nodes : List Node
+  season_nodes = fixtures_nodes ++ locked_nodes 0

@@ -12,6 +12,7 @@ use player_prices::Players;
 use season_calendar::Calendar;
 
 /// The books of a season, lent.
+#[derive(Drop)]
 pub struct Books<'a> {
     /// By which rules lines are scored.
     pub profile: Profile,

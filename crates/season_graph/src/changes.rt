@@ -133,7 +133,7 @@ fn refresh_one(cells: &mut SeasonCells, books: &Books, n: &Node) -> Result<(), M
 }
 
 // Brings the line of a player in a fixture up to date.
-fn refresh_line(
+pub(crate) fn refresh_line(
     cells: &mut SeasonCells,
     books: &Books,
     fixture: FixtureId,
@@ -146,7 +146,7 @@ fn refresh_line(
 }
 
 // Brings the bonus of a fixture up to date.
-fn refresh_bonus(
+pub(crate) fn refresh_bonus(
     cells: &mut SeasonCells,
     books: &Books,
     fixture: FixtureId,

@@ -78,6 +78,7 @@ impl Books<'_> {
 }
 
 /// The rules by which the nodes of a season have values.
+#[derive(Drop)]
 pub struct SeasonRules<'a> {
     pub books: Books<'a>,
 }

@@ -12,7 +12,7 @@ pub returns-clause-nodes : goal.returns-clause-nodes
 returns-clause-nodes c = subst (λ n. Refreshes c.args.books.now (player_nodes c.args.player 0 n) c.args.cells.now c.refresh_gameweeks.new.cells) (less_none c.args.books.now.calendar.now.locked) c.in_ok-refresh_gameweeks.ensures
 
 pub returns-clause-sound : goal.returns-clause-sound
-returns-clause-sound c = λ old is_old is_new differ. coming_follows old (facts_of c.args.books.now) c.args.player differ is_old is_new (held c.args.cells.now) (held c.refresh_gameweeks.new.cells) (returns-clause-nodes c)
+returns-clause-sound c = λ old is_old is_new differ. coming_follows old (facts_of c.args.books.now) is_old c.args.player differ is_new (held c.args.cells.now) (held c.refresh_gameweeks.new.cells) (returns-clause-nodes c)
 
 pub returns-clause-exact : goal.returns-clause-exact
-returns-clause-exact c = λ old is_old is_new differ. coming_marks old (facts_of c.args.books.now) c.args.player differ is_old is_new (held c.args.cells.now) (held c.refresh_gameweeks.new.cells) (returns-clause-nodes c)
+returns-clause-exact c = λ old is_old is_new differ. coming_marks old (facts_of c.args.books.now) is_old c.args.player differ is_new (held c.args.cells.now) (held c.refresh_gameweeks.new.cells) (returns-clause-nodes c)
