@@ -30,6 +30,7 @@ use Rattle.season_graph.specs.Touched.{is_other, gameweek_beside, line_nodes, mo
 use Rattle.season_graph.proofs.DependentFacts.{stands_there, there_stands}
 use Rattle.season_graph.proofs.Lists.{listed_test}
 use Rattle.season_graph.proofs.RefreshedFacts.{refreshed_listed, refreshed_sound, refreshed_exact}
+use Rattle.season_graph.proofs.RisingFacts.{players_same}
 
 clash : true ≡ false → ⊥
 clash e = cc
@@ -180,12 +181,12 @@ pub at_node : (b d : SeasonFacts) (m n : Node) → m ≡ n → is_live d n ≡ t
 at_node b d m n e l other = (l, subst (λ x. ¬ IsKept b d x) e (λ k. other k.1 (subst (λ x. is_live d x ≡ true) (sym e) l)))
 
 -- a line
-module _ (b d : SeasonFacts) (is : IsSeason b) (f p : ℕ) (c : DifferInLine b d f p) where
+module _ (b d : SeasonFacts) (is : IsSeason b) (is_d : IsSeason d) (f p : ℕ) (c : DifferInLine b d f p) where
   line_kept : (k q : ℕ) → (k ≢ f) ⊎ (q ≢ p) → IsKept b d (node.Line k q)
   line_kept k q o = (ap is_some (c.others k q o), λ l. (c.others k q o, c.profile, ap (λ ps. position_in ps q) c.players))
 
-  bonus_kept : (k : ℕ) → (k ≢ f) ⊎ (has_line b p f ≡ has_line d p f) → IsKept b d (node.Bonus k)
-  bonus_kept k o = (some_lines b d k (c.listed k o), λ l. (c.listed k o, c.marks k))
+  bonus_kept : (k : ℕ) → ((q : ℕ) → has_line b q k ≡ has_line d q k) → IsKept b d (node.Bonus k)
+  bonus_kept k e = let same = players_same b d is is_d k e in (some_lines b d k same, λ l. (same, c.marks k))
 
   gameweek_kept : (q g : ℕ) → ((k : ℕ) → Among (standing b.calendar g) k → has_line b q k ≡ has_line d q k) → IsKept b d (node.PlayerGw q g)
   gameweek_kept q g e = (
@@ -198,8 +199,8 @@ module _ (b d : SeasonFacts) (is : IsSeason b) (f p : ℕ) (c : DifferInLine b d
   pub line_listed : (n : Node) → IsKept b d n ⊎ Among (line_nodes d f p (has_line b p f)) n
   line_listed (node.Line k q) = ⊎_elim (λ i. inr (inl (ap₂ node.Line (sym i.0) (sym i.1)))) (λ o. inl (line_kept k q o)) (both_or_other k q f p)
   line_listed (node.Bonus k) = ⊎_elim
-      (λ e. inl (bonus_kept k (inr e)))
-      (λ o. ⊎_elim (λ i. inr (inr (to_rest (is_other (has_line b p f) (has_line d p f)) (node.Bonus f ∷ gameweek_beside p (stands_in d.calendar f)) (node.Bonus k) o (inl (ap node.Bonus (sym i)))))) (λ n. inl (bonus_kept k (inl n))) (same_or_not k f))
+      (λ e. inl (bonus_kept k (same_there e k)))
+      (λ o. ⊎_elim (λ i. inr (inr (to_rest (is_other (has_line b p f) (has_line d p f)) (node.Bonus f ∷ gameweek_beside p (stands_in d.calendar f)) (node.Bonus k) o (inl (ap node.Bonus (sym i)))))) (λ n. inl (bonus_kept k (λ q. ap is_some (c.others k q (inl n))))) (same_or_not k f))
       (bool_case (has_line b p f) (has_line d p f))
   line_listed (node.PlayerGw q g) = ⊎_elim
       (λ e. inl (gameweek_kept q g (λ k a. same_there e k q)))
@@ -236,7 +237,7 @@ module _ (b d : SeasonFacts) (is : IsSeason b) (f p : ℕ) (c : DifferInLine b d
           r.1
 
 -- a mark
-module _ (b d : SeasonFacts) (f : ℕ) (c : DifferInMark b d f) where
+module _ (b d : SeasonFacts) (is_b : IsSeason b) (is_d : IsSeason d) (f : ℕ) (c : DifferInMark b d f) where
   mark_gameweek : (q g : ℕ) → IsKept b d (node.PlayerGw q g)
   mark_gameweek q g = (
     (λ i. is_some (player_of (c.players i) q) && (nat_le 1 g && nat_le g (c.calendar i).locked)),
@@ -244,7 +245,7 @@ module _ (b d : SeasonFacts) (f : ℕ) (c : DifferInMark b d f) where
 
   pub mark_listed : (n : Node) → IsKept b d n ⊎ Among (node.Bonus f ∷ []) n
   mark_listed (node.Line k q) = inl (ap is_some (c.lines k q), λ l. (c.lines k q, c.profile, ap (λ ps. position_in ps q) c.players))
-  mark_listed (node.Bonus k) = ⊎_elim (λ i. inr (inl (ap node.Bonus (sym i)))) (λ n. inl (some_lines b d k (c.listed k), λ l. (c.listed k, c.marks k n))) (same_or_not k f)
+  mark_listed (node.Bonus k) = ⊎_elim (λ i. inr (inl (ap node.Bonus (sym i)))) (λ n. let same = players_same b d is_b is_d k (λ q. ap is_some (c.lines k q)) in inl (some_lines b d k same, λ l. (same, c.marks k n))) (same_or_not k f)
   mark_listed (node.PlayerGw q g) = inl (mark_gameweek q g)
 
   pub mark_touched : is_finished b.matches f ≢ is_finished d.matches f → (n : Node) → Among (node.Bonus f ∷ []) n → is_live d n ≡ true → IsTouched b d n
@@ -261,13 +262,13 @@ module _ (b d : SeasonFacts) (is_b : IsSeason b) (is_d : IsSeason d) (s t : Stat
       had_cell_at n sound = iff_same (is_some (s n)) (is_live b n) (sound.cells n).0 (sound.cells n).1
 
   pub line_follows : (f p : ℕ) → DifferInLine b d f p → Refreshed (is_live d) (Among (line_nodes d f p (is_some (s (node.Line f p))))) s t → Follows b d s t
-  line_follows f p c r sound = change_sound b d is_b is_d (line_nodes d f p (has_line b p f)) (line_listed b d is_b f p c) s t sound (at_line f p sound r)
+  line_follows f p c r sound = change_sound b d is_b is_d (line_nodes d f p (has_line b p f)) (line_listed b d is_b is_d f p c) s t sound (at_line f p sound r)
 
   pub line_marks : (f p : ℕ) → DifferInLine b d f p → line_of b.matches f p ≢ line_of d.matches f p → Refreshed (is_live d) (Among (line_nodes d f p (is_some (s (node.Line f p))))) s t → MarksTouched b d s t
-  line_marks f p c differs r sound = change_exact b d is_b is_d (line_nodes d f p (has_line b p f)) (line_listed b d is_b f p c) s t sound (at_line f p sound r) (line_touched b d is_b f p c differs)
+  line_marks f p c differs r sound = change_exact b d is_b is_d (line_nodes d f p (has_line b p f)) (line_listed b d is_b is_d f p c) s t sound (at_line f p sound r) (line_touched b d is_b is_d f p c differs)
 
   pub mark_follows : (f : ℕ) → DifferInMark b d f → Refreshed (is_live d) (Among (node.Bonus f ∷ [])) s t → Follows b d s t
-  mark_follows f c r sound = change_sound b d is_b is_d (node.Bonus f ∷ []) (mark_listed b d f c) s t sound r
+  mark_follows f c r sound = change_sound b d is_b is_d (node.Bonus f ∷ []) (mark_listed b d is_b is_d f c) s t sound r
 
   pub mark_marks : (f : ℕ) → DifferInMark b d f → is_finished b.matches f ≢ is_finished d.matches f → Refreshed (is_live d) (Among (node.Bonus f ∷ [])) s t → MarksTouched b d s t
-  mark_marks f c differs r sound = change_exact b d is_b is_d (node.Bonus f ∷ []) (mark_listed b d f c) s t sound r (mark_touched b d f c differs)
+  mark_marks f c differs r sound = change_exact b d is_b is_d (node.Bonus f ∷ []) (mark_listed b d is_b is_d f c) s t sound r (mark_touched b d is_b is_d f c differs)

@@ -23,13 +23,13 @@ place_among [] x a = absurd a
 place_among (y ∷ xs) x (inl e) = (zero, (omega arith, λ d. e))
 place_among (y ∷ xs) x (inr a) = let r = place_among xs x a in (suc r.0, (omega (arith, r.1.0), r.1.1))
 
-abbrev pub Rising : List Fixture → Type 0
-Rising xs = AllPairs (λ x y. x.id < y.id) xs
+abbrev pub IdsRise : List Fixture → Type 0
+IdsRise xs = AllPairs (λ x y. x.id < y.id) xs
 
-rising_tail : (x : Fixture) (xs : List Fixture) → Rising (x ∷ xs) → Rising xs
+pub rising_tail : (x : Fixture) (xs : List Fixture) → IdsRise (x ∷ xs) → IdsRise xs
 rising_tail x xs up i j d lt within = up (suc i) (suc j) d (omega arith) (omega arith)
 
-rising_head : (x : Fixture) (xs : List Fixture) (y : Fixture) → Rising (x ∷ xs) → Among xs y → x.id < y.id
+pub rising_head : (x : Fixture) (xs : List Fixture) (y : Fixture) → IdsRise (x ∷ xs) → Among xs y → x.id < y.id
 rising_head x xs y up a = let r = place_among xs y a in subst (λ z. x.id < z.id) (r.1.1 x) (up zero (suc r.0) x (omega arith) (omega (arith, r.1.0)))
 
 pub same_test : (n m : ℕ) → n ≡ m → (n == m) ≡ true
@@ -49,7 +49,7 @@ same_id : (n m : ℕ) → (n == m) ≡ true → n ≡ m
 same_id n m e = grind (arith, nat_tests)
 
 -- a fixture of the list is found by its id
-found : (xs : List Fixture) (x : Fixture) (f : ℕ) → Rising xs → Among xs x → x.id ≡ f → find (λ y. y.id == f) xs ≡ Some x
+found : (xs : List Fixture) (x : Fixture) (f : ℕ) → IdsRise xs → Among xs x → x.id ≡ f → find (λ y. y.id == f) xs ≡ Some x
 found [] x f up a e = absurd a
 found (y ∷ xs) x f up (inl i) e = ap (λ b. cond b (Some y) (find (λ y. y.id == f) xs)) (same_test y.id f (ap (λ z. z.id) i ∙ e)) ∙ ap Some i
 found (y ∷ xs) x f up (inr a) e =
@@ -80,7 +80,7 @@ then_some None g e = absurd (cc)
 then_some (Some x) g e = (x, (refl, e))
 
 -- a fixture stands among those of a gameweek exactly where it stands in it
-pub stands_there : (xs : List Fixture) (f g : ℕ) → Rising xs → Among (standing_among xs g) f → option_and_then (λ x. x.gw) (find (λ x. x.id == f) xs) ≡ Some g
+pub stands_there : (xs : List Fixture) (f g : ℕ) → IdsRise xs → Among (standing_among xs g) f → option_and_then (λ x. x.gw) (find (λ x. x.id == f) xs) ≡ Some g
 stands_there xs f g up a =
     let r = from_map (λ x. x.id) (filter (λ x. is_gameweek g x.gw) xs) f a in
     let s = from_filter (λ x. is_gameweek g x.gw) xs r.0 r.1.0 in

@@ -1,3 +1,4 @@
+pub mod RisingFacts
 pub mod RefreshedFacts
 pub mod DependentFacts
 pub mod Lists

@@ -19,13 +19,14 @@ use Rattle.season_graph.specs.Touched.{is_other, gameweek_beside, line_nodes, li
 use Rattle.season_graph.proofs.ChangedFacts.{beside_at, bool_case, at_node, change_exact, change_sound, other_same, from_beside, from_rest, iff_same, place_or_not, same_or_not, some_lines, to_rest}
 use Rattle.season_graph.proofs.DependentFacts.{stands_there, there_stands}
 use Rattle.season_graph.proofs.Lists.{listed_test}
+use Rattle.season_graph.proofs.RisingFacts.{players_same}
 use Rattle.season_graph.proofs.RefreshedFacts.{refreshed_append, refreshed_some, refreshed_same, refreshed_both}
 
 among_or_not : (ps : List ℕ) (q : ℕ) → Among ps q ⊎ (¬ Among ps q)
 among_or_not [] q = inr (λ a. a)
 among_or_not (p ∷ ps) q = ⊎_elim (λ e. inl (inl e)) (λ n. ⊎_elim (λ a. inl (inr a)) (λ m. inr (λ o. ⊎_elim n m o)) (among_or_not ps q)) (same_or_not p q)
 
-module _ (b d : SeasonFacts) (is_b : IsSeason b) (f : ℕ) (ps : List ℕ) (marked : Bool) (c : DifferInSheet b d f ps marked) where
+module _ (b d : SeasonFacts) (is_b : IsSeason b) (is_d : IsSeason d) (f : ℕ) (ps : List ℕ) (marked : Bool) (c : DifferInSheet b d f ps marked) where
   abbrev was : ℕ → Bool
   was p = has_line b p f
 
@@ -67,7 +68,7 @@ module _ (b d : SeasonFacts) (is_b : IsSeason b) (f : ℕ) (ps : List ℕ) (mark
   bonus_listed true e = inr (among_right (lines_nodes d was f ps) (cond marked (node.Bonus f ∷ []) []) (node.Bonus f) (subst (λ t. Among (cond t (node.Bonus f ∷ []) []) (node.Bonus f)) (sym e) (inl refl)))
   bonus_listed false e = ⊎_elim
       (λ r. inr (in_rest r.0 (node.Bonus f) r.1.0 r.1.1 (inl refl)))
-      (λ n. inl (bonus_kept f (c.listed f (inr (all_same n))) (c.marks f (inr e))))
+      (λ n. inl (bonus_kept f (players_same b d is_b is_d f (all_same n)) (c.marks f (inr e))))
       (some_or_none ps)
 
   pub sheet_listed : (n : Node) → IsKept b d n ⊎ Among nodes n
@@ -80,7 +81,7 @@ module _ (b d : SeasonFacts) (is_b : IsSeason b) (f : ℕ) (ps : List ℕ) (mark
       (same_or_not k f)
   sheet_listed (node.Bonus k) = ⊎_elim
       (λ i. subst (λ x. IsKept b d (node.Bonus x) ⊎ Among nodes (node.Bonus x)) (sym i) (bonus_listed marked refl))
-      (λ n. inl (bonus_kept k (c.listed k (inl n)) (c.marks k (inl n))))
+      (λ n. inl (bonus_kept k (players_same b d is_b is_d k (λ q. line_same k q (inl n))) (c.marks k (inl n))))
       (same_or_not k f)
   sheet_listed (node.PlayerGw q g) = ⊎_elim
       (λ a. ⊎_elim
@@ -127,11 +128,11 @@ module _ (b d : SeasonFacts) (is_b : IsSeason b) (f : ℕ) (ps : List ℕ) (mark
         (λ x. by_mark n x l)
         (among_either (lines_nodes d was f ps) (cond marked (node.Bonus f ∷ []) []) n a)
 
-    pub sheet_marks : (is_d : IsSeason d) (s t : State Node Value) → Refreshed (is_live d) (Among nodes) s t → MarksTouched b d s t
-    sheet_marks is_d s t r sound = change_exact b d is_b is_d nodes sheet_listed s t sound r sheet_touched
+    pub sheet_marks : (s t : State Node Value) → Refreshed (is_live d) (Among nodes) s t → MarksTouched b d s t
+    sheet_marks s t r sound = change_exact b d is_b is_d nodes sheet_listed s t sound r sheet_touched
 
-  pub sheet_follows : (is_d : IsSeason d) (s t : State Node Value) → Refreshed (is_live d) (Among nodes) s t → Follows b d s t
-  sheet_follows is_d s t r sound = change_sound b d is_b is_d nodes sheet_listed s t sound r
+  pub sheet_follows : (s t : State Node Value) → Refreshed (is_live d) (Among nodes) s t → Follows b d s t
+  sheet_follows s t r sound = change_sound b d is_b is_d nodes sheet_listed s t sound r
 
 not_line : (q g f p : ℕ) → node.PlayerGw q g ≡ node.Line f p → ⊥
 not_line q g f p e = cc
@@ -185,7 +186,7 @@ nodes_same d w v f ps marked e = ap (λ u. sheet_nodes d u f ps marked) (λ i p.
 -- the cells follow a sheet
 pub sheet_sound : (b d : SeasonFacts) → IsSeason b → IsSeason d → (f : ℕ) (ps : List ℕ) (marked : Bool) → DifferInSheet b d f ps marked → (s t : State Node Value)
     → Refreshed (is_live d) (Among (sheet_nodes d (λ p. is_some (s (node.Line f p))) f ps marked)) s t → Follows b d s t
-sheet_sound b d is_b is_d f ps marked c s t r sound = sheet_follows b d is_b f ps marked c is_d s t
+sheet_sound b d is_b is_d f ps marked c s t r sound = sheet_follows b d is_b is_d f ps marked c s t
     (subst (λ ns. Refreshed (is_live d) (Among ns) s t)
         (nodes_same d (λ p. is_some (s (node.Line f p))) (λ p. has_line b p f) f ps marked (λ p. iff_same (is_some (s (node.Line f p))) (has_line b p f) (sound.cells (node.Line f p)).0 (sound.cells (node.Line f p)).1)) r)
     sound
@@ -194,7 +195,7 @@ sheet_sound b d is_b is_d f ps marked c s t r sound = sheet_follows b d is_b f p
 pub sheet_exact : (b d : SeasonFacts) → IsSeason b → IsSeason d → (f : ℕ) (ps : List ℕ) (marked : Bool) → DifferInSheet b d f ps marked
     → ((p : ℕ) → Among ps p → line_of b.matches f p ≢ line_of d.matches f p) → (marked ≡ true → is_finished b.matches f ≢ is_finished d.matches f) → (s t : State Node Value)
     → Refreshed (is_live d) (Among (sheet_nodes d (λ p. is_some (s (node.Line f p))) f ps marked)) s t → MarksTouched b d s t
-sheet_exact b d is_b is_d f ps marked c differ mark s t r sound = sheet_marks b d is_b f ps marked c differ mark is_d s t
+sheet_exact b d is_b is_d f ps marked c differ mark s t r sound = sheet_marks b d is_b is_d f ps marked c differ mark s t
     (subst (λ ns. Refreshed (is_live d) (Among ns) s t)
         (nodes_same d (λ p. is_some (s (node.Line f p))) (λ p. has_line b p f) f ps marked (λ p. iff_same (is_some (s (node.Line f p))) (has_line b p f) (sound.cells (node.Line f p)).0 (sound.cells (node.Line f p)).1)) r)
     sound

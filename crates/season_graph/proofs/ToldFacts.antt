@@ -24,7 +24,7 @@ use Rattle.season_graph.specs.declared.nodes.Node.{Node}
 use Rattle.season_graph.specs.declared.nodes.Node.TheVariants as node
 use Rattle.season_graph.specs.declared.nodes.Value.{Value}
 use Rattle.season_graph.specs.declared.nodes.Value.TheVariants as value
-use Rattle.season_graph.specs.Season.{SeasonFacts, Ascending, bonuses_in, fixtures_of, gathered, has_line, no_figures, no_worth, own_value, players_of, took_part, with_bonus, with_worth, worth_in, worth_of}
+use Rattle.season_graph.specs.Season.{SeasonFacts, Rising, bonuses_in, fixtures_of, gathered, has_line, no_figures, no_worth, own_value, players_of, took_part, with_bonus, with_worth, worth_in, worth_of}
 use Rattle.season_graph.specs.Told.{told, gameweek_figures}
 use Rattle.season_graph.proofs.DependentFacts.{below_or_above, same_test}
 
@@ -36,7 +36,7 @@ Distinct (row ∷ lines) = (¬ Among (players_in lines) row.0) × Distinct lines
 not_below : (n : ℕ) → n < n → ⊥
 not_below n h = omega arith
 
-pub ascending_distinct : (lines : Lines) → Ascending lines → Distinct lines
+pub ascending_distinct : (lines : Lines) → Rising (players_in lines) → Distinct lines
 ascending_distinct [] up = tt
 ascending_distinct (row ∷ lines) up = ((λ a. not_below row.0 (up.0 row.0 a)), ascending_distinct lines up.1)
 

@@ -1,6 +1,6 @@
 -- What one change of the facts leaves as it was.
 use Rattle.std.specs.Prelude.{◌≡◌, ◌≢◌, ◌≤◌, ℕ, List, Bool, true, false, ◌⊎◌, ◌↔◌, filter, is_some}
-use Rattle.rule_book.specs.Calendar.{standing}
+use Rattle.rule_book.specs.Calendar.{stands_in}
 use Rattle.rule_book.specs.MatchFacts.{is_finished, line_of}
 use Rattle.rule_book.specs.PlayerFigures.{position_in}
 use Rattle.rule_book.specs.Players.{player_of}
@@ -34,7 +34,6 @@ module _ (b d : SeasonFacts) where
     pub players : b.players ≡ d.players
     pub marks : (k : ℕ) → is_finished b.matches k ≡ is_finished d.matches k
     pub others : (k q : ℕ) → (k ≢ f) ⊎ (q ≢ p) → line_of b.matches k q ≡ line_of d.matches k q
-    pub listed : (k : ℕ) → (k ≢ f) ⊎ (has_line b p f ≡ has_line d p f) → players_of b k ≡ players_of d k
 
   -- they differ at most in the lines of some players in a fixture, and, if it is marked so, in its mark
   pub record DifferInSheet (f : ℕ) (ps : List ℕ) (marked : Bool) : Type 0 where
@@ -43,7 +42,6 @@ module _ (b d : SeasonFacts) where
     pub players : b.players ≡ d.players
     pub marks : (k : ℕ) → (k ≢ f) ⊎ (marked ≡ false) → is_finished b.matches k ≡ is_finished d.matches k
     pub others : (k q : ℕ) → (k ≢ f) ⊎ (¬ Among ps q) → line_of b.matches k q ≡ line_of d.matches k q
-    pub listed : (k : ℕ) → (k ≢ f) ⊎ ((q : ℕ) → has_line b q f ≡ has_line d q f) → players_of b k ≡ players_of d k
 
   -- they differ at most in the mark of a fixture
   pub record DifferInMark (f : ℕ) : Type 0 where
@@ -52,7 +50,6 @@ module _ (b d : SeasonFacts) where
     pub players : b.players ≡ d.players
     pub marks : (k : ℕ) → k ≢ f → is_finished b.matches k ≡ is_finished d.matches k
     pub lines : (k q : ℕ) → line_of b.matches k q ≡ line_of d.matches k q
-    pub listed : (k : ℕ) → players_of b k ≡ players_of d k
 
   -- they differ at most in where a fixture stands
   pub record DifferInPlace (f : ℕ) : Type 0 where
@@ -60,7 +57,7 @@ module _ (b d : SeasonFacts) where
     pub locked : b.calendar.locked ≡ d.calendar.locked
     pub players : b.players ≡ d.players
     pub matches : b.matches ≡ d.matches
-    pub others : (test : ℕ → Bool) → test f ≡ false → (g : ℕ) → filter test (standing b.calendar g) ≡ filter test (standing d.calendar g)
+    pub others : (k : ℕ) → k ≢ f → stands_in b.calendar k ≡ stands_in d.calendar k
 
 module _ (b d : SeasonFacts) where
   -- they differ in a player, who is new

@@ -12,7 +12,7 @@ use Rattle.rule_book.specs.Bonus.{bonus_of}
 use Rattle.rule_book.specs.BonusPoints.{bps_of}
 use Rattle.rule_book.specs.Calendar.{CalendarFacts, IsCalendar, standing}
 use Rattle.rule_book.specs.Figures.{figure, IsLine}
-use Rattle.rule_book.specs.MatchFacts.{Lines, MatchFacts, is_finished, line_of, lines_of, players_in}
+use Rattle.rule_book.specs.MatchFacts.{MatchFacts, is_finished, line_of, lines_of, players_in}
 use Rattle.rule_book.specs.PlayerFigures.{position_in}
 use Rattle.rule_book.specs.Players.{player_of}
 use Rattle.rule_book.specs.Points.{points_of}
@@ -171,15 +171,15 @@ season_graph b = record {
   own = own_value b;
 }
 
--- lines stand by ascending player
-abbrev pub Ascending : Lines → Type 0
-Ascending [] = Unit {0}
-Ascending (row ∷ lines) = ((p : ℕ) → Among (players_in lines) p → row.0 < p) × Ascending lines
+-- numbers of which each is smaller than those behind it
+abbrev pub Rising : List ℕ → Type 0
+Rising [] = Unit {0}
+Rising (n ∷ ns) = ((m : ℕ) → Among ns m → n < m) × Rising ns
 
 -- the facts are those of a season: a lawful calendar; in each fixture lines by ascending player, each in its ranges, and
 -- each of a player who is there
 pub record IsSeason (b : SeasonFacts) : Type 0 where
   pub calendar : IsCalendar b.calendar
-  pub ascending : (f : ℕ) → Ascending (lines_of b.matches f)
+  pub ascending : (f : ℕ) → Rising (players_of b f)
   pub ranges : (f p : ℕ) (line : Line) → line_of b.matches f p ≡ Some line → IsLine line
   pub there : (f p : ℕ) → has_line b p f ≡ true → is_some (player_of b.players p) ≡ true
