@@ -1,5 +1,6 @@
-ghost use Rattle.std.specs.Prelude.{◌≡◌, ◌≤◌, ◌+◌, [], length, OnOk, OnErr, IsTrue, ◌↔◌, option_copied};
+ghost use Rattle.std.specs.Prelude.{◌≡◌, ◌≤◌, ◌+◌, [], length, OnOk, OnErr, IsTrue, ◌↔◌, is_some, option_copied};
 ghost use Rattle.std.specs.List.{zip};
+ghost use Rattle.std.specs.Map.{keys_of};
 ghost use Rattle.std.specs.List.Sorted.{IsStrictlyIncreasing};
 ghost use Rattle.rule_book.specs.MatchFacts.{line_of, lines_of, with_line, players_in, is_finished, has_facts};
 ghost use Rattle.rule_book.specs.declared.line.Line.{Line};
@@ -183,6 +184,23 @@ impl MatchFacts {
             Some(sheet) => sheet.players(),
             None => &[],
         }
+    }
+
+    /// Whether a player has a line in a fixture. It is no counted read.
+    pub fn has_line(&self, fixture: FixtureId, player: PlayerId) -> bool
+        ensures { result ≡ is_some (line_of self.now fixture player) }
+    {
+        match self.sheets.get(fixture) {
+            Some(sheet) => sheet.line(player).is_some(),
+            None => false,
+        }
+    }
+
+    /// The fixtures that have a line or the finished mark, ascending.
+    pub fn fixtures(&self) -> &[FixtureId]
+        ensures { result.now ≡ keys_of self.now }
+    {
+        self.sheets.fixtures()
     }
 
     /// Whether a fixture is finished.

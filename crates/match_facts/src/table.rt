@@ -3,7 +3,7 @@ ghost use Rattle.std.specs.Prelude.{◌≡◌, [], IfSome, OnOk, OnErr, option_c
 ghost use Rattle.std.specs.Option.{option_copied_mut};
 ghost use Rattle.std.specs.Borrow.{sem};
 ghost use Rattle.std.specs.BTreeMap.{insert_entry, is_at};
-ghost use Rattle.std.specs.Map.{remove_entry};
+ghost use Rattle.std.specs.Map.{keys_of, remove_entry};
 ghost use Rattle.std.specs.Ordering.{nat_cmp};
 ghost use Rattle.rule_book.specs.ById.{at_id};
 ghost use Rattle.match_facts.specs.Columns.{IsAscending, IsPlace, IsSought};
@@ -43,6 +43,13 @@ impl Table {
             fixtures: Vec::new(alloc),
             sheets: Vec::new(alloc),
         }
+    }
+
+    /// The fixtures, ascending.
+    pub fn fixtures(&self) -> &[FixtureId]
+        ensures { result.now ≡ keys_of self.now }
+    {
+        self.fixtures.as_slice()
     }
 
     /// The sheet of a fixture.

@@ -1,0 +1,274 @@
+-- What one change of the facts touches, and that it leaves everything else as it was.
+use Rattle.std.proofs.Common.{◌≡◌, ◌≢◌, ℕ, ◌+◌, pos, ◌+ℤ◌, ◌==◌, Bool, true, false, not, ◌&&◌, cond, nat_le, ◌⊎◌, inl, inr, ⊎_elim, ◌↔◌, List, [], ◌∷◌, ◌++◌, Option, Some, None, IsSome, is_some, length, map, nat_lt, refl, sym, ◌∙◌, ap, ap₂, subst, arith}
+use Rattle.std.specs.Bool.{beq}
+use Rattle.std.specs.Cmp.{booleans_Decides}
+use Rattle.std.specs.List.{fold, filter, flat_map, list_any}
+use Rattle.std.specs.Option.{option_map, option_map_or, unwrap_or}
+use Rattle.std.proofs.lemmas.Bool.Decides.{nat_tests}
+use Rattle.std.proofs.lemmas.List.{length-map}
+use Rattle.std.proofs.lemmas.Option.{same_Some}
+use Rattle.rule_book.specs.ById.{at_id}
+use Rattle.rule_book.specs.Calendar.{standing, stands_in}
+use Rattle.rule_book.specs.MatchFacts.{is_finished, line_of, lines_of, players_in}
+use Rattle.rule_book.specs.PlayerFigures.{position_in}
+use Rattle.rule_book.specs.Players.{player_of}
+use Rattle.rescore_graph.specs.declared.cells.Slot.{Slot}
+use Rattle.rescore_graph.specs.Graph.{Among, Graph}
+use Rattle.rescore_graph.specs.States.{State, is_dirty, IsDirty}
+use Rattle.rescore_graph.specs.Settling.{Sound, SoundBut}
+use Rattle.rescore_graph.proofs.ChangeFacts.{Untouched, sound_start, sound_whole}
+use Rattle.season_graph.specs.Changes.{IsSame, IsKept, IsTouched, DifferInLine, DifferInMark, DifferInPlace, Follows, MarksTouched}
+use Rattle.season_graph.specs.declared.nodes.Node.{Node}
+use Rattle.season_graph.specs.declared.nodes.Node.TheVariants as node
+use Rattle.season_graph.specs.declared.nodes.Value.{Value}
+use Rattle.season_graph.specs.declared.nodes.Value.TheVariants as value
+use Rattle.season_graph.specs.Reading.{filter_local, from_filter, to_filter}
+use Rattle.season_graph.specs.Refreshed.{Refreshed}
+use Rattle.season_graph.specs.Season.{SeasonFacts, IsSeason, has_line, players_of, fixtures_of, inputs_of, is_live, own_value, season_graph, worth_of, no_worth, worth_in, bonuses_in, with_bonus, took_part, gathered}
+use Rattle.season_graph.specs.SeasonLaws.{season_lawful, has_listed, listed_has}
+use Rattle.season_graph.specs.Touched.{is_other, gameweek_beside, line_nodes, moved_nodes}
+use Rattle.season_graph.proofs.DependentFacts.{stands_there, there_stands}
+use Rattle.season_graph.proofs.Lists.{listed_test}
+use Rattle.season_graph.proofs.RefreshedFacts.{refreshed_listed, refreshed_sound, refreshed_exact}
+use Rattle.season_graph.proofs.RisingFacts.{players_same}
+
+clash : true ≡ false → ⊥
+clash e = cc
+
+some_map : {X Y : Type 0} (f : X → Y) (o : Option X) → is_some (option_map f o) ≡ is_some o
+some_map f None = refl
+some_map f (Some x) = refl
+
+-- a count is told exactly of a node that has a cell
+pub counted_some : {V : Type 0} (o : Option ℕ) (cell : Option (Slot V)) → o ≡ option_map (λ s. s.count) cell → is_some o ≡ is_some cell
+counted_some o cell e = ap is_some e ∙ some_map (λ s. s.count) cell
+
+beq_same : (x : Bool) → not (beq x x) ≡ false
+beq_same x = ap not ((booleans_Decides x x).1 refl)
+
+beq_other : (x y b : Bool) → beq x y ≡ b → x ≢ y → not (beq x y) ≡ true
+beq_other x y true e n = absurd (n ((booleans_Decides x y).0 e))
+beq_other x y false e n = ap not e
+
+not_beq : (x y : Bool) → not (beq x y) ≡ is_other x y
+not_beq true true = beq_same true
+not_beq true false = beq_other true false (beq true false) refl (λ e. cc)
+not_beq false true = beq_other false true (beq false true) refl (λ e. cc)
+not_beq false false = beq_same false
+
+chosen_case : (b had has was here : Bool) → had ≡ was → has ≡ here → not (beq had has) ≡ b → b ≡ is_other was here
+chosen_case b had has was here e d k = sym k ∙ not_beq had has ∙ ap₂ is_other e d
+
+-- the nodes of a line, by whether it was there
+pub line_chosen : {V : Type 0} (live : Node → Bool) (line : Node) (rest : List Node) (s t : State Node V) (b had has here : Bool) → had ≡ is_some (s line) → has ≡ here → not (beq had has) ≡ b
+    → Refreshed live (Among (line ∷ cond b rest [])) s t → Refreshed live (Among (line ∷ cond (is_other (is_some (s line)) here) rest [])) s t
+line_chosen live line rest s t b had has here e d k r =
+    refreshed_listed live (line ∷ cond b rest []) (line ∷ cond (is_other (is_some (s line)) here) rest []) s t
+    (ap (λ c. line ∷ cond c rest []) (chosen_case b had has (is_some (s line)) here e d k)) r
+
+eqb_case : (m n : ℕ) (b : Bool) → (m == n) ≡ b → (m ≡ n) ⊎ (m ≢ n)
+eqb_case m n true e = inl (grind (arith, nat_tests, e))
+eqb_case m n false e = inr (λ i. grind (arith, nat_tests, e, i))
+
+pub same_or_not : (m n : ℕ) → (m ≡ n) ⊎ (m ≢ n)
+same_or_not m n = eqb_case m n (m == n) refl
+
+both_or_other : (k q f p : ℕ) → ((k ≡ f) × (q ≡ p)) ⊎ ((k ≢ f) ⊎ (q ≢ p))
+both_or_other k q f p = ⊎_elim (λ e. ⊎_elim (λ d. inl (e, d)) (λ n. inr (inr n)) (same_or_not q p)) (λ n. inr (inl n)) (same_or_not k f)
+
+pub bool_case : (b c : Bool) → (b ≡ c) ⊎ (is_other b c ≡ true)
+bool_case true true = inl refl
+bool_case true false = inr refl
+bool_case false true = inr refl
+bool_case false false = inl refl
+
+module _ (b d : SeasonFacts) where
+  pub some_lines : (f : ℕ) → players_of b f ≡ players_of d f → is_live b (node.Bonus f) ≡ is_live d (node.Bonus f)
+  some_lines f e = ap (nat_lt 0) (sym (length-map (lines_of b.matches f) (λ row. row.0)) ∙ ap length e ∙ length-map (lines_of d.matches f) (λ row. row.0))
+
+  line_same : (f p : ℕ) → line_of b.matches f p ≡ line_of d.matches f p → b.profile ≡ d.profile → position_in b.players p ≡ position_in d.players p
+      → value.Line (option_map_or (worth_of b.profile (position_in b.players p)) (line_of b.matches f p) no_worth) ≡ value.Line (option_map_or (worth_of d.profile (position_in d.players p)) (line_of d.matches f p) no_worth)
+  line_same f p e u v = λ i. value.Line (option_map_or (worth_of (u i) (v i)) (e i) no_worth)
+
+  -- what is kept has its inputs and its own function
+  pub kept_untouched : (s : State Node Value) (n : Node) → IsKept b d n → is_live d n ≡ true → Untouched (season_graph b) (season_graph d) s s n
+  kept_untouched s (node.Line f p) k l = record {
+    live = k.0 ∙ l;
+    cell = refl;
+    inputs = λ m a. a;
+    own = λ v. sym (line_same f p (k.1 l).0 (k.1 l).1 (k.1 l).2);
+    values = λ m a. refl;
+  }
+  kept_untouched s (node.Bonus f) k l = record {
+    live = k.0 ∙ l;
+    cell = refl;
+    inputs = λ m a. subst (λ ps. Among (map (node.Line f) ps) m) (sym (k.1 l).0) a;
+    own = λ v. ap₂ (λ ps t. value.Bonus (cond t (with_bonus (took_part (λ p. worth_in (v (node.Line f p))) ps)) [])) (sym (k.1 l).0) (sym (k.1 l).1);
+    values = λ m a. refl;
+  }
+  kept_untouched s (node.PlayerGw p g) k l = record {
+    live = k.0 ∙ l;
+    cell = refl;
+    inputs = λ m a. subst (λ fs. Among (flat_map (λ f. node.Line f p ∷ node.Bonus f ∷ []) fs) m) (sym (k.1 l)) a;
+    own = λ v. ap (λ fs. value.PlayerGw (gathered (λ f. worth_in (v (node.Line f p))) (λ f. unwrap_or (at_id (bonuses_in (v (node.Bonus f))) p) 0) fs)) (sym (k.1 l));
+    values = λ m a. refl;
+  }
+
+  -- after a change of the facts all is sound but for what the change does not keep
+  pub changed_start : IsSeason b → (X : Node → Type 0) (s : State Node Value) → Sound (season_graph b) s → ((n : Node) → IsKept b d n ⊎ X n) → SoundBut (season_graph d) X s
+  changed_start is X s sound kept = sound_start (season_graph b) (season_graph d) (season_lawful b is) X s sound
+      (λ n x. let k = kept_at n x in ((λ l. sym k.0 ∙ l), (λ l. k.0 ∙ l)))
+      (λ n x l. kept_untouched s n (kept_at n x) l)
+    where
+      kept_at : (n : Node) → (¬ X n) → IsKept b d n
+      kept_at n x = ⊎_elim (λ k. k) (λ y. absurd (x y)) (kept n)
+
+pub iff_same : (x y : Bool) → (x ≡ true → y ≡ true) → (y ≡ true → x ≡ true) → x ≡ y
+iff_same true true there back = refl
+iff_same true false there back = absurd (clash (sym (there refl)))
+iff_same false true there back = absurd (clash (sym (back refl)))
+iff_same false false there back = refl
+
+pub other_same : (x y : Bool) → x ≡ y → is_other x y ≡ true → ⊥
+other_same true true e o = clash (sym o)
+other_same true false e o = clash e
+other_same false true e o = clash (sym e)
+other_same false false e o = clash (sym o)
+
+pub from_rest : (t : Bool) (rest : List Node) (n : Node) → Among (cond t rest []) n → (t ≡ true) × Among rest n
+from_rest true rest n a = (refl, a)
+from_rest false rest n a = absurd a
+
+pub to_rest : (t : Bool) (rest : List Node) (n : Node) → t ≡ true → Among rest n → Among (cond t rest []) n
+to_rest t rest n e a = subst (λ u. Among (cond u rest []) n) (sym e) a
+
+pub place_or_not : (place : Option ℕ) (g : ℕ) → (place ≡ Some g) ⊎ (place ≢ Some g)
+place_or_not None g = inr (λ e. cc)
+place_or_not (Some h) g = ⊎_elim (λ e. inl (ap Some e)) (λ n. inr (λ e. n (same_Some h g e))) (same_or_not h g)
+
+pub beside_at : (p g : ℕ) (place : Option ℕ) → place ≡ Some g → Among (gameweek_beside p place) (node.PlayerGw p g)
+beside_at p g place e = subst (λ o. Among (gameweek_beside p o) (node.PlayerGw p g)) (sym e) (inl refl)
+
+pub from_beside : (p : ℕ) (place : Option ℕ) (n : Node) → Among (gameweek_beside p place) n → (g : ℕ) × ((place ≡ Some g) × (node.PlayerGw p g ≡ n))
+from_beside p None n a = absurd a
+from_beside p (Some g) n (inl e) = (g, (refl, e))
+from_beside p (Some g) n (inr a) = absurd a
+
+-- nothing is left out
+sound_all : (d : SeasonFacts) (X : Node → Type 0) (s : State Node Value) → ((n : Node) → ¬ X n) → SoundBut (season_graph d) X s → Sound (season_graph d) s
+sound_all d X s none sound = record {
+  cells = λ n. sound.cells n (none n);
+  inputs = λ n m. sound.inputs n m (none n);
+  value = λ n. sound.value n (none n);
+}
+
+-- a change keeps all but the nodes of a list; with these up to date the cells are sound, and if nothing was dirty, then dirty are just these where they are live
+module _ (b d : SeasonFacts) (is_b : IsSeason b) (is_d : IsSeason d) (ns : List Node) (kept : (n : Node) → IsKept b d n ⊎ Among ns n) (s t : State Node Value) (sound : Sound (season_graph b) s) (r : Refreshed (is_live d) (Among ns) s t) where
+  pub change_sound : Sound (season_graph d) t
+  change_sound = sound_all d (λ n. Among ns n × (¬ Among ns n)) t (λ n x. x.1 x.0)
+      (refreshed_sound (is_live d) (Among ns) s t r (season_graph d) (season_lawful d is_d) (λ q. ((λ l. l), (λ l. l))) (Among ns) (changed_start b d is_b (Among ns) s sound kept))
+
+  pub change_exact : ((n : Node) → Among ns n → is_live d n ≡ true → IsTouched b d n) → ((n : Node) → is_dirty (s n) ≡ false) → (n : Node) → IsDirty t n ↔ IsTouched b d n
+  change_exact touched calm n = (
+    (λ y. ⊎_elim (λ a. touched n a.0 a.1) (λ a. absurd (clash (sym a.1 ∙ calm n))) ((refreshed_exact (is_live d) (Among ns) s t r n).0 y)),
+    (λ y. ⊎_elim (λ k. absurd (y.1 k)) (λ a. (refreshed_exact (is_live d) (Among ns) s t r n).1 (inl (a, y.0))) (kept n)))
+
+  pub had_cell : (n : Node) → is_some (s n) ≡ is_live b n
+  had_cell n = iff_same (is_some (s n)) (is_live b n) (sound.cells n).0 (sound.cells n).1
+
+-- a node is touched whose inputs or own facts are others
+pub at_node : (b d : SeasonFacts) (m n : Node) → m ≡ n → is_live d n ≡ true → (((is_live d m ≡ true) → IsSame b d m) → is_live d m ≡ true → ⊥) → IsTouched b d n
+at_node b d m n e l other = (l, subst (λ x. ¬ IsKept b d x) e (λ k. other k.1 (subst (λ x. is_live d x ≡ true) (sym e) l)))
+
+-- a line
+module _ (b d : SeasonFacts) (is : IsSeason b) (is_d : IsSeason d) (f p : ℕ) (c : DifferInLine b d f p) where
+  line_kept : (k q : ℕ) → (k ≢ f) ⊎ (q ≢ p) → IsKept b d (node.Line k q)
+  line_kept k q o = (ap is_some (c.others k q o), λ l. (c.others k q o, c.profile, ap (λ ps. position_in ps q) c.players))
+
+  bonus_kept : (k : ℕ) → ((q : ℕ) → has_line b q k ≡ has_line d q k) → IsKept b d (node.Bonus k)
+  bonus_kept k e = let same = players_same b d is is_d k e in (some_lines b d k same, λ l. (same, c.marks k))
+
+  gameweek_kept : (q g : ℕ) → ((k : ℕ) → Among (standing b.calendar g) k → has_line b q k ≡ has_line d q k) → IsKept b d (node.PlayerGw q g)
+  gameweek_kept q g e = (
+    (λ i. is_some (player_of (c.players i) q) && (nat_le 1 g && nat_le g (c.calendar i).locked)),
+    λ l. filter_local (has_line b q) (has_line d q) (standing b.calendar g) e ∙ ap (λ x. filter (has_line d q) (standing x g)) c.calendar)
+
+  same_there : has_line b p f ≡ has_line d p f → (k q : ℕ) → has_line b q k ≡ has_line d q k
+  same_there e k q = ⊎_elim (λ i. subst (λ x. has_line b q x ≡ has_line d q x) (sym i.0) (subst (λ x. has_line b x f ≡ has_line d x f) (sym i.1) e)) (λ o. ap is_some (c.others k q o)) (both_or_other k q f p)
+
+  pub line_listed : (n : Node) → IsKept b d n ⊎ Among (line_nodes d f p (has_line b p f)) n
+  line_listed (node.Line k q) = ⊎_elim (λ i. inr (inl (ap₂ node.Line (sym i.0) (sym i.1)))) (λ o. inl (line_kept k q o)) (both_or_other k q f p)
+  line_listed (node.Bonus k) = ⊎_elim
+      (λ e. inl (bonus_kept k (same_there e k)))
+      (λ o. ⊎_elim (λ i. inr (inr (to_rest (is_other (has_line b p f) (has_line d p f)) (node.Bonus f ∷ gameweek_beside p (stands_in d.calendar f)) (node.Bonus k) o (inl (ap node.Bonus (sym i)))))) (λ n. inl (bonus_kept k (λ q. ap is_some (c.others k q (inl n))))) (same_or_not k f))
+      (bool_case (has_line b p f) (has_line d p f))
+  line_listed (node.PlayerGw q g) = ⊎_elim
+      (λ e. inl (gameweek_kept q g (λ k a. same_there e k q)))
+      (λ o. ⊎_elim
+          (λ i. ⊎_elim
+              (λ e. inr (inr (to_rest (is_other (has_line b p f) (has_line d p f)) (node.Bonus f ∷ gameweek_beside p (stands_in d.calendar f)) (node.PlayerGw q g) o
+                  (inr (subst (λ x. Among (gameweek_beside p (stands_in d.calendar f)) (node.PlayerGw x g)) (sym i) (beside_at p g (stands_in d.calendar f) e))))))
+              (λ n. inl (gameweek_kept q g (λ k a. ap is_some (c.others k q (inl (λ j. n (ap (λ x. stands_in x f) (sym c.calendar) ∙ stands_there b.calendar.fixtures f g is.calendar.ids_rise (subst (λ x. Among (standing b.calendar g) x) j a))))))))
+              (place_or_not (stands_in d.calendar f) g))
+          (λ n. inl (gameweek_kept q g (λ k a. ap is_some (c.others k q (inr n)))))
+          (same_or_not q p))
+      (bool_case (has_line b p f) (has_line d p f))
+
+  listed_same : players_of b f ≡ players_of d f → has_line b p f ≡ has_line d p f
+  listed_same e = sym (listed_test (lines_of b.matches f) p) ∙ ap (list_any (λ q. q == p)) e ∙ listed_test (lines_of d.matches f) p
+
+  counted_same : (g : ℕ) → stands_in d.calendar f ≡ Some g → fixtures_of b p g ≡ fixtures_of d p g → has_line b p f ≡ has_line d p f
+  counted_same g e i =
+      let at : Among (standing d.calendar g) f = there_stands d.calendar.fixtures f g e in
+      let before : Among (standing b.calendar g) f = subst (λ x. Among (standing x g) f) (sym c.calendar) at in
+      iff_same (has_line b p f) (has_line d p f)
+      (λ h. (from_filter (has_line d p) (standing d.calendar g) f (subst (λ xs. Among xs f) i (to_filter (has_line b p) (standing b.calendar g) f before h))).1)
+      (λ h. (from_filter (has_line b p) (standing b.calendar g) f (subst (λ xs. Among xs f) (sym i) (to_filter (has_line d p) (standing d.calendar g) f at h))).1)
+
+  pub line_touched : line_of b.matches f p ≢ line_of d.matches f p → (n : Node) → Among (line_nodes d f p (has_line b p f)) n → is_live d n ≡ true → IsTouched b d n
+  line_touched differs n (inl e) l = at_node b d (node.Line f p) n e l (λ k live. differs (k live).0)
+  line_touched differs n (inr a) l = rest (from_rest (is_other (has_line b p f) (has_line d p f)) (node.Bonus f ∷ gameweek_beside p (stands_in d.calendar f)) n a)
+    where
+      rest : (is_other (has_line b p f) (has_line d p f) ≡ true) × Among (node.Bonus f ∷ gameweek_beside p (stands_in d.calendar f)) n → IsTouched b d n
+      rest r = ⊎_elim
+          (λ e. at_node b d (node.Bonus f) n e l (λ k live. other_same (has_line b p f) (has_line d p f) (listed_same (k live).0) r.0))
+          (λ x. let y = from_beside p (stands_in d.calendar f) n x in
+              at_node b d (node.PlayerGw p y.0) n y.1.1 l (λ k live. other_same (has_line b p f) (has_line d p f) (counted_same y.0 y.1.0 (k live)) r.0))
+          r.1
+
+-- a mark
+module _ (b d : SeasonFacts) (is_b : IsSeason b) (is_d : IsSeason d) (f : ℕ) (c : DifferInMark b d f) where
+  mark_gameweek : (q g : ℕ) → IsKept b d (node.PlayerGw q g)
+  mark_gameweek q g = (
+    (λ i. is_some (player_of (c.players i) q) && (nat_le 1 g && nat_le g (c.calendar i).locked)),
+    λ l. filter_local (has_line b q) (has_line d q) (standing b.calendar g) (λ k a. ap is_some (c.lines k q)) ∙ ap (λ x. filter (has_line d q) (standing x g)) c.calendar)
+
+  pub mark_listed : (n : Node) → IsKept b d n ⊎ Among (node.Bonus f ∷ []) n
+  mark_listed (node.Line k q) = inl (ap is_some (c.lines k q), λ l. (c.lines k q, c.profile, ap (λ ps. position_in ps q) c.players))
+  mark_listed (node.Bonus k) = ⊎_elim (λ i. inr (inl (ap node.Bonus (sym i)))) (λ n. let same = players_same b d is_b is_d k (λ q. ap is_some (c.lines k q)) in inl (some_lines b d k same, λ l. (same, c.marks k n))) (same_or_not k f)
+  mark_listed (node.PlayerGw q g) = inl (mark_gameweek q g)
+
+  pub mark_touched : is_finished b.matches f ≢ is_finished d.matches f → (n : Node) → Among (node.Bonus f ∷ []) n → is_live d n ≡ true → IsTouched b d n
+  mark_touched differs n (inl e) l = (l, subst (λ x. ¬ IsKept b d x) e (λ k. differs (k.1 (subst (λ x. is_live d x ≡ true) (sym e) l)).1))
+  mark_touched differs n (inr a) l = absurd a
+
+
+-- the cells follow a change of one line, of one mark
+module _ (b d : SeasonFacts) (is_b : IsSeason b) (is_d : IsSeason d) (s t : State Node Value) where
+  at_line : (f p : ℕ) → Sound (season_graph b) s → Refreshed (is_live d) (Among (line_nodes d f p (is_some (s (node.Line f p))))) s t → Refreshed (is_live d) (Among (line_nodes d f p (has_line b p f))) s t
+  at_line f p sound r = subst (λ was. Refreshed (is_live d) (Among (line_nodes d f p was)) s t) (had_cell_at (node.Line f p) sound) r
+    where
+      had_cell_at : (n : Node) → Sound (season_graph b) s → is_some (s n) ≡ is_live b n
+      had_cell_at n sound = iff_same (is_some (s n)) (is_live b n) (sound.cells n).0 (sound.cells n).1
+
+  pub line_follows : (f p : ℕ) → DifferInLine b d f p → Refreshed (is_live d) (Among (line_nodes d f p (is_some (s (node.Line f p))))) s t → Follows b d s t
+  line_follows f p c r sound = change_sound b d is_b is_d (line_nodes d f p (has_line b p f)) (line_listed b d is_b is_d f p c) s t sound (at_line f p sound r)
+
+  pub line_marks : (f p : ℕ) → DifferInLine b d f p → line_of b.matches f p ≢ line_of d.matches f p → Refreshed (is_live d) (Among (line_nodes d f p (is_some (s (node.Line f p))))) s t → MarksTouched b d s t
+  line_marks f p c differs r sound = change_exact b d is_b is_d (line_nodes d f p (has_line b p f)) (line_listed b d is_b is_d f p c) s t sound (at_line f p sound r) (line_touched b d is_b is_d f p c differs)
+
+  pub mark_follows : (f : ℕ) → DifferInMark b d f → Refreshed (is_live d) (Among (node.Bonus f ∷ [])) s t → Follows b d s t
+  mark_follows f c r sound = change_sound b d is_b is_d (node.Bonus f ∷ []) (mark_listed b d is_b is_d f c) s t sound r
+
+  pub mark_marks : (f : ℕ) → DifferInMark b d f → is_finished b.matches f ≢ is_finished d.matches f → Refreshed (is_live d) (Among (node.Bonus f ∷ [])) s t → MarksTouched b d s t
+  mark_marks f c differs r sound = change_exact b d is_b is_d (node.Bonus f ∷ []) (mark_listed b d is_b is_d f c) s t sound r (mark_touched b d is_b is_d f c differs)

@@ -1,0 +1,81 @@
+-- What a new player touches.
+use Rattle.std.proofs.Common.{◌≡◌, ◌≢◌, ℕ, zero, suc, ◌+◌, ◌<◌, ◌≤◌, Bool, true, false, ◌&&◌, nat_le, ◌⊎◌, inl, inr, ⊎_elim, List, [], ◌∷◌, ◌++◌, Option, Some, None, is_some, refl, sym, ◌∙◌, ap, subst, arith, add-one}
+use Rattle.std.specs.List.{filter}
+use Rattle.std.specs.Option.{option_map_or}
+use Rattle.std.proofs.lemmas.Bool.Decides.{nat_tests, leb_tells}
+use Rattle.rule_book.specs.Calendar.{standing}
+use Rattle.rule_book.specs.MatchFacts.{is_finished, line_of}
+use Rattle.rule_book.specs.PlayerFigures.{position_in}
+use Rattle.rule_book.specs.Players.{player_of}
+use Rattle.fpl_base.specs.declared.kinds.Position.TheVariants.{Keeper}
+use Rattle.rescore_graph.specs.Graph.{Among}
+use Rattle.rescore_graph.specs.States.{State}
+use Rattle.rescore_graph.specs.Settling.{Sound}
+use Rattle.season_graph.specs.Changes.{IsKept, IsTouched, DifferInPlayer, Follows, MarksTouched}
+use Rattle.season_graph.specs.declared.nodes.Node.{Node}
+use Rattle.season_graph.specs.declared.nodes.Node.TheVariants as node
+use Rattle.season_graph.specs.declared.nodes.Value.{Value}
+use Rattle.season_graph.specs.Reading.{among_either, among_left, among_right}
+use Rattle.season_graph.specs.Refreshed.{Refreshed}
+use Rattle.season_graph.specs.Season.{SeasonFacts, IsSeason, fixtures_of, has_line, is_live, players_of}
+use Rattle.season_graph.specs.SeasonLaws.{first_true, second_true}
+use Rattle.season_graph.specs.Touched.{player_nodes}
+use Rattle.season_graph.proofs.ChangedFacts.{change_exact, change_sound, same_or_not}
+use Rattle.season_graph.proofs.GameweekFacts.{from_gameweeks, gameweek_among}
+
+clash : true ≡ false → ⊥
+clash e = cc
+
+false_or_true : (b : Bool) → (b ≡ false) ⊎ (b ≡ true)
+false_or_true true = inr refl
+false_or_true false = inl refl
+
+and_false : (x y : Bool) → x ≡ false → (x && y) ≡ false
+and_false true y e = absurd (clash e)
+and_false false y e = refl
+
+at_least : (g : ℕ) → nat_le 1 g ≡ true → 0 < g
+at_least g t = grind (arith, nat_tests)
+
+at_most : (g n : ℕ) → nat_le g n ≡ true → g ≤ 0 + n
+at_most g n t = grind (arith, nat_tests)
+
+module _ (b d : SeasonFacts) (is_b : IsSeason b) (p : ℕ) (c : DifferInPlayer b d p) where
+  abbrev nodes : List Node
+  nodes = player_nodes p 0 d.calendar.locked
+
+  line_same : (q f : ℕ) → has_line b q f ≡ has_line d q f
+  line_same q f = ap (λ m. is_some (line_of m f q)) c.matches
+
+  position_same : (q : ℕ) → q ≢ p → position_in b.players q ≡ position_in d.players q
+  position_same q n = ap (λ o. option_map_or (λ x. x.position) o Keeper) (c.others q n)
+
+  fixtures_same : (q g : ℕ) → fixtures_of b q g ≡ fixtures_of d q g
+  fixtures_same q g = λ i. filter (λ f. is_some (line_of (c.matches i) f q)) (standing (c.calendar i) g)
+
+  dead : (f q : ℕ) → q ≡ p → is_live d (node.Line f q) ≡ true → ⊥
+  dead f q i l = clash (sym (is_b.there f p (line_same p f ∙ sym (ap (λ x. has_line d x f) i) ∙ l)) ∙ c.absent)
+
+  pub coming_listed : (n : Node) → IsKept b d n ⊎ Among nodes n
+  coming_listed (node.Line f q) = inl (line_same q f, λ l. (ap (λ m. line_of m f q) c.matches, c.profile, ⊎_elim (λ i. absurd (dead f q i l)) (position_same q) (same_or_not q p)))
+  coming_listed (node.Bonus f) = inl (ap (λ m. is_live (record b { matches = m }) (node.Bonus f)) c.matches, λ l. (ap (λ m. players_of (record b { matches = m }) f) c.matches, ap (λ m. is_finished m f) c.matches))
+  coming_listed (node.PlayerGw q g) = ⊎_elim
+      (λ i. ⊎_elim
+          (λ l. inl (subst (λ x. is_live b (node.PlayerGw x g) ≡ is_live d (node.PlayerGw x g)) (sym i) (and_false (is_some (player_of b.players p)) (nat_le 1 g && nat_le g b.calendar.locked) c.absent ∙ sym l), λ x. fixtures_same q g))
+          (λ l. let there = second_true (is_some (player_of d.players p)) (nat_le 1 g && nat_le g d.calendar.locked) l in
+              inr (subst (λ x. Among nodes (node.PlayerGw x g)) (sym i) (gameweek_among p 0 g d.calendar.locked (at_least g (first_true (nat_le 1 g) (nat_le g d.calendar.locked) there)) (at_most g d.calendar.locked (second_true (nat_le 1 g) (nat_le g d.calendar.locked) there)))))
+          (false_or_true (is_live d (node.PlayerGw p g))))
+      (λ n. inl ((λ i. is_some (c.others q n i) && (nat_le 1 g && nat_le g (c.calendar i).locked)), λ x. fixtures_same q g))
+      (same_or_not q p)
+
+  pub coming_touched : (n : Node) → Among nodes n → is_live d n ≡ true → IsTouched b d n
+  coming_touched n a l = let r = from_gameweeks p 0 d.calendar.locked n a in
+      (l, λ k. clash (sym l ∙ sym k.0 ∙ subst (λ z. is_live b z ≡ false) r.1.1 (and_false (is_some (player_of b.players p)) (nat_le 1 r.0 && nat_le r.0 b.calendar.locked) c.absent)))
+
+  -- the cells follow
+  module _ (is_d : IsSeason d) (s t : State Node Value) (r : Refreshed (is_live d) (Among nodes) s t) where
+    pub coming_follows : Follows b d s t
+    coming_follows sound = change_sound b d is_b is_d nodes coming_listed s t sound r
+
+    pub coming_marks : MarksTouched b d s t
+    coming_marks sound = change_exact b d is_b is_d nodes coming_listed s t sound r coming_touched

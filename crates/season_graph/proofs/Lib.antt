@@ -1,0 +1,12 @@
+pub mod RisingFacts
+pub mod RefreshedFacts
+pub mod DependentFacts
+pub mod Lists
+pub mod ChangedFacts
+pub mod PlaceFacts
+pub mod GameweekFacts
+pub mod LockFacts
+pub mod ToldFacts
+pub mod SheetFacts
+pub mod ComingFacts
+pub mod WholeFacts

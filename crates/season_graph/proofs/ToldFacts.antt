@@ -1,0 +1,242 @@
+-- Each node's own function of the values that the rule book tells gives the value that the rule book tells.
+use Rattle.std.proofs.Common.{◌≡◌, ◌≢◌, ℕ, ◌+◌, ◌-◌, ◌<◌, ◌==◌, ℤ, pos, ◌+ℤ◌, Bool, true, false, ◌||◌, cond, if◌then◌else◌, nat_le, ◌⊎◌, inl, inr, ⊎_elim, List, [], ◌∷◌, ◌++◌, Option, Some, None, is_some, map, refl, sym, ◌∙◌, ap, ap₂, subst, arith, add_assoc, zero-add}
+use Rattle.std.specs.List.{filter, flat_map, fold, list_any, sum_by}
+use Rattle.std.specs.Map.{lookup}
+use Rattle.std.specs.Option.{option_map_or, unwrap_or}
+use Rattle.std.proofs.lemmas.Bool.Decides.{nat_tests}
+use Rattle.std.proofs.lemmas.List.Sums.{sum_by-cons}
+use Rattle.std.proofs.lemmas.Option.{same_Some}
+use Rattle.rule_book.specs.declared.line.Appearance.{Appearance}
+use Rattle.rule_book.specs.declared.line.Line.{Line}
+use Rattle.rule_book.specs.declared.player.Player.{Player}
+use Rattle.rule_book.specs.declared.team_score.Figures.{Figures}
+use Rattle.rule_book.specs.ById.{at_id}
+use Rattle.rule_book.specs.Bonus.{bonus_in, bonus_of, standing, takes_part}
+use Rattle.rule_book.specs.BonusPoints.{bps_of}
+use Rattle.rule_book.specs.Calendar.{standing as standing_in}
+use Rattle.rule_book.specs.Figures.{figure}
+use Rattle.rule_book.specs.MatchFacts.{Lines, is_finished, line_in, line_of, lines_of, players_in}
+use Rattle.rule_book.specs.PlayerFigures.{appearance, bonus_at, figures_in, line_beside, lines_in_gameweek, played_with, points_at, position_in}
+use Rattle.rule_book.specs.Points.{points_of}
+use Rattle.rescore_graph.specs.Graph.{Among}
+use Rattle.season_graph.specs.declared.nodes.LineWorth.{LineWorth}
+use Rattle.season_graph.specs.declared.nodes.Node.{Node}
+use Rattle.season_graph.specs.declared.nodes.Node.TheVariants as node
+use Rattle.season_graph.specs.declared.nodes.Value.{Value}
+use Rattle.season_graph.specs.declared.nodes.Value.TheVariants as value
+use Rattle.season_graph.specs.Season.{SeasonFacts, Rising, bonuses_in, fixtures_of, gathered, has_line, no_figures, no_worth, own_value, players_of, took_part, with_bonus, with_worth, worth_in, worth_of}
+use Rattle.season_graph.specs.Told.{told, gameweek_figures}
+use Rattle.season_graph.proofs.DependentFacts.{below_or_above, same_test}
+
+-- no player has two lines
+abbrev Distinct : Lines → Type 0
+Distinct [] = Unit {0}
+Distinct (row ∷ lines) = (¬ Among (players_in lines) row.0) × Distinct lines
+
+not_below : (n : ℕ) → n < n → ⊥
+not_below n h = omega arith
+
+pub ascending_distinct : (lines : Lines) → Rising (players_in lines) → Distinct lines
+ascending_distinct [] up = tt
+ascending_distinct (row ∷ lines) up = ((λ a. not_below row.0 (up.0 row.0 a)), ascending_distinct lines up.1)
+
+entry_of : Appearance → ℕ × ℤ
+entry_of a = (a.player, bps_of a.position a.line)
+
+part_case : (t u : Bool) (g : ℕ → ℕ × ℤ) (x : ℕ) (xs : List ℕ) (a : Appearance) (rest : List Appearance) → t ≡ u → g x ≡ (a.player, bps_of a.position a.line)
+    → map g xs ≡ map (λ c. (c.player, bps_of c.position c.line)) rest → map g (cond t (x ∷ xs) xs) ≡ map (λ c. (c.player, bps_of c.position c.line)) (cond u (a ∷ rest) rest)
+part_case true true g x xs a rest e i o = ap₂ (λ y ys. y ∷ ys) i o
+part_case true false g x xs a rest e i o = absurd (cc)
+part_case false true g x xs a rest e i o = absurd (cc)
+part_case false false g x xs a rest e i o = o
+
+abbrev figures_record : ℤ → Bool → ℕ → ℕ → Figures
+figures_record points played goals conceded = record { points = points; played = played; goals = goals; conceded = conceded }
+
+same_number : (m n : ℕ) → (m == n) ≡ true → m ≡ n
+same_number m n e = grind (arith, nat_tests)
+
+abbrev with_bonus_rows : List (ℕ × ℤ) → List Appearance → List (ℕ × ℕ)
+with_bonus_rows table match = map (λ (row : ℕ × ℤ). (row.0, bonus_of table row.1)) (map (λ (a : Appearance). (a.player, bps_of a.position a.line)) (filter (λ a. takes_part a.line) match))
+
+map_twice : {X Y Z : Type 0} (f : Y → Z) (g : X → Y) (xs : List X) → map f (map g xs) ≡ map (λ x. f (g x)) xs
+map_twice f g [] = refl
+map_twice f g (x ∷ xs) = ap (λ ys. f (g x) ∷ ys) (map_twice f g xs)
+
+module _ (b : SeasonFacts) where
+  place : ℕ × Line → LineWorth
+  place row = worth_of b.profile (position_in b.players row.0) row.1
+
+  -- who took part, by the worth of the lines
+  pub took_part_is : (w : ℕ → LineWorth) (lines : Lines) → ((row : ℕ × Line) → Among lines row → w row.0 ≡ worth_of b.profile (position_in b.players row.0) row.1)
+      → took_part w (players_in lines) ≡ standing (map (appearance b.players) lines)
+  unfolding standing
+  took_part_is w [] e = refl
+  took_part_is w (row ∷ lines) e = part_case (nat_le 1 (w row.0).minutes) (takes_part row.1) (λ p. (p, (w p).bps)) row.0 (filter (λ p. nat_le 1 (w p).minutes) (players_in lines))
+      (appearance b.players row) (filter (λ a. takes_part a.line) (map (appearance b.players) lines))
+      (ap (λ (k : LineWorth). nat_le 1 k.minutes) (e row (inl refl))) (ap (λ (k : LineWorth). (row.0, k.bps)) (e row (inl refl)))
+      (took_part_is w lines (λ r a. e r (inr a)))
+
+  abbrev row_of : List (ℕ × ℤ) → Appearance → ℕ × ℕ
+  row_of table a = (a.player, bonus_of table (bps_of a.position a.line))
+
+  -- the rows of those of some lines who took part
+  abbrev rows_of : List (ℕ × ℤ) → Lines → List (ℕ × ℕ)
+  rows_of table lines = map (row_of table) (filter (λ a. takes_part a.line) (map (appearance b.players) lines))
+
+  head_case : (table : List (ℕ × ℤ)) (p : ℕ) (a : Appearance) (rest : List Appearance) (t : Bool)
+      → at_id (map (row_of table) (cond t (a ∷ rest) rest)) p ≡ cond t (cond (a.player == p) (Some (bonus_of table (bps_of a.position a.line))) (at_id (map (row_of table) rest) p)) (at_id (map (row_of table) rest) p)
+  head_case table p a rest true = refl
+  head_case table p a rest false = refl
+
+  both_none : (t u : Bool) (n : ℕ) (o : Option ℕ) → u ≡ false → o ≡ None → cond t (cond u (Some n) o) o ≡ None
+  both_none true u n o e i = ap (λ c. cond c (Some n) o) e ∙ i
+  both_none false u n o e i = i
+
+  rows_none : (table : List (ℕ × ℤ)) (lines : Lines) (p : ℕ) → (¬ Among (players_in lines) p) → at_id (rows_of table lines) p ≡ None
+  rows_none table [] p n = refl
+  rows_none table (row ∷ lines) p n =
+      head_case table p (appearance b.players row) (filter (λ a. takes_part a.line) (map (appearance b.players) lines)) (takes_part row.1)
+      ∙ both_none (takes_part row.1) (row.0 == p) (bonus_of table (bps_of (position_in b.players row.0) row.1)) (at_id (rows_of table lines) p)
+          (below_or_above row.0 p (λ e. n (inl e))) (rows_none table lines p (λ a. n (inr a)))
+
+  some_case : (t u : Bool) (row : ℕ × Line) (p : ℕ) (line : Line) (lines : Lines) (table : List (ℕ × ℤ)) → (row.0 == p) ≡ u → takes_part row.1 ≡ t
+      → cond u (Some row.1) (line_in lines p) ≡ Some line → (u ≡ true → row.0 ≡ p) → (u ≡ true → at_id (rows_of table lines) p ≡ None)
+      → (line_in lines p ≡ Some line → at_id (rows_of table lines) p ≡ (if takes_part line then Some (bonus_of table (bps_of (position_in b.players p) line)) else None))
+      → cond t (cond u (Some (bonus_of table (bps_of (position_in b.players row.0) row.1))) (at_id (rows_of table lines) p)) (at_id (rows_of table lines) p)
+      ≡ (if takes_part line then Some (bonus_of table (bps_of (position_in b.players p) line)) else None)
+  some_case true true row p line lines table e f at same none more =
+      let l = same_Some row.1 line at in
+      ap₂ (λ x y. Some (bonus_of table (bps_of (position_in b.players x) y))) (same refl) l
+      ∙ ap (λ t. if t then Some (bonus_of table (bps_of (position_in b.players p) line)) else None) (sym f ∙ ap takes_part l)
+  some_case false true row p line lines table e f at same none more =
+      none refl ∙ ap (λ t. if t then Some (bonus_of table (bps_of (position_in b.players p) line)) else None) (sym f ∙ ap takes_part (same_Some row.1 line at))
+  some_case true false row p line lines table e f at same none more = more at
+  some_case false false row p line lines table e f at same none more = more at
+
+  rows_some : (table : List (ℕ × ℤ)) (lines : Lines) (p : ℕ) (line : Line) → Distinct lines → line_in lines p ≡ Some line
+      → at_id (rows_of table lines) p ≡ (if takes_part line then Some (bonus_of table (bps_of (position_in b.players p) line)) else None)
+  rows_some table [] p line d e = absurd (cc)
+  rows_some table (row ∷ lines) p line d e =
+      head_case table p (appearance b.players row) (filter (λ a. takes_part a.line) (map (appearance b.players) lines)) (takes_part row.1)
+      ∙ some_case (takes_part row.1) (row.0 == p) row p line lines table refl refl e (same_number row.0 p)
+          (λ i. rows_none table lines p (subst (λ x. ¬ Among (players_in lines) x) (same_number row.0 p i) d.0))
+          (rows_some table lines p line d.1)
+
+  rows_are : (table : List (ℕ × ℤ)) (match : List Appearance) → with_bonus_rows table match ≡ map (row_of table) (filter (λ a. takes_part a.line) match)
+  rows_are table match = map_twice (λ (row : ℕ × ℤ). (row.0, bonus_of table row.1)) (λ a. (a.player, bps_of a.position a.line)) (filter (λ a. takes_part a.line) match)
+
+  unwrapped : (t : Bool) (n : ℕ) → unwrap_or (if t then Some n else None) 0 ≡ (if t then n else 0)
+  unwrapped true n = refl
+  unwrapped false n = refl
+
+  finished_case : (t : Bool) (f p : ℕ) (line : Line) → Distinct (lines_of b.matches f) → line_of b.matches f p ≡ Some line
+      → unwrap_or (at_id (if t then with_bonus (standing (map (appearance b.players) (lines_of b.matches f))) else []) p) 0
+      ≡ (if t then bonus_in (map (appearance b.players) (lines_of b.matches f)) (appearance b.players (p, line)) else 0)
+  unfolding standing
+  finished_case false f p line d e = refl
+  finished_case true f p line d e =
+      let match = map (appearance b.players) (lines_of b.matches f) in
+      let table = standing match in
+      ap (λ rows. unwrap_or (at_id rows p) 0) (rows_are table match)
+      ∙ ap (λ o. unwrap_or o 0) (rows_some table (lines_of b.matches f) p line d e)
+      ∙ unwrapped (takes_part line) (bonus_of table (bps_of (position_in b.players p) line))
+
+  -- a player's bonus among those that the rule book tells
+  pub bonus_told : (f p : ℕ) (line : Line) → Distinct (lines_of b.matches f) → line_of b.matches f p ≡ Some line
+      → unwrap_or (at_id (bonuses_in (Some (told b (node.Bonus f)))) p) 0 ≡ bonus_at b.players b.matches f (p, line)
+  bonus_told f p line d e = finished_case (is_finished b.matches f) f p line d e
+
+  -- a player's lines in the fixtures, added up one after another
+  abbrev beside_lines : ℕ → List ℕ → List (ℕ × Line)
+  beside_lines p fs = flat_map (line_beside b.matches p) fs
+
+  abbrev points_more : ℕ → ℤ → ℕ × Line → ℤ
+  points_more p total row = total +ℤ points_at b.profile b.players b.matches row.0 (p, row.1)
+
+  -- figures, and lines more
+  abbrev figures_and : ℕ → Figures → List (ℕ × Line) → Figures
+  figures_and p so_far lines = record {
+    points = fold (points_more p) so_far.points lines;
+    played = so_far.played || list_any (λ row. played_with row.1) lines;
+    goals = so_far.goals + sum_by (λ row. figure row.1 2) lines;
+    conceded = so_far.conceded + sum_by (λ row. figure row.1 4) lines;
+  }
+
+  same_figures : (points qoints : ℤ) (played qlayed : Bool) (goals hoals conceded donceded : ℕ) → points ≡ qoints → played ≡ qlayed → goals ≡ hoals → conceded ≡ donceded
+      → figures_record points played goals conceded ≡ figures_record qoints qlayed hoals donceded
+  same_figures points qoints played qlayed goals hoals conceded donceded i j k l = λ x. figures_record (i x) (j x) (k x) (l x)
+
+  or_parts : (a m y r c : Bool) → ((a || (m || (y || r))) || c) ≡ (a || ((m || y || r) || c))
+  or_parts true m y r c = refl
+  or_parts false true y r c = refl
+  or_parts false false true r c = refl
+  or_parts false false false r c = refl
+
+  one_line : (p f : ℕ) (so_far : Figures) (line : Line) (lines : List (ℕ × Line))
+      → figures_and p (with_worth so_far (worth_of b.profile (position_in b.players p) line) (bonus_at b.players b.matches f (p, line))) lines ≡ figures_and p so_far ((f, line) ∷ lines)
+  one_line p f so_far line lines =
+      let g = sum_by-cons (λ (row : ℕ × Line). figure row.1 2) (f, line) lines in
+      let c = sum_by-cons (λ (row : ℕ × Line). figure row.1 4) (f, line) lines in
+      same_figures _ _ _ _ _ _ _ _ refl
+      (or_parts so_far.played (nat_le 1 (figure line 1)) (figure line 8 == 1) (figure line 9 == 1) (list_any (λ row. played_with row.1) lines))
+      (add_assoc so_far.goals (figure line 2) (sum_by (λ row. figure row.1 2) lines) ∙ ap (λ n. so_far.goals + n) (sym g))
+      (add_assoc so_far.conceded (figure line 4) (sum_by (λ row. figure row.1 4) lines) ∙ ap (λ n. so_far.conceded + n) (sym c))
+
+  module _ (p : ℕ) (distinct : (f : ℕ) → Distinct (lines_of b.matches f)) where
+    abbrev worth_told : ℕ → LineWorth
+    worth_told f = worth_in (Some (told b (node.Line f p)))
+
+    abbrev bonus_by_told : ℕ → ℕ
+    bonus_by_told f = unwrap_or (at_id (bonuses_in (Some (told b (node.Bonus f)))) p) 0
+
+    abbrev step : Figures → ℕ → Figures
+    step figures f = with_worth figures (worth_told f) (bonus_by_told f)
+
+    or_none : (x : Bool) → x ≡ (x || false)
+    or_none true = refl
+    or_none false = refl
+
+    added : (fs : List ℕ) (z : ℤ) (t : Bool) (n k : ℕ) → fold step (figures_record z t n k) (filter (has_line b p) fs) ≡ figures_and p (figures_record z t n k) (beside_lines p fs)
+    added [] z t n k = same_figures z z t (t || false) n (n + 0) k (k + 0) refl (or_none t) (omega arith) (omega arith)
+    added (f ∷ fs) z t n k = more (line_of b.matches f p) refl (added fs)
+      where
+        more : (o : Option Line) → line_of b.matches f p ≡ o
+            → ((y : ℤ) (u : Bool) (m l : ℕ) → fold step (figures_record y u m l) (filter (has_line b p) fs) ≡ figures_and p (figures_record y u m l) (beside_lines p fs))
+            → fold step (figures_record z t n k) (cond (is_some o) (f ∷ filter (has_line b p) fs) (filter (has_line b p) fs)) ≡ figures_and p (figures_record z t n k) (option_map_or (λ line. (f, line) ∷ []) o [] ++ beside_lines p fs)
+        more None e rest = rest z t n k
+        more (Some line) e rest =
+            let so_far = figures_record z t n k in
+            let next = step so_far f in
+            rest next.points next.played next.goals next.conceded
+            ∙ ap (λ figures. figures_and p figures (beside_lines p fs))
+                (ap₂ (with_worth so_far) (ap (λ o. option_map_or (worth_of b.profile (position_in b.players p)) o no_worth) e) (bonus_told f p line (distinct f) e))
+            ∙ one_line p f so_far line (beside_lines p fs)
+
+    -- what a player did in a gameweek
+    pub gameweek_told : (g : ℕ) → gathered worth_told bonus_by_told (fixtures_of b p g) ≡ gameweek_figures b p g
+    gameweek_told g = added (standing_in b.calendar g) (pos 0) false 0 0
+        ∙ same_figures _ _ _ _ _ _ _ _ refl refl (zero-add (sum_by (λ row. figure row.1 2) (beside_lines p (standing_in b.calendar g)))) (zero-add (sum_by (λ row. figure row.1 4) (beside_lines p (standing_in b.calendar g))))
+
+  row_case : (t : Bool) (row : ℕ × Line) (lines : Lines) (p : ℕ) (line : Line) → t ≡ false → line_in lines p ≡ Some line → cond t (Some row.1) (line_in lines p) ≡ Some line
+  row_case t row lines p line e o = ap (λ c. cond c (Some row.1) (line_in lines p)) e ∙ o
+
+  among_players : (lines : Lines) (row : ℕ × Line) → Among lines row → Among (players_in lines) row.0
+  among_players [] row a = absurd a
+  among_players (r ∷ lines) row (inl e) = inl (ap (λ x. x.0) e)
+  among_players (r ∷ lines) row (inr a) = inr (among_players lines row a)
+
+  -- the line of a row is found by its player
+  row_found : (lines : Lines) (row : ℕ × Line) → Distinct lines → Among lines row → line_in lines row.0 ≡ Some row.1
+  row_found [] row d a = absurd a
+  row_found (r ∷ lines) row d (inl e) = ap (λ c. cond c (Some r.1) (line_in lines row.0)) (same_test r.0 row.0 (ap (λ x. x.0) e)) ∙ ap (λ x. Some x.1) e
+  row_found (r ∷ lines) row d (inr a) = row_case (r.0 == row.0) r lines row.0 row.1
+      (below_or_above r.0 row.0 (λ e. d.0 (subst (λ x. Among (players_in lines) x) (sym e) (among_players lines row a)))) (row_found lines row d.1 a)
+
+  -- the value that the rule book tells of a node is its own function of those that it tells of its inputs
+  pub own_told : ((f : ℕ) → Distinct (lines_of b.matches f)) → (n : Node) → Some (told b n) ≡ Some (own_value b n (λ m. Some (told b m)))
+  own_told distinct (node.Line f p) = refl
+  own_told distinct (node.Bonus f) = ap (λ table. Some (value.Bonus (if is_finished b.matches f then with_bonus table else [])))
+      (sym (took_part_is (λ p. worth_in (Some (told b (node.Line f p)))) (lines_of b.matches f)
+          (λ row a. ap (λ o. option_map_or (worth_of b.profile (position_in b.players row.0)) o no_worth) (row_found (lines_of b.matches f) row (distinct f) a))))
+  own_told distinct (node.PlayerGw p g) = ap (λ figures. Some (value.PlayerGw figures)) (sym (gameweek_told p distinct g))

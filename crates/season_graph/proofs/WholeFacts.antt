@@ -1,0 +1,86 @@
+-- Cells in which each live node was planted and nothing else are sound.
+use Rattle.std.proofs.Common.{◌≡◌, ℕ, ◌<◌, ◌≤◌, Bool, true, false, ◌&&◌, ◌==◌, cond, nat_le, nat_lt, ◌⊎◌, inl, inr, ⊎_elim, ◌↔◌, List, [], ◌∷◌, ◌++◌, Option, Some, None, IsSome, is_some, length, map, refl, sym, ◌∙◌, ap, subst, arith}
+use Rattle.std.specs.List.{flat_map}
+use Rattle.std.specs.Map.{keys_of}
+use Rattle.std.specs.Option.{unwrap_or}
+use Rattle.std.proofs.lemmas.Bool.Decides.{nat_tests}
+use Rattle.rule_book.specs.ById.{at_id}
+use Rattle.rule_book.specs.MatchFacts.{MatchFacts, Sheet, bare_sheet, lines_of}
+use Rattle.rule_book.specs.Players.{player_of}
+use Rattle.rescore_graph.specs.declared.cells.Slot.{Slot}
+use Rattle.rescore_graph.specs.Graph.{Among}
+use Rattle.rescore_graph.specs.States.{State, is_dirty}
+use Rattle.rescore_graph.specs.Settling.{Sound}
+use Rattle.season_graph.specs.declared.nodes.Node.{Node}
+use Rattle.season_graph.specs.declared.nodes.Node.TheVariants as node
+use Rattle.season_graph.specs.declared.nodes.Value.{Value}
+use Rattle.season_graph.specs.Reading.{among_left, among_right, to_flat, to_map}
+use Rattle.season_graph.specs.Refreshed.{refreshed, Refreshed}
+use Rattle.season_graph.specs.Season.{SeasonFacts, has_line, is_live, players_of, season_graph}
+use Rattle.season_graph.specs.SeasonLaws.{first_true, has_listed, has_some, second_true}
+use Rattle.season_graph.specs.Touched.{fixture_nodes, fixtures_nodes, locked_nodes, season_nodes}
+use Rattle.season_graph.proofs.LockFacts.{locked_among}
+
+clash : true ≡ false → ⊥
+clash e = cc
+
+same_id : (m n : ℕ) → (m == n) ≡ true → m ≡ n
+same_id m n e = grind (arith, nat_tests)
+
+at_case : (t : Bool) (sheet : Sheet) (rest : Option Sheet) → nat_lt 0 (length (unwrap_or (cond t (Some sheet) rest) bare_sheet).lines) ≡ true
+    → (t ≡ true) ⊎ (nat_lt 0 (length (unwrap_or rest bare_sheet).lines) ≡ true)
+at_case true sheet rest e = inl refl
+at_case false sheet rest e = inr e
+
+-- a fixture that has a line has facts
+with_lines : (facts : MatchFacts) (f : ℕ) → nat_lt 0 (length (lines_of facts f)) ≡ true → Among (keys_of facts) f
+with_lines [] f e = absurd (clash (sym e))
+with_lines (row ∷ rows) f e = ⊎_elim
+    (λ t. inl (same_id row.0 f t))
+    (λ r. inr (with_lines rows f r))
+    (at_case (row.0 == f) row.1 (at_id rows f) e)
+
+from_1 : (g : ℕ) → nat_le 1 g ≡ true → 0 < g
+from_1 g e = grind (arith, nat_tests)
+
+from_0 : (n : ℕ) → 0 ≤ n
+from_0 n = omega arith
+
+module _ (b : SeasonFacts) where
+  in_fixture : (f : ℕ) (n : Node) → nat_lt 0 (length (lines_of b.matches f)) ≡ true → Among (fixture_nodes b f) n → Among (season_nodes b) n
+  in_fixture f n e a = among_left (fixtures_nodes b) (locked_nodes b 0) n (to_flat (fixture_nodes b) (keys_of b.matches) f n (with_lines b.matches f e) a)
+
+  -- each live node is one of the season
+  pub live_among : (n : Node) → is_live b n ≡ true → Among (season_nodes b) n
+  live_among (node.Line f p) l = in_fixture f (node.Line f p) (has_some (lines_of b.matches f) p l) (inr (to_map (node.Line f) (players_of b f) p (has_listed (lines_of b.matches f) p l)))
+  live_among (node.Bonus f) l = in_fixture f (node.Bonus f) l (inl refl)
+  live_among (node.PlayerGw p g) l = among_right (fixtures_nodes b) (locked_nodes b 0) (node.PlayerGw p g)
+      (locked_among b 0 p g (from_0 b.calendar.locked)
+          (from_1 g (first_true (nat_le 1 g) (nat_le g b.calendar.locked) (second_true (is_some (player_of b.players p)) (nat_le 1 g && nat_le g b.calendar.locked) l))) l)
+
+-- a cell that was planted where its node is live
+planted_some : (l : Bool) (o : Option (Slot Value)) → o ≡ refreshed l None → is_some o ≡ l
+planted_some true o e = ap is_some e
+planted_some false o e = ap is_some e
+
+planted_dirty : (l : Bool) (o : Option (Slot Value)) → o ≡ refreshed l None → l ≡ true → is_dirty o ≡ true
+planted_dirty true o e l = ap is_dirty e
+planted_dirty false o e l = absurd (clash (sym l))
+
+dead_none : (l : Bool) (o : Option (Slot Value)) → (l ≡ true → ⊥) → o ≡ None → o ≡ refreshed l None
+dead_none true o dead e = absurd (dead refl)
+dead_none false o _ e = e
+
+-- from no cells
+pub whole_sound : (b : SeasonFacts) (ns : List Node) → ((n : Node) → is_live b n ≡ true → Among ns n) → (s t : State Node Value) → ((n : Node) → s n ≡ None) → Refreshed (is_live b) (Among ns) s t → Sound (season_graph b) t
+whole_sound b ns all s t empty r = record {
+  cells = λ n. let e = planted_some (is_live b n) (t n) (planted_at n) in ((λ y. sym e ∙ y), (λ l. e ∙ l));
+  inputs = λ n m l c a. absurd (clash (sym (planted_dirty (is_live b n) (t n) (planted_at n) l) ∙ c));
+  value = λ n l c. absurd (clash (sym (planted_dirty (is_live b n) (t n) (planted_at n) l) ∙ c));
+}
+  where
+    planted_at : (n : Node) → t n ≡ refreshed (is_live b n) None
+    planted_at n = ⊎_elim
+        (λ a. a.1 ∙ ap (refreshed (is_live b n)) (empty n))
+        (λ a. dead_none (is_live b n) (t n) (λ l. a.0 (all n l)) (a.1 ∙ empty n))
+        (r n)

@@ -1,0 +1,86 @@
+-- What one change of the facts leaves as it was.
+use Rattle.std.specs.Prelude.{◌≡◌, ◌≢◌, ◌≤◌, ℕ, List, Bool, true, false, ◌⊎◌, ◌↔◌, filter, is_some}
+use Rattle.rule_book.specs.Calendar.{stands_in}
+use Rattle.rule_book.specs.MatchFacts.{is_finished, line_of}
+use Rattle.rule_book.specs.PlayerFigures.{position_in}
+use Rattle.rule_book.specs.Players.{player_of}
+use Rattle.rescore_graph.specs.Graph.{Among}
+use Rattle.rescore_graph.specs.States.{State, is_dirty, IsDirty}
+use Rattle.rescore_graph.specs.Settling.{Sound}
+use Rattle.season_graph.specs.declared.nodes.Value.{Value}
+use Rattle.season_graph.specs.declared.nodes.Node.{Node}
+use Rattle.season_graph.specs.declared.nodes.Node.TheVariants as node
+use Rattle.season_graph.specs.Season.{SeasonFacts, has_line, players_of, fixtures_of, is_live, season_graph}
+
+module _ (b d : SeasonFacts) where
+  -- a node's inputs and its own facts are the same in both
+  abbrev pub IsSame : Node → Type 0
+  IsSame (node.Line f p) = (line_of b.matches f p ≡ line_of d.matches f p) × (b.profile ≡ d.profile) × (position_in b.players p ≡ position_in d.players p)
+  IsSame (node.Bonus f) = (players_of b f ≡ players_of d f) × (is_finished b.matches f ≡ is_finished d.matches f)
+  IsSame (node.PlayerGw p g) = fixtures_of b p g ≡ fixtures_of d p g
+
+  -- a node that the change from b to d leaves as it was
+  abbrev pub IsKept : Node → Type 0
+  IsKept n = (is_live b n ≡ is_live d n) × (is_live d n ≡ true → IsSame n)
+
+  -- a node that the change touches: it is live, and was not, or its inputs or own facts are others
+  abbrev pub IsTouched : Node → Type 0
+  IsTouched n = (is_live d n ≡ true) × (¬ IsKept n)
+
+  -- they differ at most in the line of a player in a fixture
+  pub record DifferInLine (f p : ℕ) : Type 0 where
+    pub profile : b.profile ≡ d.profile
+    pub calendar : b.calendar ≡ d.calendar
+    pub players : b.players ≡ d.players
+    pub marks : (k : ℕ) → is_finished b.matches k ≡ is_finished d.matches k
+    pub others : (k q : ℕ) → (k ≢ f) ⊎ (q ≢ p) → line_of b.matches k q ≡ line_of d.matches k q
+
+  -- they differ at most in the lines of some players in a fixture, and, if it is marked so, in its mark
+  pub record DifferInSheet (f : ℕ) (ps : List ℕ) (marked : Bool) : Type 0 where
+    pub profile : b.profile ≡ d.profile
+    pub calendar : b.calendar ≡ d.calendar
+    pub players : b.players ≡ d.players
+    pub marks : (k : ℕ) → (k ≢ f) ⊎ (marked ≡ false) → is_finished b.matches k ≡ is_finished d.matches k
+    pub others : (k q : ℕ) → (k ≢ f) ⊎ (¬ Among ps q) → line_of b.matches k q ≡ line_of d.matches k q
+
+  -- they differ at most in the mark of a fixture
+  pub record DifferInMark (f : ℕ) : Type 0 where
+    pub profile : b.profile ≡ d.profile
+    pub calendar : b.calendar ≡ d.calendar
+    pub players : b.players ≡ d.players
+    pub marks : (k : ℕ) → k ≢ f → is_finished b.matches k ≡ is_finished d.matches k
+    pub lines : (k q : ℕ) → line_of b.matches k q ≡ line_of d.matches k q
+
+  -- they differ at most in where a fixture stands
+  pub record DifferInPlace (f : ℕ) : Type 0 where
+    pub profile : b.profile ≡ d.profile
+    pub locked : b.calendar.locked ≡ d.calendar.locked
+    pub players : b.players ≡ d.players
+    pub matches : b.matches ≡ d.matches
+    pub others : (k : ℕ) → k ≢ f → stands_in b.calendar k ≡ stands_in d.calendar k
+
+module _ (b d : SeasonFacts) where
+  -- they differ in a player, who is new
+  pub record DifferInPlayer (p : ℕ) : Type 0 where
+    pub profile : b.profile ≡ d.profile
+    pub calendar : b.calendar ≡ d.calendar
+    pub matches : b.matches ≡ d.matches
+    pub absent : is_some (player_of b.players p) ≡ false
+    pub others : (q : ℕ) → q ≢ p → player_of b.players q ≡ player_of d.players q
+
+  -- more gameweeks are locked than the first ones
+  pub record DifferInLocks (first : ℕ) : Type 0 where
+    pub profile : b.profile ≡ d.profile
+    pub players : b.players ≡ d.players
+    pub matches : b.matches ≡ d.matches
+    pub fixtures : b.calendar.fixtures ≡ d.calendar.fixtures
+    pub before : b.calendar.locked ≡ first
+    pub rises : first ≤ d.calendar.locked
+
+-- cells s that are sound for the facts b became cells t that are sound for the facts d
+abbrev pub Follows : SeasonFacts → SeasonFacts → State Node Value → State Node Value → Type 0
+Follows b d s t = Sound (season_graph b) s → Sound (season_graph d) t
+
+-- where nothing was dirty, dirty are exactly the nodes that the change from b to d touches
+abbrev pub MarksTouched : SeasonFacts → SeasonFacts → State Node Value → State Node Value → Type 0
+MarksTouched b d s t = Sound (season_graph b) s → ((n : Node) → is_dirty (s n) ≡ false) → (n : Node) → IsDirty t n ↔ IsTouched b d n

@@ -1,0 +1,12 @@
+pub mod BookFacts
+pub mod Changes
+pub mod Dependents
+pub mod Evaluated
+pub mod Followed
+pub mod NodeOrder
+pub mod Reading
+pub mod Refreshed
+pub mod Season
+pub mod SeasonLaws
+pub mod Told
+pub mod Touched
