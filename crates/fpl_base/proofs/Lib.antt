@@ -1,3 +1,6 @@
+pub mod Around
+pub mod KeyLemmas
 pub mod NumberLemmas
+pub mod RowLemmas
 pub mod TextLemmas
 pub mod Written

@@ -1,5 +1,5 @@
 -- What a keeper keeps: bodies of bytes under keys.
-use Rattle.std.specs.Prelude.{◌≡◌, ◌<◌, ◌≤◌, ◌⊎◌, ℕ, Bool, ◌&&◌, ◌==◌, if◌then◌else◌, List, [], ◌∷◌, fold, AllPairs, Option, Some, None, Result, Err, OnOk}
+use Rattle.std.specs.Prelude.{◌≡◌, ◌≤◌, ℕ, Bool, IsTrue, ◌&&◌, ◌||◌, ◌==◌, nat_lt, if◌then◌else◌, List, [], ◌∷◌, fold, AllPairs, Option, Some, None, Result, Err, OnOk}
 use Rattle.fpl_base.specs.Causes.{Rose}
 use Rattle.fpl_base.specs.declared.outside.KeeperFault.{KeeperFault}
 use Rattle.fpl_base.specs.declared.outside.KeeperFault.TheVariants as fault
@@ -33,12 +33,12 @@ map_of [] key = None
 map_of (pair ∷ more) key = if is_same_key pair.0 key then Some pair.1 else map_of more key
 
 -- the order of keys: by kind, then a, b and c
-abbrev pub Precedes : Key → Key → Type 0
-Precedes x y = (x.kind < y.kind) ⊎ ((x.kind ≡ y.kind) × ((x.a < y.a) ⊎ ((x.a ≡ y.a) × ((x.b < y.b) ⊎ ((x.b ≡ y.b) × (x.c < y.c))))))
+abbrev pub precedes : Key → Key → Bool
+precedes x y = nat_lt x.kind y.kind || ((x.kind == y.kind) && (nat_lt x.a y.a || ((x.a == y.a) && (nat_lt x.b y.b || ((x.b == y.b) && nat_lt x.c y.c)))))
 
 -- each key is greater than those before it
 abbrev pub KeysRise : List (Key × List ℕ) → Type 0
-KeysRise = AllPairs (λ x y. Precedes x.0 y.0)
+KeysRise = AllPairs (λ x y. IsTrue (precedes x.0 y.0))
 
 -- the count of a keeper never falls, `Failed` is answered only where it rose, and it rises only there
 pub record HasKeeperCause {T : Type 0} (before now : ℕ) (result : Result T KeeperFault) : Type 0 where

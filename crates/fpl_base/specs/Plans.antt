@@ -1,6 +1,7 @@
 -- Which calls fail by choice, and what the forms over memory give and take.
 use Rattle.std.specs.Prelude.{ℕ, ◌-◌, Bool, ◌&&◌, ◌||◌, not, nat_lt, if◌then◌else◌, ◌==◌, List, [], length, take, min, max}
 use Rattle.std.specs.List.{list_any}
+use Rattle.fpl_base.specs.declared.records.RecordKey.{RecordKey as Key}
 use Rattle.fpl_base.specs.Causes.{one_more}
 
 -- the numbers of the calls that are to fail, counted from 1, and how many calls were made and failed so far
@@ -56,3 +57,9 @@ write_fails sink bytes = fails_next sink.plan || is_too_long sink bytes
 -- the plan after a write, in which one fault is counted at most
 abbrev pub plan_after_write : PlannedSink → List ℕ → Planned
 plan_after_write sink bytes = if not (fails_next sink.plan) && is_too_long sink bytes then with_fault (after_call sink.plan) else after_call sink.plan
+
+-- records under rising keys, kept by calls of which some fail; a commit that is to fail stores first or stores nothing
+pub record PlannedKeeper : Type 0 where
+  pub records : List (Key × List ℕ)
+  pub stores : Bool
+  pub plan : Planned

@@ -1,5 +1,6 @@
 // What a keeper keeps: bodies of bytes under keys.
 ghost use Rattle.std.specs.Prelude.{◌≡◌, ◌++◌, [], ◌∷◌, ℕ, List, IfOk, OnOk, OnErr};
+ghost use Rattle.fpl_base.specs.Keeping.{precedes};
 
 use crate::Memory;
 use std::alloc::Global;
@@ -15,6 +16,24 @@ pub struct RecordKey {
     pub c: u32,
 }
 
+impl RecordKey {
+    /// Whether it stands before the other one.
+    pub fn precedes(&self, other: &RecordKey) -> bool
+        ensures { result ≡ precedes self.now other.now }
+    {
+        if self.kind != other.kind {
+            return self.kind < other.kind;
+        }
+        if self.a != other.a {
+            return self.a < other.a;
+        }
+        if self.b != other.b {
+            return self.b < other.b;
+        }
+        self.c < other.c
+    }
+}
+
 /// A list of bytes, as the body of a record.
 #[derive(Drop)]
 pub struct Bytes {
@@ -22,6 +41,8 @@ pub struct Bytes {
 }
 
 impl Model for Bytes {
+    ghost use Rattle.std.specs.Prelude.{List, ℕ};
+
     ghost Value = { List ℕ };
 
     ghost view = { λ b. b.bytes.items };
@@ -72,4 +93,16 @@ pub enum Op {
     Put(RecordKey, Bytes),
     /// There is no record of this key from now on.
     Delete(RecordKey),
+}
+
+impl Op {
+    /// The same change once more.
+    pub fn copy(&self) -> Result<Self, Memory>
+        ensures { IfOk result (λ op. op ≡ self.now) }
+    {
+        match self {
+            Op::Put(key, body) => Ok(Op::Put(*key, body.copy()?)),
+            Op::Delete(key) => Ok(Op::Delete(*key)),
+        }
+    }
 }
