@@ -1,3 +1,4 @@
+pub mod AgreeFacts
 pub mod Examples
 pub mod OrderFacts
 pub mod RankLemmas

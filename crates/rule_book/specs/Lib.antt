@@ -37,6 +37,7 @@ pub mod Refusals
 pub mod Repeats
 pub mod RowsInOrder
 pub mod ScoreOfTeam
+pub mod ScoresAgree
 pub mod Scoring
 pub mod Squads
 pub mod Tables
