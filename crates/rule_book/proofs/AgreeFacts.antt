@@ -1,8 +1,9 @@
 -- What hangs on the gameweeks up to one alone.
-use Rattle.std.proofs.Common.{◌≡◌, ◌∙◌, ◌≤◌, ◌<◌, ◌+◌, ◌-◌, ◌*◌, ℕ, zero, suc, List, [], ◌∷◌, Option, Some, None, length, map, arith, refl, ap}
+use Rattle.std.proofs.Common.{◌≡◌, ◌∙◌, ◌≤◌, ◌<◌, ◌+◌, ◌-◌, ◌*◌, ◌/◌, ◌^◌, ℕ, zero, Bool, true, false, nat_le, if◌then◌else◌, suc, List, [], ◌∷◌, Option, Some, None, length, map, arith, refl, ap}
 use Rattle.std.specs.Prelude.{ℤ, max, position, slice_index, ◌==◌}
 use Rattle.std.specs.List.{range_with_len}
 use Rattle.std.specs.Option.{option_map_or}
+use Rattle.std.proofs.lemmas.Bool.Decides.{nat_tests}
 use Rattle.fpl_base.specs.declared.kinds.Profile.{Profile}
 use Rattle.rule_book.specs.declared.cup.Bracket.{Bracket}
 use Rattle.rule_book.specs.declared.cup.Side.{Side}
@@ -10,6 +11,7 @@ use Rattle.rule_book.specs.declared.pairing.Opponent.{Opponent}
 use Rattle.rule_book.specs.declared.pairing.Opponent.TheVariants.{Place, Average}
 use Rattle.rule_book.specs.declared.player.Player.{Player}
 use Rattle.rule_book.specs.Calendar.{CalendarFacts}
+use Rattle.rule_book.specs.CupRounds.{winners_of}
 use Rattle.rule_book.specs.Cups.{coin_after, goes_through, winner}
 use Rattle.rule_book.specs.EntryScores.{score_at, score_in}
 use Rattle.rule_book.specs.HeadToHead.{head_score, total_of}
@@ -20,7 +22,7 @@ use Rattle.rule_book.specs.Leagues.{LeagueFacts}
 use Rattle.rule_book.specs.MatchFacts.{MatchFacts}
 use Rattle.rule_book.specs.Opponents.{mean_of, opponent_of}
 use Rattle.rule_book.specs.PlayerFigures.{position_in}
-use Rattle.rule_book.specs.ScoresAgree.{AllSameUpTo, RowsAgree, SameUpTo, ScoresAgree, TotalsAgree, WinnersAgree}
+use Rattle.rule_book.specs.ScoresAgree.{AllSameUpTo, RoundsAgree, RowsAgree, SameUpTo, ScoresAgree, TotalsAgree, WinnersAgree}
 use Rattle.rule_book.specs.TeamOfHistory.{team_of}
 use Rattle.rule_book.specs.Totals.{gameweeks, total_from}
 use Rattle.rule_book.proofs.UpToFacts.{count_the_same, tell_the_same}
@@ -89,3 +91,12 @@ winners_agree b side other k (suc r) i e le =
     ap (λ n. goes_through n (winner b side r (2 * i + 1)) (λ x. side x (b.start + r)) (coin_after b r i)) one
     ∙ ap (λ n. goes_through (winner b other r (2 * i)) n (λ x. side x (b.start + r)) (coin_after b r i)) two
     ∙ through_agrees (winner b other r (2 * i)) (winner b other r (2 * i + 1)) (λ x. side x (b.start + r)) (λ x. other x (b.start + r)) (coin_after b r i) (λ x. e x (b.start + r) (omega arith))
+
+rounds_by : (b : Bracket) (side other : ℕ → ℕ → Side) (locked round : ℕ) (is : Bool) → nat_le (b.start + round) (locked + 1) ≡ is → AllSameUpTo locked side other → (if is then Some (winners_of b side round) else None) ≡ (if is then Some (winners_of b other round) else None)
+rounds_by b side other locked round false e same = refl
+rounds_by b side other locked round true e same =
+    let le : b.start + round ≤ locked + 1 = grind (arith, nat_tests) in
+    ap Some (each (winner b side round) (winner b other round) (λ tie. winners_agree b side other locked round tie same le) (range_with_len 0 (length b.slots / 2 ^ round)))
+
+pub rounds_agree : RoundsAgree
+rounds_agree b side other locked round same = rounds_by b side other locked round (nat_le (b.start + round) (locked + 1)) refl same

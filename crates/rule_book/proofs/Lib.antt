@@ -7,3 +7,4 @@ pub mod TableOrder
 pub mod TeamFacts
 pub mod UpToFacts
 pub mod Worked
+pub mod WorkedSeason

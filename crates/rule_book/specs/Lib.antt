@@ -6,6 +6,7 @@ pub mod ById
 pub mod Calendar
 pub mod ClassicTable
 pub mod CupLaws
+pub mod CupRounds
 pub mod Cups
 pub mod Elevens
 pub mod Entries

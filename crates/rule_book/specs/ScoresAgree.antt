@@ -5,6 +5,7 @@ use Rattle.rule_book.specs.declared.cup.Bracket.{Bracket}
 use Rattle.rule_book.specs.declared.cup.Side.{Side}
 use Rattle.rule_book.specs.declared.player.Player.{Player}
 use Rattle.rule_book.specs.Calendar.{CalendarFacts}
+use Rattle.rule_book.specs.CupRounds.{locked_winners}
 use Rattle.rule_book.specs.Cups.{winner}
 use Rattle.rule_book.specs.EntryScores.{score_at}
 use Rattle.rule_book.specs.History.{Event}
@@ -38,3 +39,7 @@ pub record RowsAgree (net other : ℕ → ℕ → ℤ) (locked : ℕ) (league : 
 -- the winners of a round that is played by gameweek k hang on the sides up to k
 abbrev pub WinnersAgree : Type 0
 WinnersAgree = (b : Bracket) (side other : ℕ → ℕ → Side) (k round tie : ℕ) → AllSameUpTo k side other → b.start + round ≤ k + 1 → winner b side round tie ≡ winner b other round tie
+
+-- what is shown of a round hangs on the sides of locked gameweeks
+abbrev pub RoundsAgree : Type 0
+RoundsAgree = (b : Bracket) (side other : ℕ → ℕ → Side) (locked round : ℕ) → AllSameUpTo locked side other → locked_winners b side locked round ≡ locked_winners b other locked round

@@ -3,7 +3,7 @@ ghost use Rattle.std.specs.Prelude.{ℕ, ℤ, List};
 ghost use Rattle.fpl_base.specs.declared.kinds.Position.{Position};
 ghost use Rattle.rule_book.specs.History.{Event};
 ghost use Rattle.rule_book.specs.Leagues.{LeagueFacts};
-ghost use Rattle.rule_book.specs.ScoresAgree.{AllSameUpTo, RowsAgree, ScoresAgree, TotalsAgree, WinnersAgree};
+ghost use Rattle.rule_book.specs.ScoresAgree.{AllSameUpTo, RoundsAgree, RowsAgree, ScoresAgree, TotalsAgree, WinnersAgree};
 ghost use Rattle.rule_book.specs.Tables.{ClassicTableIsTheOne, HeadTableIsTheOne};
 ghost use Rattle.rule_book.specs.TeamOfHistory.{FirstIsTheStart, FreeIsTold, TeamIsTheOne, TeamIsTold};
 ghost use Rattle.rule_book.specs.UpTo.{AgreeUpTo};
@@ -58,7 +58,8 @@ pub fn totals_and_rows_agree()
     ensures rows { (net other : ℕ → ℕ → ℤ) (locked : ℕ) (league : LeagueFacts) → AllSameUpTo locked net other → RowsAgree net other locked league }
 {}
 
-/// A law: the winners of locked rounds hang on the sides of locked gameweeks alone.
+/// A law: the winners of locked rounds, and what is shown of any round, hang on the sides of locked gameweeks alone.
 pub fn winners_agree()
-    ensures { WinnersAgree }
+    ensures winners { WinnersAgree }
+    ensures rounds { RoundsAgree }
 {}
