@@ -2,3 +2,5 @@ pub mod DrawLemmas
 pub mod MatchLemmas
 pub mod RoundLemmas
 pub mod StandingLemmas
+pub mod OpponentFacts
+pub mod MeanFacts

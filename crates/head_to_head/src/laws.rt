@@ -3,6 +3,7 @@ ghost use Rattle.std.specs.Prelude.{◌≡◌, ◌≢◌, ◌≤◌, ◌<◌, �
 ghost use Rattle.rule_book.specs.Pairings.{MeetsOne, MeetOnce, IsOpponent};
 ghost use Rattle.rule_book.specs.declared.pairing.Opponent.{Opponent};
 ghost use Rattle.rule_book.specs.HeadToHead.{head_score};
+ghost use Rattle.rule_book.specs.Opponents.{MeanIsTheOne, OpponentIsTheOne};
 
 /// A law: in each round, each of an even number of places meets one other place, which meets it; so a member has one
 /// opponent.
@@ -20,4 +21,14 @@ pub fn meet_once()
 pub fn points_by_results()
     ensures results { (ms : List (ℤ × ℤ)) → (head_score ms).won + (head_score ms).drawn + (head_score ms).lost ≡ length ms }
     ensures points { (ms : List (ℤ × ℤ)) → (head_score ms).points ≡ 3 * (head_score ms).won + (head_score ms).drawn }
+{}
+
+/// A law: of two members or more, the opponent of a place in a round is `opponent_of`, and no other.
+pub fn opponent_is_the_one()
+    ensures { OpponentIsTheOne }
+{}
+
+/// A law: of one member or more, the points of the Average are `mean_of`, and no others.
+pub fn mean_is_the_one()
+    ensures { MeanIsTheOne }
 {}

@@ -1,3 +1,4 @@
+pub mod AgreeFacts
 pub mod Examples
 pub mod OrderFacts
 pub mod RankLemmas
@@ -6,3 +7,4 @@ pub mod TableOrder
 pub mod TeamFacts
 pub mod UpToFacts
 pub mod Worked
+pub mod WorkedSeason

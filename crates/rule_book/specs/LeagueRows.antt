@@ -32,6 +32,10 @@ abbrev pub matches_of : (ℕ → ℕ → ℤ) → ℕ → LeagueFacts → ℕ �
 matches_of net locked league entry =
     option_map_or (λ place. map (match_in net league entry place) (gameweeks league.start locked)) (position (λ member. member == entry) league.order) []
 
--- the rows of a head-to-head league: for each member what it has of its matches
+-- a row of a head-to-head league: a member and what it has of its matches
+abbrev pub head_row : (ℕ → ℕ → ℤ) → ℕ → LeagueFacts → ℕ → ℕ × HeadScore
+head_row net locked league entry = (entry, head_score (matches_of net locked league entry))
+
+-- one for each member
 abbrev pub head_rows : (ℕ → ℕ → ℤ) → ℕ → LeagueFacts → List (ℕ × HeadScore)
-head_rows net locked league = map (λ entry. (entry, head_score (matches_of net locked league entry))) league.members
+head_rows net locked league = map (head_row net locked league) league.members

@@ -6,6 +6,7 @@ pub mod ById
 pub mod Calendar
 pub mod ClassicTable
 pub mod CupLaws
+pub mod CupRounds
 pub mod Cups
 pub mod Elevens
 pub mod Entries
@@ -37,6 +38,7 @@ pub mod Refusals
 pub mod Repeats
 pub mod RowsInOrder
 pub mod ScoreOfTeam
+pub mod ScoresAgree
 pub mod Scoring
 pub mod Squads
 pub mod Tables

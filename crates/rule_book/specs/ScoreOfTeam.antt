@@ -34,3 +34,10 @@ ScoreIsTheOne = (team : Team) (figures : List Figures) (ended : Bool) (cost : �
 -- a side of a cup tie: the points after deductions, and the goals of the final eleven
 abbrev pub side_of : TeamScore → Side
 side_of score = record { net = score.net; goals = score.goals; conceded = score.conceded }
+
+-- by what each entry scores in each gameweek: its points after deductions, and its side of a tie
+abbrev pub nets : (ℕ → ℕ → TeamScore) → ℕ → ℕ → ℤ
+nets score entry g = (score entry g).net
+
+abbrev pub sides : (ℕ → ℕ → TeamScore) → ℕ → ℕ → Side
+sides score entry g = side_of (score entry g)

@@ -1,7 +1,9 @@
 // What follows from the definitions alone.
-ghost use Rattle.std.specs.Prelude.{ℕ, List};
+ghost use Rattle.std.specs.Prelude.{ℕ, ℤ, List};
 ghost use Rattle.fpl_base.specs.declared.kinds.Position.{Position};
 ghost use Rattle.rule_book.specs.History.{Event};
+ghost use Rattle.rule_book.specs.Leagues.{LeagueFacts};
+ghost use Rattle.rule_book.specs.ScoresAgree.{AllSameUpTo, RoundsAgree, RowsAgree, ScoresAgree, TotalsAgree, WinnersAgree};
 ghost use Rattle.rule_book.specs.Tables.{ClassicTableIsTheOne, HeadTableIsTheOne};
 ghost use Rattle.rule_book.specs.TeamOfHistory.{FirstIsTheStart, FreeIsTold, TeamIsTheOne, TeamIsTold};
 ghost use Rattle.rule_book.specs.UpTo.{AgreeUpTo};
@@ -43,4 +45,21 @@ pub fn open_deeds_agree()
 pub fn tables_are_the_one()
     ensures classic { ClassicTableIsTheOne }
     ensures head { HeadTableIsTheOne }
+{}
+
+/// A law: histories that agree up to a gameweek and start alike score the same up to it.
+pub fn scores_agree()
+    ensures { ScoresAgree }
+{}
+
+/// A law: totals and the rows of leagues hang on the points of the locked gameweeks alone.
+pub fn totals_and_rows_agree()
+    ensures totals { TotalsAgree }
+    ensures rows { (net other : ℕ → ℕ → ℤ) (locked : ℕ) (league : LeagueFacts) → AllSameUpTo locked net other → RowsAgree net other locked league }
+{}
+
+/// A law: the winners of locked rounds, and what is shown of any round, hang on the sides of locked gameweeks alone.
+pub fn winners_agree()
+    ensures winners { WinnersAgree }
+    ensures rounds { RoundsAgree }
 {}
