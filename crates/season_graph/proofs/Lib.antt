@@ -10,3 +10,6 @@ pub mod ToldFacts
 pub mod SheetFacts
 pub mod ComingFacts
 pub mod WholeFacts
+pub mod MatchChanges
+pub mod PlaceChanges
+pub mod AlikeFacts

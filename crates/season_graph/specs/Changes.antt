@@ -1,5 +1,6 @@
 -- What one change of the facts leaves as it was.
 use Rattle.std.specs.Prelude.{◌≡◌, ◌≢◌, ◌≤◌, ℕ, List, Bool, true, false, ◌⊎◌, ◌↔◌, filter, is_some}
+use Rattle.std.specs.Option.{option_map}
 use Rattle.rule_book.specs.Calendar.{stands_in}
 use Rattle.rule_book.specs.MatchFacts.{is_finished, line_of}
 use Rattle.rule_book.specs.PlayerFigures.{position_in}
@@ -76,6 +77,14 @@ module _ (b d : SeasonFacts) where
     pub fixtures : b.calendar.fixtures ≡ d.calendar.fixtures
     pub before : b.calendar.locked ≡ first
     pub rises : first ≤ d.calendar.locked
+
+  -- they differ in nothing that a node hangs on
+  pub record AreAlike : Type 0 where
+    pub profile : b.profile ≡ d.profile
+    pub locked : b.calendar.locked ≡ d.calendar.locked
+    pub fixtures : b.calendar.fixtures ≡ d.calendar.fixtures
+    pub matches : b.matches ≡ d.matches
+    pub positions : (q : ℕ) → option_map (λ x. x.position) (player_of b.players q) ≡ option_map (λ x. x.position) (player_of d.players q)
 
 -- cells s that are sound for the facts b became cells t that are sound for the facts d
 abbrev pub Follows : SeasonFacts → SeasonFacts → State Node Value → State Node Value → Type 0

@@ -13,7 +13,7 @@ use Rattle.season_graph.specs.declared.nodes.Node.{Node}
 use Rattle.season_graph.specs.declared.nodes.Node.TheVariants as node
 use Rattle.season_graph.specs.declared.nodes.Value.{Value}
 use Rattle.season_graph.specs.BookFacts.{facts_of}
-use Rattle.season_graph.specs.Changes.{DifferInLine, DifferInLocks, DifferInMark, DifferInPlace, DifferInPlayer, DifferInSheet, Follows, MarksTouched}
+use Rattle.season_graph.specs.Changes.{AreAlike, DifferInLine, DifferInLocks, DifferInMark, DifferInPlace, DifferInPlayer, DifferInSheet, Follows, MarksTouched}
 use Rattle.season_graph.specs.Evaluated.{IsEvaluated}
 use Rattle.season_graph.specs.NodeOrder.{node_cmp}
 use Rattle.season_graph.specs.Refreshed.{Refreshed}
@@ -139,3 +139,7 @@ module _ (b : Books) where
 
   abbrev pub LocksMarked : ℕ → SeasonRows → SeasonRows → Type 0
   LocksMarked first old new = MarksFrom (λ before. DifferInLocks before (facts_of b) first) old new
+
+  -- nothing that a node hangs on: the cells follow as they are
+  abbrev pub AlikeFollowed : SeasonRows → Type 0
+  AlikeFollowed cells = FollowsFrom (λ before. AreAlike before (facts_of b)) cells cells

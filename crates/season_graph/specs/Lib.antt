@@ -1,3 +1,4 @@
+pub mod BookChanges
 pub mod BookFacts
 pub mod Changes
 pub mod Dependents

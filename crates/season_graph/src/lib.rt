@@ -23,6 +23,6 @@ pub use changes::{
     fact_changed, fixture_moved, gameweeks_locked, mark_changed, player_added, sheet_changed,
 };
 pub use evaluation::{evaluate_all, settle_season};
-pub use laws::replay_is_told;
+pub use laws::{books_alike, calendar_changes, matches_change, players_change, replay_is_told};
 pub use nodes::{Bonuses, LineWorth, Node, Value, is_same};
 pub use rules::{SeasonCells, SeasonRules};

@@ -1,0 +1,191 @@
+-- What a change of the calendar and of the players leaves.
+use Rattle.std.proofs.Common.{◌≡◌, ◌≢◌, ℕ, ◌<◌, ◌≤◌, ◌==◌, nat_lt, max, Bool, true, false, cond, if◌then◌else◌, ◌⊎◌, inl, inr, ⊎_elim, List, [], ◌∷◌, ◌++◌, Option, Some, None, is_some, map, refl, sym, ◌∙◌, ap, ap₂, subst, arith}
+use Rattle.std.specs.List.{filter, find}
+use Rattle.std.specs.Option.{option_and_then, option_map, option_or}
+use Rattle.std.proofs.lemmas.Bool.{cases_order}
+use Rattle.std.proofs.lemmas.Bool.Decides.{nat_tests}
+use Rattle.std.proofs.lemmas.List.Folds.{find-append}
+use Rattle.rule_book.specs.declared.player.Player.{Player}
+use Rattle.rule_book.specs.declared.season.Fixture.{Fixture}
+use Rattle.rule_book.specs.Calendar.{moved_to, passed_deadlines}
+use Rattle.fpl_base.specs.declared.kinds.Position.{Position}
+use Rattle.rule_book.specs.Players.{player_of, with_change, with_player}
+use Rattle.season_graph.specs.BookChanges.{ClubChanges, DeadlineMoves, FixtureComes, FixtureMoves, GoneChanges, MomentPasses, PlayerComes, PriceChanges, with_players}
+use Rattle.season_graph.specs.Changes.{AreAlike}
+use Rattle.season_graph.specs.Season.{SeasonFacts, IsSeason, has_line}
+use Rattle.season_graph.proofs.ChangedFacts.{same_or_not}
+
+clash : true ≡ false → ⊥
+clash e = cc
+
+or_none : {X : Type 0} (o : Option X) → option_or o None ≡ o
+or_none None = refl
+or_none (Some x) = refl
+
+none_or : {X : Type 0} (o : Option X) → option_or None o ≡ o
+none_or o = refl
+
+module _ {X : Type 0} (t u : X → Bool) where
+  kept_case : (x : X) (ys : List X) (rest : Option X) (a c : Bool) → t x ≡ a → (a ≡ true → c ≡ true) → find t ys ≡ rest → find t (cond c (x ∷ ys) ys) ≡ cond a (Some x) rest
+  kept_case x ys rest a true e h r = ap₂ (λ p o. cond p (Some x) o) e r
+  kept_case x ys rest true false e h r = absurd (clash (sym (h refl)))
+  kept_case x ys rest false false e h r = r
+
+  -- what a filter keeps is found as before
+  find_kept : (xs : List X) → ((x : X) → t x ≡ true → u x ≡ true) → find t (filter u xs) ≡ find t xs
+  find_kept [] h = refl
+  find_kept (x ∷ xs) h = kept_case x (filter u xs) (find t xs) (t x) (u x) refl (h x) (find_kept xs h)
+
+  lost_case : (x : X) (ys : List X) (a c : Bool) → t x ≡ a → (a ≡ true → c ≡ false) → find t ys ≡ None → find t (cond c (x ∷ ys) ys) ≡ None
+  lost_case x ys true true e h r = absurd (clash (h refl))
+  lost_case x ys false true e h r = ap₂ (λ p o. cond p (Some x) o) e r
+  lost_case x ys a false e h r = r
+
+  -- what it takes away is not
+  find_lost : (xs : List X) → ((x : X) → t x ≡ true → u x ≡ false) → find t (filter u xs) ≡ None
+  find_lost [] h = refl
+  find_lost (x ∷ xs) h = lost_case x (filter u xs) (t x) (u x) refl (h x) (find_lost xs h)
+
+is_lower : (n q k : ℕ) → q < k → (n == q) ≡ true → nat_lt n k ≡ true
+is_lower n q k low e = grind (arith, nat_tests, e)
+
+is_no_lower : (n q k : ℕ) → k < q → (n == q) ≡ true → nat_lt n k ≡ false
+is_no_lower n q k low e = grind (arith, nat_tests, e)
+
+is_higher : (n q k : ℕ) → k < q → (n == q) ≡ true → nat_lt k n ≡ true
+is_higher n q k high e = grind (arith, nat_tests, e)
+
+is_no_higher : (n q k : ℕ) → q < k → (n == q) ≡ true → nat_lt k n ≡ false
+is_no_higher n q k high e = grind (arith, nat_tests, e)
+
+is_other_id : (k q : ℕ) → q ≢ k → (k == q) ≡ false
+is_other_id k q n = case (k == q) refl
+  where
+    case : (b : Bool) → (k == q) ≡ b → b ≡ false
+    case true e = absurd (n (grind (arith, nat_tests, e)))
+    case false e = refl
+
+module _ {X : Type 0} (id_of : X → ℕ) where
+  -- a new one at its place by id hides no other
+  found_placed : (xs : List X) (x : X) (q : ℕ) → q ≢ id_of x
+      → find (λ y. id_of y == q) (filter (λ y. nat_lt (id_of y) (id_of x)) xs ++ x ∷ filter (λ y. nat_lt (id_of x) (id_of y)) xs) ≡ find (λ y. id_of y == q) xs
+  found_placed xs x q n =
+      let t : X → Bool = λ y. id_of y == q in
+      let low : X → Bool = λ y. nat_lt (id_of y) (id_of x) in
+      let high : X → Bool = λ y. nat_lt (id_of x) (id_of y) in
+      let skipped : find t (x ∷ filter high xs) ≡ find t (filter high xs) = ap (λ p. cond p (Some x) (find t (filter high xs))) (is_other_id (id_of x) q n) in
+      find-append t (filter low xs) (x ∷ filter high xs)
+      ∙ ap (option_or (find t (filter low xs))) skipped
+      ∙ elim (cases_order q (id_of x)) [
+        | inl same ↦ absurd (n same)
+        | inr (inl lt) ↦
+            ap₂ option_or (find_kept t low xs (λ y e. is_lower (id_of y) q (id_of x) lt e)) (find_lost t high xs (λ y e. is_no_higher (id_of y) q (id_of x) lt e))
+            ∙ or_none (find t xs)
+        | inr (inr gt) ↦
+            ap₂ option_or (find_lost t low xs (λ y e. is_no_lower (id_of y) q (id_of x) gt e)) (find_kept t high xs (λ y e. is_higher (id_of y) q (id_of x) gt e))
+            ∙ none_or (find t xs)
+      ]
+
+moved_case : (f k : ℕ) (to : Option ℕ) (kickoff : ℕ) (x : Fixture) (r s : Option Fixture) (b : Bool) → k ≢ f → (x.id == f) ≡ b → r ≡ s
+    → cond ((if b then record x { gw = to; kickoff = kickoff } else x).id == k) (Some (if b then record x { gw = to; kickoff = kickoff } else x)) r ≡ cond (x.id == k) (Some x) s
+moved_case f k to kickoff x r s true n e i =
+    let skip : (x.id == k) ≡ false = is_other_id x.id k (λ j. n (j ∙ same_number x.id f e)) in
+    ap (λ p. cond p (Some (record x { gw = to; kickoff = kickoff })) r) skip ∙ i ∙ sym (ap (λ p. cond p (Some x) s) skip)
+  where
+    same_number : (m n : ℕ) → (m == n) ≡ true → m ≡ n
+    same_number m n e = grind (arith, nat_tests)
+moved_case f k to kickoff x r s false n e i = ap (cond (x.id == k) (Some x)) i
+
+-- a fixture that moves moves no other
+found_moved : (xs : List Fixture) (f k : ℕ) (to : Option ℕ) (kickoff : ℕ) → k ≢ f → find (λ x. x.id == k) (map (moved_to f to kickoff) xs) ≡ find (λ x. x.id == k) xs
+found_moved [] f k to kickoff n = refl
+found_moved (x ∷ xs) f k to kickoff n = moved_case f k to kickoff x (find (λ x. x.id == k) (map (moved_to f to kickoff) xs)) (find (λ x. x.id == k) xs) (x.id == f) n refl (found_moved xs f k to kickoff n)
+
+-- a moved fixture, a new one, a passed moment and a moved deadline leave a season
+pub fixture_moves : FixtureMoves
+fixture_moves b f to kickoff is lawful = (
+  record { calendar = lawful; ascending = is.ascending; ranges = is.ranges; there = is.there },
+  record { profile = refl; locked = refl; players = refl; matches = refl; others = λ k n. ap (option_and_then (λ x. x.gw)) (sym (found_moved b.calendar.fixtures f k to kickoff n)) })
+
+pub fixture_comes : FixtureComes
+fixture_comes b x is lawful = (
+  record { calendar = lawful; ascending = is.ascending; ranges = is.ranges; there = is.there },
+  record { profile = refl; locked = refl; players = refl; matches = refl; others = λ k n. ap (option_and_then (λ y. y.gw)) (sym (found_placed (λ y. y.id) b.calendar.fixtures x k n)) })
+
+not_less : (n m : ℕ) → n ≤ max n m
+not_less n m = omega arith
+
+pub moment_passes : MomentPasses
+moment_passes b now is lawful = (
+  record { calendar = lawful; ascending = is.ascending; ranges = is.ranges; there = is.there },
+  record { profile = refl; players = refl; matches = refl; fixtures = refl; before = refl; rises = not_less b.calendar.locked (passed_deadlines b.calendar.deadlines now) })
+
+pub deadline_moves : DeadlineMoves
+deadline_moves b g t is lawful = (
+  record { calendar = lawful; ascending = is.ascending; ranges = is.ranges; there = is.there },
+  record { profile = refl; locked = refl; fixtures = refl; matches = refl; positions = λ q. refl })
+
+-- so does a new player
+pub player_comes : PlayerComes
+player_comes b x is new =
+    let others : (q : ℕ) → q ≢ x.id → player_of b.players q ≡ player_of (with_player b.players x) q = λ q n. sym (found_placed (λ y. y.id) b.players x q n) in
+    (record {
+      calendar = is.calendar;
+      ascending = is.ascending;
+      ranges = is.ranges;
+      there = λ f p h. ⊎_elim
+          (λ e. absurd (clash (sym (is.there f x.id (subst (λ q. has_line b q f ≡ true) e h)) ∙ new)))
+          (λ n. ap is_some (sym (others p n)) ∙ is.there f p h)
+          (same_or_not p x.id);
+    },
+    record { profile = refl; calendar = refl; matches = refl; absent = new; others = others })
+
+abbrev place : Option Player → Option Position
+place o = option_map (λ x. x.position) o
+
+-- and a player who changes in nothing that a node hangs on
+module _ (change : Player → Player) (same_id : (x : Player) → (change x).id ≡ x.id) (same_position : (x : Player) → (change x).position ≡ x.position) where
+  as_it_was : (x : Player) (q : ℕ) (r s : Option Player) (t u : Bool) → t ≡ u → place r ≡ place s → place (cond t (Some (change x)) r) ≡ place (cond u (Some x) s)
+  as_it_was x q r s true true e i = ap Some (same_position x)
+  as_it_was x q r s true false e i = absurd (clash e)
+  as_it_was x q r s false true e i = absurd (clash (sym e))
+  as_it_was x q r s false false e i = i
+
+  itself : (x : Player) (r s : Option Player) (t : Bool) → place r ≡ place s → place (cond t (Some x) r) ≡ place (cond t (Some x) s)
+  itself x r s true i = refl
+  itself x r s false i = i
+
+  change_case : (x : Player) (q : ℕ) (r s : Option Player) (b : Bool) → place r ≡ place s
+      → place (cond ((if b then change x else x).id == q) (Some (if b then change x else x)) r) ≡ place (cond (x.id == q) (Some x) s)
+  change_case x q r s true i = as_it_was x q r s ((change x).id == q) (x.id == q) (ap (λ n. n == q) (same_id x)) i
+  change_case x q r s false i = itself x r s (x.id == q) i
+
+  places_stay : (xs : List Player) (p q : ℕ) → place (player_of (with_change change xs p) q) ≡ place (player_of xs q)
+  places_stay [] p q = refl
+  places_stay (x ∷ xs) p q = change_case x q (player_of (with_change change xs p) q) (player_of xs q) (x.id == p) (places_stay xs p q)
+
+  there_still : (o r : Option Player) → place o ≡ place r → is_some o ≡ is_some r
+  there_still o r e = sym (some_place o) ∙ ap is_some e ∙ some_place r
+    where
+      some_place : (k : Option Player) → is_some (place k) ≡ is_some k
+      some_place None = refl
+      some_place (Some x) = refl
+
+  pub player_changes : (b : SeasonFacts) (p : ℕ) → IsSeason b → let d = with_players b (with_change change b.players p) in IsSeason d × AreAlike b d
+  player_changes b p is = (
+    record {
+      calendar = is.calendar;
+      ascending = is.ascending;
+      ranges = is.ranges;
+      there = λ f q h. there_still (player_of (with_change change b.players p) q) (player_of b.players q) (places_stay b.players p q) ∙ is.there f q h;
+    },
+    record { profile = refl; locked = refl; fixtures = refl; matches = refl; positions = λ q. sym (places_stay b.players p q) })
+
+pub price_changes : PriceChanges
+price_changes b p price is = player_changes (λ x. record x { price = price }) (λ x. refl) (λ x. refl) b p is
+
+pub club_changes : ClubChanges
+club_changes b p club is = player_changes (λ x. record x { club = club }) (λ x. refl) (λ x. refl) b p is
+
+pub gone_changes : GoneChanges
+gone_changes b p gone is = player_changes (λ x. record x { gone = gone }) (λ x. refl) (λ x. refl) b p is

@@ -1,0 +1,90 @@
+-- What the calls that change the books do to the facts: each leaves a season, which differs from the one before as the
+-- cells can follow it.
+use Rattle.std.specs.Prelude.{◌≡◌, ℕ, Bool, true, false, List, Option, Some, None, is_some}
+use Rattle.rule_book.specs.declared.line.Line.{Line}
+use Rattle.rule_book.specs.declared.player.Player.{Player}
+use Rattle.rule_book.specs.declared.season.Fixture.{Fixture}
+use Rattle.rule_book.specs.Calendar.{CalendarFacts, IsCalendar, after_pass, with_deadline, with_fixture, with_move}
+use Rattle.rule_book.specs.Figures.{IsLine}
+use Rattle.rule_book.specs.MatchCalls.{drop_line, put_line, put_sheet, set_finished}
+use Rattle.rule_book.specs.MatchFacts.{Lines, MatchFacts, is_finished, line_in, line_of, players_in}
+use Rattle.rule_book.specs.Players.{player_of, with_club, with_gone, with_player, with_price}
+use Rattle.rule_book.specs.Repeats.{first_repeat}
+use Rattle.rescore_graph.specs.Graph.{Among}
+use Rattle.season_graph.specs.Changes.{AreAlike, DifferInLine, DifferInLocks, DifferInMark, DifferInPlace, DifferInPlayer, DifferInSheet}
+use Rattle.season_graph.specs.Season.{SeasonFacts, IsSeason}
+
+-- the facts with other lines and marks, with another calendar, with other players
+abbrev pub with_matches : SeasonFacts → MatchFacts → SeasonFacts
+with_matches b matches = record b { matches = matches }
+
+abbrev pub with_calendar : SeasonFacts → CalendarFacts → SeasonFacts
+with_calendar b calendar = record b { calendar = calendar }
+
+abbrev pub with_players : SeasonFacts → List Player → SeasonFacts
+with_players b players = record b { players = players }
+
+-- a line is put in: it is in its ranges, and the player is there
+abbrev pub LineIsPut : Type 0
+LineIsPut = (b : SeasonFacts) (f p : ℕ) (line : Line) → IsSeason b → IsLine line → is_some (player_of b.players p) ≡ true
+    → let d = with_matches b (put_line b.matches f p line) in IsSeason d × DifferInLine b d f p
+
+-- a line is taken away
+abbrev pub LineIsDropped : Type 0
+LineIsDropped = (b : SeasonFacts) (f p : ℕ) → IsSeason b → let d = with_matches b (drop_line b.matches f p) in IsSeason d × DifferInLine b d f p
+
+-- a mark is set or taken away
+abbrev pub MarkIsSet : Type 0
+MarkIsSet = (b : SeasonFacts) (f : ℕ) (finished : Bool) → IsSeason b
+    → let d = with_matches b (set_finished b.matches f finished) in IsSeason d × DifferInMark b d f
+
+-- lines that a sheet can have: each player once, each line in its ranges, each player there
+pub record AreSheetLines (players : List Player) (lines : Lines) : Type 0 where
+  pub once : first_repeat (players_in lines) ≡ None
+  pub ranges : (p : ℕ) (line : Line) → line_in lines p ≡ Some line → IsLine line
+  pub there : (p : ℕ) → is_some (line_in lines p) ≡ true → is_some (player_of players p) ≡ true
+
+-- among some players are all whose line is another one in a sheet, and its mark is another only where it is said so
+pub record AreOthers (b : SeasonFacts) (f : ℕ) (lines : Lines) (finished : Bool) (ps : List ℕ) (marked : Bool) : Type 0 where
+  pub lines_stay : (q : ℕ) → (¬ Among ps q) → line_of b.matches f q ≡ line_in lines q
+  pub mark_stays : marked ≡ false → is_finished b.matches f ≡ finished
+
+-- a sheet is put in
+abbrev pub SheetIsPut : Type 0
+SheetIsPut = (b : SeasonFacts) (f : ℕ) (lines : Lines) (finished : Bool) (ps : List ℕ) (marked : Bool)
+    → IsSeason b → AreSheetLines b.players lines → AreOthers b f lines finished ps marked
+    → let d = with_matches b (put_sheet b.matches f lines finished) in IsSeason d × DifferInSheet b d f ps marked
+
+-- a fixture moves, or is added
+abbrev pub FixtureMoves : Type 0
+FixtureMoves = (b : SeasonFacts) (f : ℕ) (to : Option ℕ) (kickoff : ℕ) → IsSeason b
+    → let d = with_calendar b (with_move b.calendar f to kickoff) in IsCalendar d.calendar → IsSeason d × DifferInPlace b d f
+
+abbrev pub FixtureComes : Type 0
+FixtureComes = (b : SeasonFacts) (x : Fixture) → IsSeason b
+    → let d = with_calendar b (with_fixture b.calendar x) in IsCalendar d.calendar → IsSeason d × DifferInPlace b d x.id
+
+-- a moment is told
+abbrev pub MomentPasses : Type 0
+MomentPasses = (b : SeasonFacts) (now : ℕ) → IsSeason b
+    → let d = with_calendar b (after_pass b.calendar now) in IsCalendar d.calendar → IsSeason d × DifferInLocks b d b.calendar.locked
+
+-- a player comes
+abbrev pub PlayerComes : Type 0
+PlayerComes = (b : SeasonFacts) (x : Player) → IsSeason b → is_some (player_of b.players x.id) ≡ false
+    → let d = with_players b (with_player b.players x) in IsSeason d × DifferInPlayer b d x.id
+
+-- a deadline moves: no node is touched
+abbrev pub DeadlineMoves : Type 0
+DeadlineMoves = (b : SeasonFacts) (g t : ℕ) → IsSeason b
+    → let d = with_calendar b (with_deadline b.calendar g t) in IsCalendar d.calendar → IsSeason d × AreAlike b d
+
+-- a player has another price, another club, or another mark that he is gone: no node is touched
+abbrev pub PriceChanges : Type 0
+PriceChanges = (b : SeasonFacts) (p price : ℕ) → IsSeason b → let d = with_players b (with_price b.players p price) in IsSeason d × AreAlike b d
+
+abbrev pub ClubChanges : Type 0
+ClubChanges = (b : SeasonFacts) (p club : ℕ) → IsSeason b → let d = with_players b (with_club b.players p club) in IsSeason d × AreAlike b d
+
+abbrev pub GoneChanges : Type 0
+GoneChanges = (b : SeasonFacts) (p : ℕ) (gone : Bool) → IsSeason b → let d = with_players b (with_gone b.players p gone) in IsSeason d × AreAlike b d
