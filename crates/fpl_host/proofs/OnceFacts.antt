@@ -8,7 +8,7 @@ use Rattle.season_host.specs.declared.answer.Answer.{Answer}
 use Rattle.season_host.specs.declared.answer.Answer.TheVariants as answer
 use Rattle.season_host.specs.declared.request.Request.{Request}
 use Rattle.fpl_http.specs.Stream.{Request as Message}
-use Rattle.fpl_json.specs.Targets.{OneFound}
+use Rattle.fpl_routes.specs.Targets.{OneFound}
 use Rattle.fpl_session.specs.Replies.{Speaks}
 use Rattle.fpl_session.specs.Runs.{Run}
 use Rattle.fpl_host.specs.Once.{AreJudged, IsJudgedAs, MessagesActOnce, OneAsked}

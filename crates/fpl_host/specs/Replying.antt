@@ -9,15 +9,15 @@ use Rattle.season_host.specs.Verdict.{MayAnswer, MayBeLeft}
 use Rattle.season_host.specs.declared.answer.Answer.{Answer}
 use Rattle.season_host.specs.declared.request.Request.{Request as Asked}
 use Rattle.fpl_json.specs.Answers.{answer_data, status_of}
-use Rattle.fpl_json.specs.Callers.{is_for}
-use Rattle.fpl_json.specs.FieldNames.{name_of}
+use Rattle.fpl_routes.specs.Callers.{is_for}
+use Rattle.fpl_bodies.specs.FieldNames.{name_of}
 use Rattle.fpl_json.specs.MemberData.{error_data, malformed_data}
-use Rattle.fpl_json.specs.Requests.{request_of}
-use Rattle.fpl_json.specs.Targets.{IsFound}
-use Rattle.fpl_json.specs.declared.field.FieldName.{FieldName}
-use Rattle.fpl_json.specs.declared.route.Found.{Found}
-use Rattle.fpl_json.specs.declared.route.Found.TheVariants as found
-use Rattle.fpl_json.specs.declared.route.Route.{Route}
+use Rattle.fpl_bodies.specs.Requests.{request_of}
+use Rattle.fpl_routes.specs.Targets.{IsFound}
+use Rattle.fpl_bodies.specs.declared.field.FieldName.{FieldName}
+use Rattle.fpl_routes.specs.declared.route.Found.{Found}
+use Rattle.fpl_routes.specs.declared.route.Found.TheVariants as found
+use Rattle.fpl_routes.specs.declared.route.Route.{Route}
 use Rattle.fpl_http.specs.Responses.{memory_text}
 use Rattle.fpl_http.specs.Stream.{Request}
 

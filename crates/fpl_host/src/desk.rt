@@ -4,7 +4,7 @@ ghost use Rattle.fpl_base.specs.declared.kinds.Caller.{Caller};
 ghost use Rattle.fpl_http.specs.Responses.{is_answer_status};
 ghost use Rattle.fpl_http.specs.Seen.{request_seen};
 ghost use Rattle.fpl_session.specs.Replies.{answer_in, body_of};
-ghost use Rattle.fpl_json.specs.Requests.{request_of};
+ghost use Rattle.fpl_bodies.specs.Requests.{request_of};
 ghost use Rattle.season_host.specs.Hosts.{IsRequest};
 ghost use Rattle.fpl_host.specs.Desks.{Asks};
 ghost use Rattle.fpl_host.specs.Replying.{Asking, IsAsked, IsReply, Judges, Served, asked_by, caller_of, reply_of, unless_malformed};

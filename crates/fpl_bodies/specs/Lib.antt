@@ -1,0 +1,3 @@
+pub mod FieldNames
+pub mod Members
+pub mod Requests

@@ -1,0 +1,147 @@
+-- What is asked by a route, its ids and a body.
+use Rattle.std.specs.Prelude.{ℕ, Bool, true, not, ◌==◌, ◌&&◌, List, [], ◌∷◌, length, if◌then◌else◌, Result, Ok, Err, slice_index}
+use Rattle.std.specs.List.{list_any}
+use Rattle.rule_book.specs.declared.line.Line.{Line}
+use Rattle.record_codec.specs.declared.command.Command.{Command}
+use Rattle.record_codec.specs.declared.command.Command.TheVariants as command
+use Rattle.season_host.specs.Commands.{club_ids}
+use Rattle.season_host.specs.declared.request.Request.{Request}
+use Rattle.season_host.specs.declared.request.Request.TheVariants as request
+use Rattle.season_host.specs.declared.request.View.{View}
+use Rattle.season_host.specs.declared.request.View.TheVariants as view
+use Rattle.serde_json.specs.Data.{Data}
+use Rattle.fpl_bodies.specs.declared.field.FieldName.{FieldName}
+use Rattle.fpl_bodies.specs.declared.field.FieldName.TheVariants as field
+use Rattle.fpl_routes.specs.declared.route.Asks.{Asks}
+use Rattle.fpl_routes.specs.declared.route.Asks.TheVariants as asks
+use Rattle.fpl_routes.specs.declared.route.CommandRoute.{CommandRoute}
+use Rattle.fpl_routes.specs.declared.route.CommandRoute.TheVariants as route
+use Rattle.fpl_routes.specs.declared.route.Route.{Route}
+use Rattle.fpl_routes.specs.declared.route.ViewRoute.{ViewRoute}
+use Rattle.fpl_routes.specs.declared.route.ViewRoute.TheVariants as seen
+use Rattle.fpl_bodies.specs.Members.{◌>>=◌, each, entry, if_long, items, list, moment, object_of, place, position_in, title, truth, under, whole}
+
+-- The parts of commands.
+
+-- a club with its name
+abbrev pub club : Data → Result (ℕ × List ℕ) FieldName
+club d = whole field.Id 1 255 d >>= λ id. title field.Name d >>= λ name. Ok (id, name)
+
+-- no number stands twice
+abbrev pub differ : List ℕ → Bool
+differ [] = true
+differ (x ∷ xs) = not (list_any (λ y. y == x) xs) && differ xs
+
+abbrev pub if_differ : List (ℕ × List ℕ) → Result (List (ℕ × List ℕ)) FieldName
+if_differ clubs = if differ (club_ids clubs) then Ok clubs else Err field.Clubs
+
+-- 1 to 20 clubs with different ids
+abbrev pub clubs : Data → Result (List (ℕ × List ℕ)) FieldName
+clubs d = list field.Clubs 1 20 club d >>= if_differ
+
+-- 1 to 38 moments
+abbrev pub deadlines : Data → Result (List ℕ) FieldName
+deadlines d = list field.Deadlines 1 38 (entry field.Deadlines 0 253402300799) d
+
+-- 28 figures
+abbrev pub line : Data → Result Line FieldName
+line d = list field.Figures 28 28 (entry field.Figures 0 65535) d >>= λ figures. Ok (record { figures = figures })
+
+-- a player with his figures
+abbrev pub player_line : Data → Result (ℕ × Line) FieldName
+player_line d = whole field.Player 1 999999 d >>= λ player. line d >>= λ figures. Ok (player, figures)
+
+-- at most 100 lines
+abbrev pub lines : Data → Result (List (ℕ × Line)) FieldName
+lines d = list field.Lines 0 100 player_line d
+
+-- a guest club, which is not the home club
+abbrev pub if_guest : ℕ → ℕ → Result ℕ FieldName
+if_guest home away = if away == home then Err field.Away else Ok away
+
+abbrev pub guest : ℕ → Data → Result ℕ FieldName
+guest home d = whole field.Away 1 255 d >>= if_guest home
+
+-- The commands, each by its members in their order.
+
+abbrev pub season : Data → Result Command FieldName
+season d =
+    deadlines d >>= λ ms. whole field.Split 0 (length ms) d >>= λ split. clubs d >>= λ cs.
+    Ok (command.Season ms split cs)
+
+abbrev pub deadline : Data → Result Command FieldName
+deadline d = whole field.Gameweek 1 38 d >>= λ g. moment field.Deadline d >>= λ m. Ok (command.Deadline g m)
+
+abbrev pub player : Data → Result Command FieldName
+player d =
+    whole field.Id 1 999999 d >>= λ id. title field.Name d >>= λ name. position_in field.Position d >>= λ pos.
+    whole field.Club 1 255 d >>= λ c. whole field.Price 0 65535 d >>= λ price.
+    Ok (command.Player id name pos c price)
+
+abbrev pub price : Data → Result Command FieldName
+price d = whole field.Player 1 999999 d >>= λ p. whole field.Price 0 65535 d >>= λ n. Ok (command.Price p n)
+
+abbrev pub player_club : Data → Result Command FieldName
+player_club d = whole field.Player 1 999999 d >>= λ p. whole field.Club 1 255 d >>= λ c. Ok (command.Club p c)
+
+abbrev pub gone : Data → Result Command FieldName
+gone d = whole field.Player 1 999999 d >>= λ p. truth field.Gone d >>= λ is_gone. Ok (command.Gone p is_gone)
+
+abbrev pub fixture : Data → Result Command FieldName
+fixture d =
+    whole field.Id 1 999999 d >>= λ id. whole field.Home 1 255 d >>= λ home. guest home d >>= λ away.
+    place field.Gameweek d >>= λ g. moment field.Kickoff d >>= λ kickoff.
+    Ok (command.Fixture id home away g kickoff)
+
+abbrev pub move : ℕ → Data → Result Command FieldName
+move f d = place field.Gameweek d >>= λ g. moment field.Kickoff d >>= λ kickoff. Ok (command.Move f g kickoff)
+
+abbrev pub sheet : ℕ → Data → Result Command FieldName
+sheet f d = lines d >>= λ ls. truth field.Finished d >>= λ finished. Ok (command.Sheet f ls finished)
+
+abbrev pub put : ℕ → Data → Result Command FieldName
+put f d = player_line d >>= λ one. Ok (command.Line f one.0 one.1)
+
+abbrev pub drop : ℕ → Data → Result Command FieldName
+drop f d = whole field.Player 1 999999 d >>= λ p. Ok (command.Drop f p)
+
+abbrev pub finish : ℕ → Data → Result Command FieldName
+finish f d = truth field.Finished d >>= λ finished. Ok (command.Finished f finished)
+
+-- the command of a route at a fixture, where its target names one
+abbrev pub command_of : CommandRoute → ℕ → Data → Result Command FieldName
+command_of route.Season f d = season d
+command_of route.Deadlines f d = deadline d
+command_of route.Players f d = player d
+command_of route.Prices f d = price d
+command_of route.Clubs f d = player_club d
+command_of route.Gone f d = gone d
+command_of route.Fixtures f d = fixture d
+command_of route.Move f d = move f d
+command_of route.Sheet f d = sheet f d
+command_of route.Line f d = put f d
+command_of route.Drop f d = drop f d
+command_of route.Finished f d = finish f d
+
+-- The requests.
+
+-- the view of a route, at the ids of its target
+abbrev pub view_of : ViewRoute → List ℕ → View
+view_of seen.ShowSeason ids = view.Season
+view_of seen.ShowPlayer ids = view.Player (slice_index ids 0)
+view_of seen.ShowPlayerGameweek ids = view.PlayerGameweek (slice_index ids 0) (slice_index ids 1)
+view_of seen.ShowFixture ids = view.Fixture (slice_index ids 0)
+
+-- the command that a body orders, under its number, which comes first
+abbrev pub ordered : CommandRoute → ℕ → List ℕ → Result Request FieldName
+ordered which f body =
+    object_of body >>= λ d. whole field.Number 1 9223372036854775807 d >>= λ number. command_of which f d >>= λ c.
+    Ok (request.Command number c)
+
+-- what is asked: a command, or a view, whatever its body is
+abbrev pub asked : Asks → List ℕ → List ℕ → Result Request FieldName
+asked (asks.Command which) ids body = ordered which (slice_index ids 0) body
+asked (asks.View which) ids body = Ok (request.View (view_of which ids))
+
+abbrev pub request_of : Route → List ℕ → List ℕ → Result Request FieldName
+request_of route ids body = asked route.asks ids body

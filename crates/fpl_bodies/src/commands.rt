@@ -1,0 +1,198 @@
+// The commands, each by its members in their order.
+ghost use Rattle.std.specs.Prelude.{◌≢◌, IfOk};
+ghost use Rattle.season_host.specs.Commands.{IsCommand};
+ghost use Rattle.fpl_bodies.specs.Members.{Gives};
+ghost use Rattle.fpl_bodies.specs.Requests.{command_of, deadline, drop, finish, fixture, gone, guest, move, player, player_club, price, put, season, sheet};
+ghost use Rattle.json_tree.specs.Trees.{view};
+
+use crate::lists::{clubs, deadlines, lines, player_line};
+use crate::members::{
+    club_id, fixture_id, gameweek, moment, place, player_id, position, price, title, truth, whole,
+    wrong,
+};
+use crate::{FieldName, ReadFault};
+use fpl_base::ClubId;
+use fpl_routes::CommandRoute;
+use json_tree::Tree;
+use record_codec::Command;
+use std::alloc::Global;
+
+/// The command of a route at a fixture, where its target names one.
+pub(crate) fn read_command(
+    alloc: Global,
+    which: CommandRoute,
+    fixture_there: u32,
+    value: &Tree<'_>,
+) -> Result<Command, ReadFault>
+    ensures gives { Gives result (command_of which fixture_there (view value.now)) }
+    ensures readable { IfOk result IsCommand }
+{
+    match which {
+        CommandRoute::Season => season(alloc, value),
+        CommandRoute::Deadlines => deadline(value),
+        CommandRoute::Players => player(alloc, value),
+        CommandRoute::Prices => new_price(value),
+        CommandRoute::Clubs => new_club(value),
+        CommandRoute::Gone => gone(value),
+        CommandRoute::Fixtures => fixture(value),
+        CommandRoute::Move => moved(fixture_there, value),
+        CommandRoute::Sheet => sheet(alloc, fixture_there, value),
+        CommandRoute::Line => put(alloc, fixture_there, value),
+        CommandRoute::Drop => dropped(fixture_there, value),
+        CommandRoute::Finished => finished(fixture_there, value),
+    }
+}
+
+fn season(alloc: Global, value: &Tree<'_>) -> Result<Command, ReadFault>
+    ensures gives { Gives result (season (view value.now)) }
+    ensures readable { IfOk result IsCommand }
+{
+    let deadlines = deadlines(alloc, value)?;
+    let greatest = deadlines.as_slice().len() as u64;
+    let split = whole(value, FieldName::Split, 0, greatest)?;
+    let clubs = clubs(alloc, value)?;
+    Ok(Command::Season {
+        deadlines,
+        split: split as u8,
+        clubs,
+    })
+}
+
+fn deadline(value: &Tree<'_>) -> Result<Command, ReadFault>
+    ensures gives { Gives result (deadline (view value.now)) }
+    ensures readable { IfOk result IsCommand }
+{
+    let gameweek = gameweek(value, FieldName::Gameweek)?;
+    let deadline = moment(value, FieldName::Deadline)?;
+    Ok(Command::Deadline { gameweek, deadline })
+}
+
+fn player(alloc: Global, value: &Tree<'_>) -> Result<Command, ReadFault>
+    ensures gives { Gives result (player (view value.now)) }
+    ensures readable { IfOk result IsCommand }
+{
+    let id = player_id(value, FieldName::Id)?;
+    let name = title(alloc, value, FieldName::Name)?;
+    let position = position(value, FieldName::Position)?;
+    let club = club_id(value, FieldName::Club)?;
+    let price = price(value, FieldName::Price)?;
+    Ok(Command::Player {
+        id,
+        name,
+        position,
+        club,
+        price,
+    })
+}
+
+fn new_price(value: &Tree<'_>) -> Result<Command, ReadFault>
+    ensures gives { Gives result (price (view value.now)) }
+    ensures readable { IfOk result IsCommand }
+{
+    let player = player_id(value, FieldName::Player)?;
+    let price = price(value, FieldName::Price)?;
+    Ok(Command::Price { player, price })
+}
+
+fn new_club(value: &Tree<'_>) -> Result<Command, ReadFault>
+    ensures gives { Gives result (player_club (view value.now)) }
+    ensures readable { IfOk result IsCommand }
+{
+    let player = player_id(value, FieldName::Player)?;
+    let club = club_id(value, FieldName::Club)?;
+    Ok(Command::Club { player, club })
+}
+
+fn gone(value: &Tree<'_>) -> Result<Command, ReadFault>
+    ensures gives { Gives result (gone (view value.now)) }
+    ensures readable { IfOk result IsCommand }
+{
+    let player = player_id(value, FieldName::Player)?;
+    let gone = truth(value, FieldName::Gone)?;
+    Ok(Command::Gone { player, gone })
+}
+
+fn fixture(value: &Tree<'_>) -> Result<Command, ReadFault>
+    ensures gives { Gives result (fixture (view value.now)) }
+    ensures readable { IfOk result IsCommand }
+{
+    let id = fixture_id(value, FieldName::Id)?;
+    let home = club_id(value, FieldName::Home)?;
+    let away = guest(value, home)?;
+    let gameweek = place(value, FieldName::Gameweek)?;
+    let kickoff = moment(value, FieldName::Kickoff)?;
+    Ok(Command::Fixture {
+        id,
+        home,
+        away,
+        gameweek,
+        kickoff,
+    })
+}
+
+// The guest club, which is not the home club.
+fn guest(value: &Tree<'_>, home: ClubId) -> Result<ClubId, ReadFault>
+    ensures gives { Gives result (guest home (view value.now)) }
+    ensures other { IfOk result (λ away. home ≢ away) }
+{
+    let away = club_id(value, FieldName::Away)?;
+    if away == home {
+        Err(wrong(FieldName::Away))
+    } else {
+        Ok(away)
+    }
+}
+
+fn moved(fixture: u32, value: &Tree<'_>) -> Result<Command, ReadFault>
+    ensures gives { Gives result (move fixture (view value.now)) }
+    ensures readable { IfOk result IsCommand }
+{
+    let gameweek = place(value, FieldName::Gameweek)?;
+    let kickoff = moment(value, FieldName::Kickoff)?;
+    Ok(Command::Move {
+        fixture,
+        gameweek,
+        kickoff,
+    })
+}
+
+fn sheet(alloc: Global, fixture: u32, value: &Tree<'_>) -> Result<Command, ReadFault>
+    ensures gives { Gives result (sheet fixture (view value.now)) }
+    ensures readable { IfOk result IsCommand }
+{
+    let lines = lines(alloc, value)?;
+    let finished = truth(value, FieldName::Finished)?;
+    Ok(Command::Sheet {
+        fixture,
+        lines,
+        finished,
+    })
+}
+
+fn put(alloc: Global, fixture: u32, value: &Tree<'_>) -> Result<Command, ReadFault>
+    ensures gives { Gives result (put fixture (view value.now)) }
+    ensures readable { IfOk result IsCommand }
+{
+    let (player, line) = player_line(alloc, value)?;
+    Ok(Command::Line {
+        fixture,
+        player,
+        line,
+    })
+}
+
+fn dropped(fixture: u32, value: &Tree<'_>) -> Result<Command, ReadFault>
+    ensures gives { Gives result (drop fixture (view value.now)) }
+    ensures readable { IfOk result IsCommand }
+{
+    let player = player_id(value, FieldName::Player)?;
+    Ok(Command::Drop { fixture, player })
+}
+
+fn finished(fixture: u32, value: &Tree<'_>) -> Result<Command, ReadFault>
+    ensures gives { Gives result (finish fixture (view value.now)) }
+    ensures readable { IfOk result IsCommand }
+{
+    let finished = truth(value, FieldName::Finished)?;
+    Ok(Command::Finished { fixture, finished })
+}

@@ -1,0 +1,14 @@
+//! What a body orders: the members of each command in their order, and the first that is wrong.
+#![tactic(auto)]
+
+mod commands;
+mod field;
+mod lists;
+mod members;
+mod requests;
+#[cfg(test)]
+mod tests;
+
+pub use field::{FieldName, ReadFault};
+pub use json_tree::Scratch;
+pub use requests::read_request;

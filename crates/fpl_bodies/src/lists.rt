@@ -1,0 +1,172 @@
+// Readers of the lists that commands hold.
+ghost use Rattle.std.specs.Prelude.{◌≡◌, ◌≤◌, ◌==◌, ◌&&◌, IfOk, Result, length, nat_le};
+ghost use Rattle.std.specs.List.{list_any};
+ghost use Rattle.season_host.specs.Commands.{club_ids};
+ghost use Rattle.rule_book.specs.Ranks.{AllDiffer};
+ghost use Rattle.fpl_bodies.specs.declared.field.FieldName.{FieldName};
+ghost use Rattle.fpl_bodies.specs.declared.field.FieldName.TheVariants as field;
+ghost use Rattle.fpl_bodies.specs.Members.{Gives, GivesItems, each, entry, under};
+ghost use Rattle.fpl_bodies.specs.Requests.{club, clubs, deadlines, differ, line, lines, player_line};
+ghost use Rattle.json_tree.specs.Trees.{items_view, view};
+
+use crate::members::{club_id, entry, items, moment_entry, player_id, title, wrong};
+use crate::{FieldName, ReadFault};
+use fpl_base::{ClubId, Name, PlayerId};
+use json_tree::Tree;
+use record_codec::{Clubs, Lines, Moments};
+use rule_book::Line;
+use std::alloc::Global;
+
+// Whatever is wrong inside of a list, the list is named.
+fn under<T: Drop>(read: Result<T, ReadFault>, list: FieldName) -> Result<T, ReadFault>
+    ensures { (given : Result T FieldName) → Gives read given → Gives result (under list given) }
+{
+    match read {
+        Ok(value) => Ok(value),
+        Err(ReadFault::Memory) => Err(ReadFault::Memory),
+        Err(ReadFault::Malformed { field: _ }) => Err(wrong(list)),
+    }
+}
+
+fn is_long(count: usize, low: usize, high: usize) -> bool
+    ensures { result ≡ (nat_le low count && nat_le count high) }
+{
+    low <= count && count <= high
+}
+
+/// The deadlines of a season.
+pub(crate) fn deadlines(alloc: Global, value: &Tree<'_>) -> Result<Moments, ReadFault>
+    ensures gives { Gives result (deadlines (view value.now)) }
+    ensures long { IfOk result (λ ms. (1 ≤ length ms) × (length ms ≤ 38)) }
+{
+    let values = items(value, FieldName::Deadlines)?;
+    let list = under(each_moment(alloc, values), FieldName::Deadlines)?;
+    if is_long(list.as_slice().len(), 1, 38) {
+        Ok(list)
+    } else {
+        Err(wrong(FieldName::Deadlines))
+    }
+}
+
+fn each_moment(alloc: Global, values: &[Tree<'_>]) -> Result<Moments, ReadFault>
+    ensures { Gives result (each (entry field.Deadlines 0 253402300799) (items_view values.now)) }
+{
+    let mut list = Moments::new(alloc);
+    for value in values {
+        let one = moment_entry(value, FieldName::Deadlines)?;
+        list.push(one)?;
+    }
+    Ok(list)
+}
+
+/// The clubs of a season.
+pub(crate) fn clubs(alloc: Global, value: &Tree<'_>) -> Result<Clubs, ReadFault>
+    ensures gives { Gives result (clubs (view value.now)) }
+    ensures long { IfOk result (λ cs. (1 ≤ length cs) × (length cs ≤ 20)) }
+    ensures differ { IfOk result (λ cs. AllDiffer (club_ids cs)) }
+{
+    let values = items(value, FieldName::Clubs)?;
+    let list = under(each_club(alloc, values), FieldName::Clubs)?;
+    if is_long(list.as_slice().len(), 1, 20) && differ(list.as_slice()) {
+        Ok(list)
+    } else {
+        Err(wrong(FieldName::Clubs))
+    }
+}
+
+fn each_club(alloc: Global, values: &[Tree<'_>]) -> Result<Clubs, ReadFault>
+    ensures { Gives result (each club (items_view values.now)) }
+{
+    let mut list = Clubs::new(alloc);
+    for value in values {
+        let one = club(alloc, value)?;
+        list.push(one)?;
+    }
+    Ok(list)
+}
+
+fn club(alloc: Global, value: &Tree<'_>) -> Result<(ClubId, Name), ReadFault>
+    ensures { Gives result (club (view value.now)) }
+{
+    let id = club_id(value, FieldName::Id)?;
+    let name = title(alloc, value, FieldName::Name)?;
+    Ok((id, name))
+}
+
+// No id stands twice.
+fn differ(clubs: &[(ClubId, Name)]) -> bool
+    ensures { result ≡ differ (club_ids clubs.now) }
+{
+    match clubs {
+        [] => true,
+        [first, rest @ ..] => !has_id(rest, first.0) && differ(rest),
+    }
+}
+
+fn has_id(clubs: &[(ClubId, Name)], id: ClubId) -> bool
+    ensures { result ≡ list_any (λ y. y == id) (club_ids clubs.now) }
+{
+    for club in clubs {
+        if club.0 == id {
+            return true;
+        }
+    }
+    false
+}
+
+/// A player with his figures.
+pub(crate) fn player_line(alloc: Global, value: &Tree<'_>) -> Result<(PlayerId, Line), ReadFault>
+    ensures { Gives result (player_line (view value.now)) }
+{
+    let player = player_id(value, FieldName::Player)?;
+    let line = line(alloc, value)?;
+    Ok((player, line))
+}
+
+#[tactic(auto, using(crate::proofs::EntryLemmas::under_entry))]
+fn line(alloc: Global, value: &Tree<'_>) -> Result<Line, ReadFault>
+    ensures { Gives result (line (view value.now)) }
+{
+    let values = items(value, FieldName::Figures)?;
+    let list = each_figure(alloc, values)?;
+    match <[u16; 28]>::try_from(list.as_slice()) {
+        Ok(figures) => Ok(Line { figures }),
+        Err(_) => Err(wrong(FieldName::Figures)),
+    }
+}
+
+fn each_figure(alloc: Global, values: &[Tree<'_>]) -> Result<Vec<u16>, ReadFault>
+    ensures { GivesItems result (each (entry field.Figures 0 65535) (items_view values.now)) }
+{
+    let mut list = Vec::with_capacity(alloc, values.len().min(28))?;
+    for value in values {
+        let one = entry(value, FieldName::Figures, 0, 65_535)?;
+        list.push(one as u16)?;
+    }
+    Ok(list)
+}
+
+/// Players with their figures.
+pub(crate) fn lines(alloc: Global, value: &Tree<'_>) -> Result<Lines, ReadFault>
+    ensures gives { Gives result (lines (view value.now)) }
+    ensures long { IfOk result (λ ls. length ls ≤ 100) }
+{
+    let values = items(value, FieldName::Lines)?;
+    let list = under(each_line(alloc, values), FieldName::Lines)?;
+    if is_long(list.as_slice().len(), 0, 100) {
+        Ok(list)
+    } else {
+        Err(wrong(FieldName::Lines))
+    }
+}
+
+fn each_line(alloc: Global, values: &[Tree<'_>]) -> Result<Lines, ReadFault>
+    ensures { Gives result (each player_line (items_view values.now)) }
+{
+    let mut list = Lines::with_room(alloc, values.len().min(100))?;
+    for value in values {
+        let one = player_line(alloc, value)?;
+        list.push(one)?;
+    }
+    Ok(list)
+}

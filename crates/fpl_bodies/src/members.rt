@@ -1,0 +1,183 @@
+// Readers of members, each by its name. A fault names the member.
+ghost use Rattle.std.specs.Prelude.{◌≡◌, ◌≤◌, IfOk, Ok, Err, MatchResult};
+ghost use Rattle.fpl_bodies.specs.declared.field.ReadFault.TheVariants as fault;
+ghost use Rattle.fpl_bodies.specs.Members.{Gives, GivesTrees, entry, items, moment, number_in, place, place_in, position_in, position_of, text, title, truth, whole};
+ghost use Rattle.json_tree.specs.Trees.{view};
+
+use crate::{FieldName, ReadFault};
+use fpl_base::{ClubId, FixtureId, Gw, Moment, Name, PlayerId, Position};
+use json_tree::Tree;
+use std::alloc::Global;
+
+pub(crate) fn wrong(which: FieldName) -> ReadFault
+    ensures { result ≡ fault.Malformed which }
+{
+    ReadFault::Malformed { field: which }
+}
+
+// Numbers.
+
+// The whole number that a value is, where it is in the range.
+fn number_in(value: &Tree<'_>, low: u64, high: u64) -> Option<u64>
+    ensures { result ≡ number_in low high (view value.now) }
+{
+    let n = value.as_u64()?;
+    if low <= n && n <= high { Some(n) } else { None }
+}
+
+pub(crate) fn whole(
+    value: &Tree<'_>,
+    which: FieldName,
+    low: u64,
+    high: u64,
+) -> Result<u64, ReadFault>
+    ensures gives { Gives result (whole which low high (view value.now)) }
+    ensures low { IfOk result (λ n. low ≤ n) }
+    ensures high { IfOk result (λ n. n ≤ high) }
+{
+    match value.get(which.name()) {
+        Some(one) => number_in(one, low, high).ok_or(wrong(which)),
+        None => Err(wrong(which)),
+    }
+}
+
+pub(crate) fn club_id(value: &Tree<'_>, which: FieldName) -> Result<ClubId, ReadFault>
+    ensures { Gives result (whole which 1 255 (view value.now)) }
+{
+    let n = whole(value, which, 1, 255)?;
+    ClubId::new(n as u8).ok_or(wrong(which))
+}
+
+pub(crate) fn player_id(value: &Tree<'_>, which: FieldName) -> Result<PlayerId, ReadFault>
+    ensures { Gives result (whole which 1 999999 (view value.now)) }
+{
+    let n = whole(value, which, 1, 999_999)?;
+    PlayerId::new(n as u32).ok_or(wrong(which))
+}
+
+pub(crate) fn fixture_id(value: &Tree<'_>, which: FieldName) -> Result<FixtureId, ReadFault>
+    ensures { Gives result (whole which 1 999999 (view value.now)) }
+{
+    let n = whole(value, which, 1, 999_999)?;
+    FixtureId::new(n as u32).ok_or(wrong(which))
+}
+
+pub(crate) fn gameweek(value: &Tree<'_>, which: FieldName) -> Result<Gw, ReadFault>
+    ensures { Gives result (whole which 1 38 (view value.now)) }
+{
+    let n = whole(value, which, 1, 38)?;
+    Gw::new(n as u8).ok_or(wrong(which))
+}
+
+pub(crate) fn price(value: &Tree<'_>, which: FieldName) -> Result<u16, ReadFault>
+    ensures { Gives result (whole which 0 65535 (view value.now)) }
+{
+    let n = whole(value, which, 0, 65_535)?;
+    Ok(n as u16)
+}
+
+pub(crate) fn moment(value: &Tree<'_>, which: FieldName) -> Result<Moment, ReadFault>
+    ensures { Gives result (moment which (view value.now)) }
+{
+    let n = whole(value, which, 0, 253_402_300_799)?;
+    Moment::new(n).ok_or(wrong(which))
+}
+
+/// The moment that a value is, as an item of the list of this name.
+pub(crate) fn moment_entry(value: &Tree<'_>, list: FieldName) -> Result<Moment, ReadFault>
+    ensures { Gives result (entry list 0 253402300799 (view value.now)) }
+{
+    let n = entry(value, list, 0, 253_402_300_799)?;
+    Moment::new(n).ok_or(wrong(list))
+}
+
+/// The number that a value is, as an item of the list of this name.
+pub(crate) fn entry(
+    value: &Tree<'_>,
+    list: FieldName,
+    low: u64,
+    high: u64,
+) -> Result<u64, ReadFault>
+    ensures gives { Gives result (entry list low high (view value.now)) }
+    ensures low { IfOk result (λ n. low ≤ n) }
+    ensures high { IfOk result (λ n. n ≤ high) }
+{
+    number_in(value, low, high).ok_or(wrong(list))
+}
+
+/// A gameweek, or null for none.
+pub(crate) fn place(value: &Tree<'_>, which: FieldName) -> Result<Option<Gw>, ReadFault>
+    ensures { Gives result (place which (view value.now)) }
+{
+    match value.get(which.name()) {
+        Some(one) => place_in(one).ok_or(wrong(which)),
+        None => Err(wrong(which)),
+    }
+}
+
+fn place_in(value: &Tree<'_>) -> Option<Option<Gw>>
+    ensures { result ≡ place_in (view value.now) }
+{
+    if value.is_null() {
+        return Some(None);
+    }
+    let n = number_in(value, 1, 38)?;
+    Some(Gw::new(n as u8))
+}
+
+// Other kinds.
+
+pub(crate) fn truth(value: &Tree<'_>, which: FieldName) -> Result<bool, ReadFault>
+    ensures { Gives result (truth which (view value.now)) }
+{
+    match value.get(which.name()) {
+        Some(one) => one.as_bool().ok_or(wrong(which)),
+        None => Err(wrong(which)),
+    }
+}
+
+fn text<'a>(value: &Tree<'a>, which: FieldName) -> Result<&'a str, ReadFault>
+    ensures { MatchResult result (λ s. text which (view value.now) ≡ Ok s.now) (λ e. (e ≡ fault.Malformed which) × (text which (view value.now) ≡ Err which)) }
+{
+    match value.get(which.name()) {
+        Some(one) => one.as_str().ok_or(wrong(which)),
+        None => Err(wrong(which)),
+    }
+}
+
+/// A name.
+pub(crate) fn title(alloc: Global, value: &Tree<'_>, which: FieldName) -> Result<Name, ReadFault>
+    ensures { Gives result (title which (view value.now)) }
+{
+    let text = text(value, which)?;
+    match Name::new(alloc, text.as_bytes())? {
+        Some(name) => Ok(name),
+        None => Err(wrong(which)),
+    }
+}
+
+pub(crate) fn position(value: &Tree<'_>, which: FieldName) -> Result<Position, ReadFault>
+    ensures { Gives result (position_in which (view value.now)) }
+{
+    let text = text(value, which)?;
+    position_of(text.as_bytes()).ok_or(wrong(which))
+}
+
+fn position_of(letter: &[u8]) -> Option<Position>
+    ensures { result ≡ position_of letter.now }
+{
+    Position::from_letter(letter)
+}
+
+/// The items of a list.
+pub(crate) fn items<'t, 'a>(
+    value: &'t Tree<'a>,
+    which: FieldName,
+) -> Result<&'t [Tree<'a>], ReadFault>
+    ensures { GivesTrees result (items which (view value.now)) }
+{
+    match value.get(which.name()) {
+        Some(one) => one.as_array().ok_or(wrong(which)),
+        None => Err(wrong(which)),
+    }
+}

@@ -1,0 +1,101 @@
+// What is asked by a route, its ids and a body.
+ghost use Rattle.std.specs.Prelude.{◌≡◌, IfOk, option_and_then};
+ghost use Rattle.serde_json.specs.Read.{read};
+ghost use Rattle.fpl_bodies.specs.declared.field.FieldName.TheVariants as field;
+ghost use Rattle.fpl_bodies.specs.Members.{Gives, GivesObject, if_object, object_of, or_wrong};
+ghost use Rattle.fpl_bodies.specs.Requests.{ordered, request_of, view_of};
+ghost use Rattle.season_host.specs.Hosts.{IsRequest};
+
+use crate::commands::read_command;
+use crate::members::{whole, wrong};
+use crate::{FieldName, ReadFault};
+use fpl_routes::{Asks, CommandRoute, Route, ViewRoute};
+use json_tree::{ParseFault, Scratch, Tree, parse};
+use season_host::{Request, View};
+use std::alloc::Global;
+
+/// What is asked by a route and the ids of its target, as [`fpl_routes::Routes::find`] gives them, and a body, which is
+/// not looked at where a view is asked. The members of a command are read in their order, `number` first, and the first
+/// wrong one is named; of several members of one name the last counts, and others than those of the command are
+/// passed over. Reading takes memory in proportion to the body, and the scratch is kept from body to body.
+pub fn read_request(
+    alloc: Global,
+    scratch: &mut Scratch,
+    route: Route,
+    ids: [u32; 2],
+    body: &[u8],
+) -> Result<Request, ReadFault>
+    ensures gives { Gives result (request_of route ids body.now) }
+    ensures readable { IfOk result IsRequest }
+{
+    match route.asks {
+        Asks::View(view) => Ok(Request::View(view_of(view, ids))),
+        Asks::Command(command) => read_ordered(alloc, scratch, command, ids[0], body),
+    }
+}
+
+fn view_of(view: ViewRoute, ids: [u32; 2]) -> View
+    ensures { result ≡ view_of view ids }
+{
+    match view {
+        ViewRoute::ShowSeason => View::Season,
+        ViewRoute::ShowPlayer => View::Player { player: ids[0] },
+        ViewRoute::ShowPlayerGameweek => View::PlayerGameweek {
+            player: ids[0],
+            gameweek: ids[1],
+        },
+        ViewRoute::ShowFixture => View::Fixture { fixture: ids[0] },
+    }
+}
+
+// What a body orders by the route of a command, at a fixture, where its target names one.
+fn read_ordered(
+    alloc: Global,
+    scratch: &mut Scratch,
+    which: CommandRoute,
+    fixture: u32,
+    body: &[u8],
+) -> Result<Request, ReadFault>
+    ensures gives { Gives result (ordered which fixture body.now) }
+    ensures readable { IfOk result IsRequest }
+{
+    let value = object_of(alloc, scratch, body)?;
+    let number = whole(&value, FieldName::Number, 1, 9_223_372_036_854_775_807)?;
+    let command = read_command(alloc, which, fixture, &value)?;
+    Ok(Request::Command { number, command })
+}
+
+// The object that a body is.
+fn object_of<'a>(
+    alloc: Global,
+    scratch: &'a mut Scratch,
+    body: &'a [u8],
+) -> Result<Tree<'a>, ReadFault>
+    ensures { GivesObject result (object_of body.now) }
+{
+    match simdutf8::compat::from_utf8(body) {
+        Ok(text) => object_in(alloc, scratch, text),
+        Err(_) => Err(wrong(FieldName::Body)),
+    }
+}
+
+fn object_in<'a>(
+    alloc: Global,
+    scratch: &'a mut Scratch,
+    text: &'a str,
+) -> Result<Tree<'a>, ReadFault>
+    ensures { GivesObject result
+        (or_wrong field.Body (option_and_then if_object (read text.now))) }
+{
+    match parse(alloc, text, scratch) {
+        Ok(tree) => {
+            if tree.is_object() {
+                Ok(tree)
+            } else {
+                Err(wrong(FieldName::Body))
+            }
+        }
+        Err(ParseFault::Memory) => Err(ReadFault::Memory),
+        Err(ParseFault::Invalid) => Err(wrong(FieldName::Body)),
+    }
+}

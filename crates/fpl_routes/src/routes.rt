@@ -1,0 +1,325 @@
+// The routes of targets.
+ghost use Rattle.std.specs.Prelude.{◌≡◌, ◌≢◌, ◌≤◌, ◌<◌, ℕ, List, [], IfOk, IfNone, IfSome, MatchOption, ◌||◌, OnOk, map, drop, length, slice_index};
+ghost use Rattle.std.specs.Str.{IsUtf8};
+ghost use Rattle.fpl_routes.specs.declared.routes.Place.{Place};
+ghost use Rattle.fpl_routes.specs.Tables.{IsAt, all_added, row_of, table, told, with_row};
+ghost use Rattle.fpl_routes.specs.Targets.{AreIds, IsFound, IsId, IsShaped, after_segment, braces, ids_in, is_method, method_of, own_segment, place_of, rows_at};
+
+use crate::Asks::{Command, View};
+use crate::Callers::{Both, Operator};
+use crate::CommandRoute::{
+    Clubs, Deadlines, Drop, Finished, Fixtures, Gone, Line, Move, Players, Prices, Season, Sheet,
+};
+use crate::ViewRoute::{ShowFixture, ShowPlayer, ShowPlayerGameweek, ShowSeason};
+use crate::route::Method::{self, Get, Post};
+use crate::{Asks, Callers, Found, Route};
+use fpl_base::{Memory, read_number};
+use matchit::{InsertError, Router};
+use std::alloc::Global;
+use std::marker::Model;
+use std::str;
+
+/// How many ids stand in the targets of a pattern.
+#[derive(Clone, Copy, Debug, PartialEq, Eq)]
+enum Ids {
+    None,
+    One,
+    Two,
+}
+
+/// What is served at the targets of a row.
+#[derive(Clone, Copy, Debug, PartialEq, Eq)]
+struct Place {
+    ids: Ids,
+    route: Route,
+}
+
+// Each route: its method, the pattern of its targets with a name in braces for each id, who may ask it, what it asks.
+static SERVED: [(Method, &str, Callers, Asks); 16] = [
+    (Post, "/season", Operator, Command(Season)),
+    (Post, "/deadlines", Operator, Command(Deadlines)),
+    (Post, "/players", Operator, Command(Players)),
+    (Post, "/prices", Operator, Command(Prices)),
+    (Post, "/clubs", Operator, Command(Clubs)),
+    (Post, "/gone", Operator, Command(Gone)),
+    (Post, "/fixtures", Operator, Command(Fixtures)),
+    (Post, "/fixtures/{f}/move", Operator, Command(Move)),
+    (Post, "/fixtures/{f}/sheet", Operator, Command(Sheet)),
+    (Post, "/fixtures/{f}/line", Operator, Command(Line)),
+    (Post, "/fixtures/{f}/drop", Operator, Command(Drop)),
+    (Post, "/fixtures/{f}/finished", Operator, Command(Finished)),
+    (Get, "/season", Both, View(ShowSeason)),
+    (Get, "/players/{p}", Both, View(ShowPlayer)),
+    (
+        Get,
+        "/players/{p}/gameweeks/{g}",
+        Both,
+        View(ShowPlayerGameweek),
+    ),
+    (Get, "/fixtures/{f}", Both, View(ShowFixture)),
+];
+
+/// The table of all routes, ready for look-ups.
+#[derive(Drop)]
+pub struct Routes {
+    posted: Router<Place>,
+    got: Router<Place>,
+}
+
+impl Model for Routes {
+    ghost use Rattle.std.specs.Prelude.{◌≡◌, ⊤};
+    ghost use Rattle.fpl_routes.specs.declared.route.Method.TheVariants as method;
+    ghost use Rattle.fpl_routes.specs.Tables.{table};
+
+    ghost Value = { ⊤ };
+
+    ghost view = { λ _. tt };
+
+    ghost invariant = { λ r. (r.posted ≡ table method.Post) × (r.got ≡ table method.Get) };
+}
+
+impl Routes {
+    /// The table. It is built once for all look-ups, none of which takes memory.
+    pub fn new(alloc: Global) -> Result<Self, Memory> {
+        let Ok(posted) = router_of(alloc, Method::Post, &SERVED) else {
+            return Err(Memory);
+        };
+        let Ok(got) = router_of(alloc, Method::Get, &SERVED) else {
+            return Err(Memory);
+        };
+        Ok(Routes { posted, got })
+    }
+
+    /// What a method and a target ask for.
+    pub fn find(&self, method: &[u8], target: &[u8]) -> Found
+        ensures { IsFound method.now target.now result }
+    {
+        let posted = found_at(&self.posted, Method::Post, target);
+        let got = found_at(&self.got, Method::Get, target);
+        let is_posted = posted.is_some();
+        let is_got = got.is_some();
+        match method_of(method) {
+            Some(Method::Post) => told(posted, is_posted, is_got),
+            Some(Method::Get) => told(got, is_posted, is_got),
+            None => told(None, is_posted, is_got),
+        }
+    }
+}
+
+// What is told of a target at which a method finds this, and which is served to these two.
+fn told(own: Option<(Route, [u32; 2])>, is_posted: bool, is_got: bool) -> Found
+    ensures { result ≡ told own (is_posted || is_got) }
+{
+    match own {
+        Some(at) => {
+            let ids = at.1;
+            Found::Route { route: at.0, ids }
+        }
+        None => {
+            if is_posted || is_got {
+                Found::Method
+            } else {
+                Found::Unknown
+            }
+        }
+    }
+}
+
+fn method_of(bytes: &[u8]) -> Option<Method>
+    ensures { result ≡ method_of bytes.now }
+{
+    match bytes {
+        b"POST" => Some(Method::Post),
+        b"GET" => Some(Method::Get),
+        _ => None,
+    }
+}
+
+// Building the routers.
+
+fn router_of(
+    alloc: Global,
+    method: Method,
+    rows: &[(Method, &str, Callers, Asks)],
+) -> Result<Router<Place>, InsertError>
+    ensures { IfOk result (λ r. r ≡ all_added [] (rows_at method (map row_of rows.now))) }
+{
+    let mut router = Router::new(alloc);
+    for row in rows {
+        add(&mut router, method, row)?;
+    }
+    Ok(router)
+}
+
+// Adds a row that is one of this method.
+fn add(
+    router: &mut Router<Place>,
+    method: Method,
+    row: &(Method, &str, Callers, Asks),
+) -> Result<(), InsertError>
+    ensures { OnOk result (router.new ≡ with_row method (row_of row.now) router.old) }
+{
+    if is_method(row.0, method) {
+        router.insert(row.1, place_of(row))?;
+    }
+    Ok(())
+}
+
+fn is_method(one: Method, other: Method) -> bool
+    ensures { result ≡ is_method one other }
+{
+    match (one, other) {
+        (Method::Post, Method::Post) => true,
+        (Method::Post, Method::Get) => false,
+        (Method::Get, Method::Post) => false,
+        (Method::Get, Method::Get) => true,
+    }
+}
+
+// What is served at the targets of a row.
+fn place_of(row: &(Method, &str, Callers, Asks)) -> Place
+    ensures { result ≡ place_of (row_of row.now) }
+{
+    Place {
+        ids: ids_in(row.1.as_bytes()),
+        route: Route {
+            callers: row.2,
+            asks: row.3,
+        },
+    }
+}
+
+// How many ids stand in the targets of a pattern.
+fn ids_in(pattern: &[u8]) -> Ids
+    ensures { result ≡ ids_in pattern.now }
+{
+    let count = braces(pattern);
+    if count == 0 {
+        Ids::None
+    } else if count == 1 {
+        Ids::One
+    } else {
+        Ids::Two
+    }
+}
+
+// How many names in braces a pattern has.
+fn braces(pattern: &[u8]) -> usize
+    ensures value { result ≡ braces pattern.now }
+    ensures few { result ≤ length pattern.now }
+{
+    match pattern {
+        [] => 0,
+        [first, rest @ ..] => {
+            if *first == b'{' {
+                braces(rest) + 1
+            } else {
+                braces(rest)
+            }
+        }
+    }
+}
+
+// Look-ups.
+
+// What a method finds at a target, with its ids.
+fn found_at(router: &Router<Place>, method: Method, target: &[u8]) -> Option<(Route, [u32; 2])>
+    requires { router.now ≡ table method }
+    ensures { IsAt method target.now result }
+{
+    let Some(place) = place_at(router, method, target) else {
+        return None;
+    };
+    let Some(ids) = read_ids(place.ids, target) else {
+        return None;
+    };
+    Some((place.route, ids))
+}
+
+// What is served to a method at targets of the shape of this one.
+fn place_at(router: &Router<Place>, method: Method, target: &[u8]) -> Option<Place>
+    requires { router.now ≡ table method }
+    ensures text { IfSome result (λ place. IsUtf8 target.now) }
+    ensures found { IfSome result (λ place. IsShaped method place target.now) }
+    ensures only { (a b : Place) → IsShaped method a target.now → IsShaped method b target.now → a ≡ b }
+    ensures none { IfNone result (IsUtf8 target.now → (place : Place) → IsShaped method place target.now → ⊥) }
+{
+    let Ok(text) = str::from_utf8(target) else {
+        return None;
+    };
+    match router.at(text) {
+        Ok(found) => Some(*found.value),
+        Err(_) => None,
+    }
+}
+
+// The ids of a target, 0 where there is none.
+fn read_ids(ids: Ids, target: &[u8]) -> Option<[u32; 2]>
+    ensures { MatchOption result ((ns : List ℕ) → AreIds ids target.now ns → ⊥) (AreIds ids target.now) }
+{
+    match ids {
+        Ids::None => Some([0, 0]),
+        Ids::One => Some([read_id(segment(next(target)))?, 0]),
+        Ids::Two => {
+            let first = read_id(segment(next(target)))?;
+            let second = read_id(segment(next(next(next(target)))))?;
+            Some([first, second])
+        }
+    }
+}
+
+fn read_id(segment: &[u8]) -> Option<u32>
+    ensures { MatchOption result ((id : ℕ) → IsId segment.now id → ⊥) (IsId segment.now) }
+{
+    let id = read_number(segment, 4_294_967_295)?;
+    Some(id as u32)
+}
+
+// The segment behind the first slash of a path.
+fn segment(path: &[u8]) -> &[u8]
+    ensures { result.now ≡ own_segment (drop 1 path.now) }
+{
+    own(behind_slash(path))
+}
+
+// The path from its second slash on.
+fn next(path: &[u8]) -> &[u8]
+    ensures { result.now ≡ after_segment (drop 1 path.now) }
+{
+    after(behind_slash(path))
+}
+
+fn behind_slash(path: &[u8]) -> &[u8]
+    ensures { result.now ≡ drop 1 path.now }
+{
+    match path {
+        [] => path,
+        [_, rest @ ..] => rest,
+    }
+}
+
+fn own(path: &[u8]) -> &[u8]
+    ensures { result.now ≡ own_segment path.now }
+{
+    &path[..slash_at(path)]
+}
+
+fn after(path: &[u8]) -> &[u8]
+    ensures { result.now ≡ after_segment path.now }
+{
+    &path[slash_at(path)..]
+}
+
+// The index of the first slash, or the length where there is none.
+fn slash_at(path: &[u8]) -> usize
+    ensures within { result ≤ length path.now }
+    ensures before { (k : ℕ) → k < result → slice_index path.now k ≢ 47 }
+    ensures there { result < length path.now → slice_index path.now result ≡ 47 }
+{
+    for (i, b) in path.iter().enumerate() {
+        if *b == b'/' {
+            return i;
+        }
+    }
+    path.len()
+}

@@ -1,0 +1,98 @@
+// The numbers of JSON: an integer of 64 bits, or the nearest float.
+ghost use Rattle.std.specs.Prelude.{◌≡◌, ◌==◌, ◌<◌, IfSome, IsTrue, length, option_map, slice_index, true, false};
+ghost use Rattle.std.specs.Str.Parse.{IsNumeral, digits_value};
+ghost use Rattle.serde_json.specs.Read.{float_of, number_from, number_of};
+ghost use Rattle.json_tree.specs.Trees.{number_view};
+
+use fast_float::Numeral;
+
+/// A number, as its text is read.
+#[derive(Clone, Copy, Drop)]
+pub enum Number {
+    /// Written without a sign, a point or an exponent.
+    Whole(u64),
+    /// Below 0, and written without a point or an exponent.
+    Negative(i64),
+    /// Any other, as the nearest float.
+    Float(f64),
+}
+
+/// The number that a token writes, unless it is too large for a float.
+#[inline(always)]
+pub(crate) fn number_of(text: &str) -> Option<Number>
+    ensures { option_map number_view result ≡ number_of text.now }
+{
+    let bytes = text.as_bytes();
+    match few_digits(bytes) {
+        Some(n) => Some(Number::Whole(n)),
+        None => scanned(bytes),
+    }
+}
+
+// The value of digits, where there is nothing else and it is far from the end of its type.
+#[inline(always)]
+fn few_digits(bytes: &[u8]) -> Option<u64>
+    ensures { IfSome result
+        (λ n. IsNumeral 10 bytes.now × (digits_value 10 bytes.now ≡ n)) }
+{
+    let mut value: u64 = 0;
+    for byte in bytes {
+        let digit = byte.wrapping_sub(b'0');
+        if digit > 9 || value > 999_999_999_999_999_999 {
+            return None;
+        }
+        value = value * 10 + u64::from(digit);
+    }
+    if bytes.is_empty() { None } else { Some(value) }
+}
+
+#[inline(never)]
+fn scanned(bytes: &[u8]) -> Option<Number>
+    ensures { option_map number_view result ≡ number_of bytes.now }
+{
+    if has_minus(bytes) {
+        negative(&Numeral::scan(&bytes[1..]))
+    } else {
+        unsigned(&Numeral::scan(bytes))
+    }
+}
+
+#[inline(always)]
+fn has_minus(bytes: &[u8]) -> bool
+    ensures value { result ≡ (slice_index bytes.now 0 == 45) }
+    ensures some { IsTrue result → 0 < length bytes.now }
+{
+    !bytes.is_empty() && bytes[0] == b'-'
+}
+
+#[inline(always)]
+fn unsigned(numeral: &Numeral<'_>) -> Option<Number>
+    ensures { option_map number_view result ≡ number_from false numeral.now }
+{
+    match numeral.to_u64() {
+        Some(n) => Some(Number::Whole(n)),
+        None => nearest(false, numeral),
+    }
+}
+
+fn negative(numeral: &Numeral<'_>) -> Option<Number>
+    ensures { option_map number_view result ≡ number_from true numeral.now }
+{
+    if let Some(n) = numeral.to_i64(true) {
+        if n < 0 {
+            return Some(Number::Negative(n));
+        }
+    }
+    nearest(true, numeral)
+}
+
+fn nearest(negative: bool, numeral: &Numeral<'_>) -> Option<Number>
+    ensures { option_map number_view result ≡ float_of negative numeral.now }
+{
+    let float = numeral.to_float::<f64>(negative);
+    if float.is_finite() {
+        Some(Number::Float(float))
+    } else {
+        None
+    }
+}

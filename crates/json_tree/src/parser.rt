@@ -1,0 +1,152 @@
+// From a text to its tree, in one pass over the tokens.
+ghost use Rattle.std.specs.Prelude.{◌≡◌, ◌<◌, Err, IfOk, OnOk, length, None, Some};
+ghost use Rattle.json.specs.Json.{value, items, members};
+ghost use Rattle.serde_json.specs.Data.{no_members};
+ghost use Rattle.serde_json.specs.Read.{converted, of_items, of_json, of_members, read as read_text};
+ghost use Rattle.json_tree.specs.Trees.{items_view, members_view, view};
+
+use crate::number::number_of;
+use crate::tree::Tree;
+use json::{Reader, Scratch, Token};
+use std::alloc::{AllocError, AllocFailed, Global};
+
+const MAX_DEPTH: usize = 127;
+
+/// Why a text has no tree.
+#[derive(Clone, Copy, Debug, PartialEq, Eq)]
+pub enum ParseFault {
+    /// The text is no JSON, has a number too large for a float, or nests lists and objects deeper than 127.
+    Invalid,
+    /// Memory ran out.
+    Memory,
+}
+
+impl From<json::Invalid> for ParseFault {
+    ghost use Rattle.std.specs.Prelude.{◌≡◌};
+    ghost use Rattle.json_tree.specs.declared.parser.ParseFault.TheVariants as fault;
+
+    ghost from_gives = { λ _ gives. gives ≡ fault.Invalid };
+
+    fn from(_: json::Invalid) -> Self {
+        ParseFault::Invalid
+    }
+}
+
+impl From<AllocError> for ParseFault {
+    ghost use Rattle.std.specs.Prelude.{◌≡◌};
+    ghost use Rattle.json_tree.specs.declared.parser.ParseFault.TheVariants as fault;
+
+    ghost from_gives = { λ _ gives. gives ≡ fault.Memory };
+
+    fn from(_: AllocError) -> Self {
+        ParseFault::Memory
+    }
+}
+
+impl<T: Drop> From<AllocFailed<T>> for ParseFault {
+    ghost use Rattle.std.specs.Prelude.{◌≡◌};
+    ghost use Rattle.json_tree.specs.declared.parser.ParseFault.TheVariants as fault;
+
+    ghost from_gives = { λ _ gives. gives ≡ fault.Memory };
+
+    fn from(_: AllocFailed<T>) -> Self {
+        ParseFault::Memory
+    }
+}
+
+/// The tree that a text is. Reading takes memory in proportion to the text, and the scratch is kept from text to text.
+pub fn parse<'a>(
+    alloc: Global,
+    text: &'a str,
+    scratch: &'a mut Scratch,
+) -> Result<Tree<'a>, ParseFault>
+    ensures ok { IfOk result (λ t. read_text text.now ≡ Some (view t)) }
+    ensures invalid { result ≡ Err ParseFault.Invalid → read_text text.now ≡ None }
+{
+    let mut reader = Reader::new(text, scratch)?;
+    let tree = read(alloc, &mut reader, MAX_DEPTH)?;
+    if reader.next().is_some() {
+        return Err(ParseFault::Invalid);
+    }
+    Ok(tree)
+}
+
+#[cycle(read)]
+#[inline(always)]
+fn read<'a>(alloc: Global, reader: &mut Reader<'a>, depth: usize) -> Result<Tree<'a>, ParseFault>
+    ensures ok { IfOk result
+        (λ t. converted of_json (value depth reader.old) ≡ Some (view t, reader.new)) }
+    ensures shorter { OnOk result (length reader.new < length reader.old) }
+    ensures invalid { result ≡ Err ParseFault.Invalid
+        → converted of_json (value depth reader.old) ≡ None }
+{
+    let token = reader.next().ok_or(ParseFault::Invalid)?;
+    match token {
+        Token::String(text) => Ok(Tree::Text(text)),
+        Token::Number(text) => match number_of(text) {
+            Some(number) => Ok(Tree::Number(number)),
+            None => Err(ParseFault::Invalid),
+        },
+        Token::Bool(b) => Ok(Tree::Bool(b)),
+        Token::Null => Ok(Tree::Null),
+        Token::EndObject | Token::EndArray | Token::Key(_) | Token::Bad => Err(ParseFault::Invalid),
+        Token::BeginArray => {
+            if depth == 0 {
+                return Err(ParseFault::Invalid);
+            }
+            Ok(Tree::List(read_items(alloc, reader, depth - 1)?))
+        }
+        Token::BeginObject => {
+            if depth == 0 {
+                return Err(ParseFault::Invalid);
+            }
+            Ok(Tree::Object(read_members(alloc, reader, depth - 1)?))
+        }
+    }
+}
+
+#[cycle(read)]
+#[inline(never)]
+fn read_items<'a>(
+    alloc: Global,
+    reader: &mut Reader<'a>,
+    depth: usize,
+) -> Result<Vec<Tree<'a>>, ParseFault>
+    ensures ok { IfOk result
+        (λ v. converted of_items (items (value depth) (length reader.old) reader.old)
+        ≡ Some (items_view v.items, reader.new)) }
+    ensures shorter { OnOk result (length reader.new < length reader.old) }
+    ensures invalid { result ≡ Err ParseFault.Invalid
+        → converted of_items (items (value depth) (length reader.old) reader.old) ≡ None }
+{
+    let mut found = Vec::new(alloc);
+    'items: while !reader.take_end_array() {
+        let item = read(alloc, reader, depth)?;
+        found.push(item)?;
+    }
+    Ok(found)
+}
+
+#[cycle(read)]
+#[inline(never)]
+fn read_members<'a>(
+    alloc: Global,
+    reader: &mut Reader<'a>,
+    depth: usize,
+) -> Result<Vec<(&'a str, Tree<'a>)>, ParseFault>
+    ensures ok { IfOk result
+        (λ v. converted (λ ms. of_members ms no_members)
+        (members (value depth) (length reader.old) reader.old)
+        ≡ Some (members_view v.items, reader.new)) }
+    ensures shorter { OnOk result (length reader.new < length reader.old) }
+    ensures invalid { result ≡ Err ParseFault.Invalid
+        → converted (λ ms. of_members ms no_members)
+        (members (value depth) (length reader.old) reader.old) ≡ None }
+{
+    let mut found = Vec::new(alloc);
+    'members: while let Some(name) = reader.next_key()? {
+        let member = read(alloc, reader, depth)?;
+        found.push((name, member))?;
+    }
+    Ok(found)
+}
