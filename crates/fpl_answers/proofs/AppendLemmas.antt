@@ -9,7 +9,7 @@ use Rattle.json.specs.Written.{Written, Writes}
 use Rattle.serde_json.specs.Data.{Data}
 use Rattle.serde_json.specs.Written.{compact_text}
 use Rattle.serde_json.proofs.Texts.{print-outline}
-use Rattle.fpl_json.specs.Tokens.{Appends, tokens_of}
+use Rattle.fpl_answers.specs.Tokens.{Appends, tokens_of}
 
 module _ {r : Result (Unit {0}) AllocError} {a b : Written} where
   -- one token

@@ -6,9 +6,9 @@ use Rattle.record_codec.specs.declared.made.Made.{Made}
 use Rattle.record_codec.specs.declared.made.Made.TheVariants as made
 use Rattle.season_host.specs.declared.answer.Answer.{Answer}
 use Rattle.season_host.specs.declared.answer.Answer.TheVariants as answer
-use Rattle.fpl_json.specs.MemberData.{count, error_data}
-use Rattle.fpl_json.specs.RuleData.{rule_data}
-use Rattle.fpl_json.specs.ShownData.{shown_data}
+use Rattle.fpl_answers.specs.MemberData.{count, error_data}
+use Rattle.fpl_answers.specs.RuleData.{rule_data}
+use Rattle.fpl_answers.specs.ShownData.{shown_data}
 
 -- done, or made where something new is there
 abbrev pub done_status : Made → ℕ

@@ -1,9 +1,9 @@
 -- The members of a refusal, by where the kept one stands.
 use Rattle.std.specs.Prelude.{ℕ, codes}
 use Rattle.serde_json.specs.Data.{string, Members, member, no_members}
-use Rattle.fpl_json.specs.declared.rules.Kept.{Kept}
-use Rattle.fpl_json.specs.declared.rules.Kept.TheVariants as kept
-use Rattle.fpl_json.specs.MemberData.{count}
+use Rattle.fpl_answers.specs.declared.rules.Kept.{Kept}
+use Rattle.fpl_answers.specs.declared.rules.Kept.TheVariants as kept
+use Rattle.fpl_answers.specs.MemberData.{count}
 
 -- `error` and `rule`, and the kept member in its place
 abbrev pub members_with : Kept → ℕ → Members

@@ -11,7 +11,7 @@ use Rattle.season_host.specs.declared.shown.Shown.TheVariants as shown
 use Rattle.season_host.specs.declared.shown.ShownFixture.{ShownFixture}
 use Rattle.season_host.specs.declared.shown.ShownLine.{ShownLine}
 use Rattle.season_host.specs.declared.shown.ShownSeason.{ShownSeason}
-use Rattle.fpl_json.specs.MemberData.{count, count_or_null}
+use Rattle.fpl_answers.specs.MemberData.{count, count_or_null}
 
 -- a club of the season
 abbrev pub club_data : ℕ × List ℕ → Data

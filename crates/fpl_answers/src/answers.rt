@@ -1,56 +1,35 @@
 // Answers: the status and the body of each.
-#![tactic(auto, unfolding(serde_json::proofs::OnLiterals::serde_json_on_literals))]
-
-ghost use Rattle.std.specs.Prelude.{◌≡◌, ◌≤◌, ◌++◌, codes, decimal, length, IfOk};
-ghost use Rattle.json.specs.Filled.{Placed};
+ghost use Rattle.std.specs.Prelude.{◌≡◌, IfOk};
 ghost use Rattle.serde_json.specs.Written.{compact_text};
-ghost use Rattle.fpl_json.specs.Answers.{answer_data, damaged_data, done_data, done_status, status_of};
-ghost use Rattle.fpl_json.specs.Bodies.{body_of};
+ghost use Rattle.fpl_answers.specs.Answers.{answer_data, damaged_data, done_data, done_status, status_of};
+ghost use Rattle.fpl_answers.specs.MemberData.{error_data};
+ghost use Rattle.fpl_answers.specs.Tokens.{Appends, tokens_of};
 
-use crate::place::{place, place_count, place_slice, zeros};
-use crate::rules::rule_text;
-use crate::shown::shown_text;
+use crate::members::{write_count, write_one, write_text, write_two};
+use crate::rules::write_rule;
+use crate::views::{room_of, write_shown};
 use fpl_base::{Memory, RecordKey};
+use fpl_http::Reply;
+use json::Writer;
 use record_codec::Made;
 use season_host::Answer;
 use std::alloc::{AllocError, Global};
-use std::rc::Rc;
 
-/// What goes back to a caller: the status of HTTP, and a body of JSON without spaces whose members stand in the
-/// ascending order of their names' bytes.
-#[derive(Debug, Drop)]
-pub struct Reply {
-    pub status: u16,
-    pub body: Vec<u8>,
-    /// The end of the body, shared with whoever keeps it.
-    pub rest: Option<Rc<Vec<u8>>>,
-}
-
-impl Reply {
-    /// A reply whose body is shared with nobody.
-    pub(crate) fn new(status: u16, body: Vec<u8>) -> Self
-        ensures status { result.status ≡ status }
-        ensures body { body_of result ≡ body.items }
-    {
-        Reply {
-            status,
-            body,
-            rest: None,
-        }
-    }
-}
-
-/// The status and the body of an answer. Its only error is want of memory.
+/// The reply that tells an answer. Its only error is want of memory.
 pub fn answer_text(alloc: Global, answer: &Answer) -> Result<Reply, Memory>
     ensures status { IfOk result (λ reply. reply.status ≡ status_of answer.now) }
-    ensures body { IfOk result (λ reply. body_of reply ≡ compact_text (answer_data answer.now)) }
+    ensures body { IfOk result (λ reply. reply.body.items ≡ compact_text (answer_data answer.now)) }
 {
-    let status = status(answer);
-    let body = answer_body(alloc, answer)?;
-    Ok(Reply::new(status, body))
+    let status = status_of(answer);
+    let mut out = Writer::new(Vec::with_capacity(alloc, room_for(answer))?);
+    write_answer(&mut out, answer)?;
+    Ok(Reply {
+        status,
+        body: out.into_inner(),
+    })
 }
 
-fn status(answer: &Answer) -> u16
+fn status_of(answer: &Answer) -> u16
     ensures { result ≡ status_of answer.now }
 {
     match answer {
@@ -75,90 +54,55 @@ fn status_of_done(made: Made) -> u16
     }
 }
 
-fn answer_body(alloc: Global, answer: &Answer) -> Result<Vec<u8>, AllocError>
-    ensures { IfOk result (λ body. body.items ≡ compact_text (answer_data answer.now)) }
+// About how many bytes the body takes, so that it is not copied while it grows.
+fn room_for(answer: &Answer) -> usize {
+    match answer {
+        Answer::Shown(shown) => room_of(shown),
+        _ => 128,
+    }
+}
+
+fn write_answer(out: &mut Writer, answer: &Answer) -> Result<(), AllocError>
+    ensures { Appends result out.old out.new (tokens_of (answer_data answer.now)) }
 {
     match answer {
-        Answer::Done { number, made } => done_text(alloc, *number, *made),
-        Answer::Shown(shown) => shown_text(alloc, shown),
-        Answer::Rule(rule) => rule_text(alloc, rule),
-        Answer::Unknown => Vec::from_slice(alloc, br#"{"error":"unknown"}"#),
-        Answer::Keeper => Vec::from_slice(alloc, br#"{"error":"keeper"}"#),
-        Answer::Damaged(key) => damaged_text(alloc, *key),
-        Answer::Memory => Vec::from_slice(alloc, br#"{"error":"memory"}"#),
+        Answer::Done { number, made } => write_done(out, *number, *made),
+        Answer::Shown(shown) => write_shown(out, shown),
+        Answer::Rule(rule) => write_rule(out, rule),
+        Answer::Unknown => write_error(out, "unknown"),
+        Answer::Keeper => write_error(out, "keeper"),
+        Answer::Damaged(key) => write_damaged(out, *key),
+        Answer::Memory => write_error(out, "memory"),
     }
 }
 
-fn done_text(alloc: Global, number: u64, made: Made) -> Result<Vec<u8>, AllocError>
-    ensures { IfOk result (λ text. text.items ≡ compact_text (done_data number made)) }
-{
-    let mut text = zeros(alloc, 64)?;
-    let end = place_done(text.as_mut_slice(), number, made);
-    text.truncate(end);
-    Ok(text)
-}
-
-fn place_done(block: &mut [u8], number: u64, made: Made) -> usize
-    requires { 64 ≤ length block.old }
-    ensures { Placed block.old block.new 0 (compact_text (done_data number made)) result }
+fn write_done(out: &mut Writer, number: u64, made: Made) -> Result<(), AllocError>
+    ensures { Appends result out.old out.new (tokens_of (done_data number made)) }
 {
     match made {
-        Made::Nothing => {
-            let at = place(block, 0, br#"{"done":"#);
-            let at = place_count(block, at, number);
-            place(block, at, b"}")
-        }
-        Made::Entry(entry) => place_made(block, number, br#","entry":"#, u64::from(entry.get())),
-        Made::League(league) => place_made(
-            block,
-            number,
-            br#","league":"#,
-            u64::from(league.get()),
-        ),
-        Made::Cup(cup) => {
-            let at = place(block, 0, br#"{"cup":"#);
-            let at = place_count(block, at, u64::from(cup.get()));
-            let at = place(block, at, br#","done":"#);
-            let at = place_count(block, at, number);
-            place(block, at, b"}")
-        }
+        Made::Nothing => write_one(out, "done", number),
+        Made::Entry(entry) => write_two(out, "done", number, "entry", u64::from(entry.get())),
+        Made::League(league) => write_two(out, "done", number, "league", u64::from(league.get())),
+        Made::Cup(cup) => write_two(out, "cup", u64::from(cup.get()), "done", number),
     }
 }
 
-/// What was done, and the number of what it made behind these bytes.
-#[inline(always)]
-fn place_made(block: &mut [u8], number: u64, name: &[u8], made: u64) -> usize
-    requires short { length name.now ≤ 12 }
-    requires room { 64 ≤ length block.old }
-    ensures { Placed block.old block.new 0 (codes "{\"done\":" ++ (decimal number ++ (name.now ++ (decimal made ++ codes "}")))) result }
+fn write_error(out: &mut Writer, word: &str) -> Result<(), AllocError>
+    ensures { Appends result out.old out.new (tokens_of (error_data word.now)) }
 {
-    let at = place(block, 0, br#"{"done":"#);
-    let at = place_count(block, at, number);
-    let at = place_slice(block, at, name);
-    let at = place_count(block, at, made);
-    place(block, at, b"}")
+    out.begin_object()?;
+    write_text(out, "error", word)?;
+    out.end_object()
 }
 
-fn damaged_text(alloc: Global, key: RecordKey) -> Result<Vec<u8>, AllocError>
-    ensures { IfOk result (λ text. text.items ≡ compact_text (damaged_data key)) }
+fn write_damaged(out: &mut Writer, key: RecordKey) -> Result<(), AllocError>
+    ensures { Appends result out.old out.new (tokens_of (damaged_data key)) }
 {
-    let mut text = zeros(alloc, 128)?;
-    let end = place_damaged(text.as_mut_slice(), key);
-    text.truncate(end);
-    Ok(text)
-}
-
-fn place_damaged(block: &mut [u8], key: RecordKey) -> usize
-    requires { 128 ≤ length block.old }
-    ensures { Placed block.old block.new 0 (compact_text (damaged_data key)) result }
-{
-    let at = place(block, 0, br#"{"a":"#);
-    let at = place_count(block, at, u64::from(key.a));
-    let at = place(block, at, br#","b":"#);
-    let at = place_count(block, at, u64::from(key.b));
-    let at = place(block, at, br#","c":"#);
-    let at = place_count(block, at, u64::from(key.c));
-    let at = place(block, at, br#","error":"damaged","kind":"#);
-    let at = place_count(block, at, u64::from(key.kind));
-    place(block, at, b"}")
+    out.begin_object()?;
+    write_count(out, "a", u64::from(key.a))?;
+    write_count(out, "b", u64::from(key.b))?;
+    write_count(out, "c", u64::from(key.c))?;
+    write_text(out, "error", "damaged")?;
+    write_count(out, "kind", u64::from(key.kind))?;
+    out.end_object()
 }

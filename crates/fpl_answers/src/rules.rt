@@ -1,16 +1,15 @@
 // Refusals by a rule of the game.
-ghost use Rattle.std.specs.Prelude.{◌≡◌, IfOk};
+ghost use Rattle.std.specs.Prelude.{◌≡◌};
 ghost use Rattle.serde_json.specs.Data.{object};
-ghost use Rattle.serde_json.specs.Written.{compact_text};
 ghost use Rattle.fpl_base.specs.RuleNumbers.{number_of};
-ghost use Rattle.fpl_json.specs.KeptPlaces.{members_with};
-ghost use Rattle.fpl_json.specs.RuleData.{refusal_members, rule_data};
-ghost use Rattle.fpl_json.specs.Tokens.{Appends, tokens_of};
+ghost use Rattle.fpl_answers.specs.KeptPlaces.{members_with};
+ghost use Rattle.fpl_answers.specs.RuleData.{refusal_members, rule_data};
+ghost use Rattle.fpl_answers.specs.Tokens.{Appends, tokens_of};
 
-use crate::written::{write_count, write_text};
+use crate::members::{write_count, write_text};
 use fpl_base::Rule;
 use json::Writer;
-use std::alloc::{AllocError, Global};
+use std::alloc::AllocError;
 
 /// The value that a refusal keeps, under its name, and where that stands among the names of the other members.
 #[derive(Drop)]
@@ -79,16 +78,8 @@ fn kept_by(rule: Rule) -> Kept
     }
 }
 
-/// The text of a refusal.
-pub(crate) fn rule_text(alloc: Global, rule: &Rule) -> Result<Vec<u8>, AllocError>
-    ensures { IfOk result (λ text. text.items ≡ compact_text (rule_data rule.now)) }
-{
-    let mut out = Writer::new(Vec::with_capacity(alloc, 128)?);
-    write_rule(&mut out, rule)?;
-    Ok(out.into_inner())
-}
-
-fn write_rule(out: &mut Writer, rule: &Rule) -> Result<(), AllocError>
+/// A refusal: its number, and the value that it keeps.
+pub(crate) fn write_rule(out: &mut Writer, rule: &Rule) -> Result<(), AllocError>
     ensures { Appends result out.old out.new (tokens_of (rule_data rule.now)) }
 {
     write_refusal(out, &kept_by(*rule), u64::from(rule.number()))

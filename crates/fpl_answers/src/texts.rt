@@ -3,10 +3,10 @@
 
 ghost use Rattle.std.specs.Prelude.{◌≡◌, IfOk, codes};
 ghost use Rattle.serde_json.specs.Written.{compact_text};
-ghost use Rattle.fpl_json.specs.MemberData.{error_data, malformed_data};
-ghost use Rattle.fpl_json.specs.Tokens.{Appends, tokens_of};
+ghost use Rattle.fpl_answers.specs.MemberData.{error_data, malformed_data};
+ghost use Rattle.fpl_answers.specs.Tokens.{Appends, tokens_of};
 
-use crate::written::write_text;
+use crate::members::write_text;
 use fpl_base::Memory;
 use json::Writer;
 use std::alloc::{AllocError, Global};
@@ -20,7 +20,6 @@ pub fn malformed_text(alloc: Global, field: &str) -> Result<Vec<u8>, Memory>
     Ok(out.into_inner())
 }
 
-#[tactic(auto)]
 fn write_malformed(out: &mut Writer, field: &str) -> Result<(), AllocError>
     ensures { Appends result out.old out.new (tokens_of (malformed_data field.now)) }
 {

@@ -1,220 +1,169 @@
-// What the views show: a small function for each, which places its text in a block that is long enough.
-#![tactic(auto, unfolding(serde_json::proofs::OnLiterals::serde_json_on_literals))]
-
-ghost use Rattle.std.specs.Prelude.{◌≡◌, ◌+◌, ◌*◌, ◌≤◌, ◌++◌, [], codes, decimal, length, IfOk, map};
-ghost use Rattle.json.specs.Filled.{Placed};
+// What the views show: a small function for each, and one for each list in it.
+ghost use Rattle.std.specs.Prelude.{◌≡◌, codes, map};
 ghost use Rattle.serde_json.specs.Data.{array};
 ghost use Rattle.serde_json.specs.View.{items_of};
-ghost use Rattle.serde_json.specs.Written.{comma_if, compact_text};
-ghost use Rattle.fpl_json.specs.FixtureTexts.{head_text, tail_text};
-ghost use Rattle.fpl_json.specs.MemberData.{count_or_null};
-ghost use Rattle.fpl_json.specs.ShownData.{figures_data, fixture_data, line_data, shown_data};
+ghost use Rattle.fpl_answers.specs.MemberData.{count, count_or_null};
+ghost use Rattle.fpl_answers.specs.ShownData.{club_data, figures_data, fixture_data, line_data, player_data, season_data, shown_data};
+ghost use Rattle.fpl_answers.specs.Tokens.{Appends, member_tokens, tokens_of};
 
-use crate::named::{player_text, season_text};
-use crate::place::{place, place_count, place_integer, place_truth, zeros};
-use fpl_base::Gw;
-use rule_book::Figures;
-use season_host::{Shown, ShownFixture, ShownLine};
-use std::alloc::{AllocError, Global};
+use crate::members::{write_count, write_integer, write_nothing, write_text, write_truth};
+use fpl_base::{ClubId, Gw, Moment, Name};
+use json::Writer;
+use rule_book::{Figures, Player};
+use season_host::{Shown, ShownFixture, ShownLine, ShownSeason};
+use std::alloc::AllocError;
+use std::str;
 
-/// The text of what a view shows.
-pub(crate) fn shown_text(alloc: Global, shown: &Shown) -> Result<Vec<u8>, AllocError>
-    ensures { IfOk result (λ text. text.items ≡ compact_text (shown_data shown.now)) }
+/// About how many bytes the text of a view takes.
+pub(crate) fn room_of(shown: &Shown) -> usize {
+    match shown {
+        Shown::Season(season) => {
+            let clubs = season.clubs.as_slice().len().saturating_mul(88);
+            let deadlines = season.deadlines.as_slice().len().saturating_mul(14);
+            clubs.saturating_add(deadlines).saturating_add(64)
+        }
+        Shown::Fixture(fixture) => {
+            fixture
+                .lines
+                .as_slice()
+                .len()
+                .saturating_mul(56)
+                .saturating_add(128)
+        }
+        _ => 160,
+    }
+}
+
+pub(crate) fn write_shown(out: &mut Writer, shown: &Shown) -> Result<(), AllocError>
+    ensures { Appends result out.old out.new (tokens_of (shown_data shown.now)) }
 {
     match shown {
-        Shown::Season(season) => season_text(alloc, season),
-        Shown::Player(player) => player_text(alloc, player),
-        Shown::PlayerGameweek(figures) => figures_text(alloc, figures),
-        Shown::Fixture(fixture) => fixture_text(alloc, fixture),
+        Shown::Season(season) => write_season(out, season),
+        Shown::Player(player) => write_player(out, player),
+        Shown::PlayerGameweek(figures) => write_figures(out, figures),
+        Shown::Fixture(fixture) => write_fixture(out, fixture),
     }
 }
 
-fn figures_text(alloc: Global, figures: &Figures) -> Result<Vec<u8>, AllocError>
-    ensures { IfOk result (λ text. text.items ≡ compact_text (figures_data figures.now)) }
+fn write_season(out: &mut Writer, season: &ShownSeason) -> Result<(), AllocError>
+    ensures { Appends result out.old out.new (tokens_of (season_data season.now)) }
 {
-    figures_text_in(Vec::new(alloc), figures)
+    out.begin_object()?;
+    out.key("clubs")?;
+    write_clubs(out, season.clubs.as_slice())?;
+    out.key("deadlines")?;
+    write_moments(out, season.deadlines.as_slice())?;
+    write_count(out, "locked", u64::from(season.locked))?;
+    write_count(out, "split", u64::from(season.split))?;
+    out.end_object()
 }
 
-/// The text of figures, in an empty place.
-pub(crate) fn figures_text_in(place: Vec<u8>, figures: &Figures) -> Result<Vec<u8>, AllocError>
-    requires { place.items ≡ [] }
-    ensures { IfOk result (λ text. text.items ≡ compact_text (figures_data figures.now)) }
+fn write_clubs(out: &mut Writer, clubs: &[(ClubId, Name)]) -> Result<(), AllocError>
+    ensures { Appends result out.old out.new (tokens_of (array (items_of (map club_data clubs.now)))) }
 {
-    let mut block = [0; 120];
-    let end = place_figures(&mut block, figures);
-    let mut text = place;
-    text.extend_from_slice(&block[..end])?;
-    Ok(text)
-}
-
-fn fixture_text(alloc: Global, shown: &ShownFixture) -> Result<Vec<u8>, AllocError>
-    ensures { IfOk result (λ text. text.items ≡ compact_text (fixture_data shown.now)) }
-{
-    let tail = tail_text(alloc, shown.lines.as_slice())?;
-    let mut text = head_text_in(Vec::new(alloc), shown)?;
-    text.extend_from_slice(tail.as_slice())?;
-    Ok(text)
-}
-
-/// The text of lines, and of the end of the fixture behind them.
-fn tail_text(alloc: Global, lines: &[ShownLine]) -> Result<Vec<u8>, AllocError>
-    ensures { IfOk result (λ text. text.items ≡ tail_text lines.now) }
-{
-    drafted_tail_text(alloc, &mut Vec::new(alloc), lines)
-}
-
-/// The same. It is first written into a draft, which may hold anything, grows where it is too small, and serves again.
-pub(crate) fn drafted_tail_text(
-    alloc: Global,
-    draft: &mut Vec<u8>,
-    lines: &[ShownLine],
-) -> Result<Vec<u8>, AllocError>
-    ensures { IfOk result (λ text. text.items ≡ tail_text lines.now) }
-{
-    let room = room_for(lines.len(), 128, 3)?;
-    if draft.len() < room {
-        *draft = zeros(alloc, room)?;
+    out.begin_array()?;
+    for (id, name) in clubs {
+        write_club(out, *id, name)?;
     }
-    written_tail(alloc, draft.as_mut_slice(), lines)
+    out.end_array()
 }
 
-// The text of lines and of the end behind them, written into a draft that has room for it.
-fn written_tail(alloc: Global, draft: &mut [u8], lines: &[ShownLine]) -> Result<Vec<u8>, AllocError>
-    requires { 128 * length lines.now + 3 ≤ length draft.old }
-    ensures { IfOk result (λ text. text.items ≡ tail_text lines.now) }
+fn write_club(out: &mut Writer, id: ClubId, name: &Name) -> Result<(), AllocError>
+    ensures { Appends result out.old out.new (tokens_of (club_data (id, name.now))) }
 {
-    let end = place_tail(draft, lines);
-    Vec::from_slice(alloc, &draft[..end])
+    out.begin_object()?;
+    write_count(out, "id", u64::from(id.get()))?;
+    write_text(out, "name", text_of(name))?;
+    out.end_object()
 }
 
-/// The text of a fixture up to its lines, in an empty place.
-pub(crate) fn head_text_in(place: Vec<u8>, shown: &ShownFixture) -> Result<Vec<u8>, AllocError>
-    requires { place.items ≡ [] }
-    ensures { IfOk result (λ text. text.items ≡ head_text shown.now) }
+fn write_moments(out: &mut Writer, moments: &[Moment]) -> Result<(), AllocError>
+    ensures { Appends result out.old out.new (tokens_of (array (items_of (map count moments.now)))) }
 {
-    let mut head = [0; 192];
-    let end = place_head(&mut head, shown);
-    let mut text = place;
-    text.extend_from_slice(&head[..end])?;
-    Ok(text)
-}
-
-/// Room for so many of this size each, and for more.
-fn room_for(count: usize, each: usize, more: usize) -> Result<usize, AllocError>
-    ensures { IfOk result (λ room. room ≡ count * each + more) }
-{
-    match count.checked_mul(each) {
-        Some(room) => room.checked_add(more).ok_or(AllocError),
-        None => Err(AllocError),
+    out.begin_array()?;
+    for moment in moments {
+        out.u64(moment.get())?;
     }
+    out.end_array()
 }
 
-fn place_figures(block: &mut [u8], figures: &Figures) -> usize
-    requires { 120 ≤ length block.old }
-    ensures { Placed block.old block.new 0 (compact_text (figures_data figures.now)) result }
+fn write_player(out: &mut Writer, player: &Player) -> Result<(), AllocError>
+    ensures { Appends result out.old out.new (tokens_of (player_data player.now)) }
 {
-    let at = place(block, 0, br#"{"conceded":"#);
-    let at = place_count(block, at, u64::from(figures.conceded));
-    let at = place(block, at, br#","goals":"#);
-    let at = place_count(block, at, u64::from(figures.goals));
-    let at = place(block, at, br#","played":"#);
-    let at = place_truth(block, at, figures.played);
-    let at = place(block, at, br#","points":"#);
-    let at = place_integer(block, at, figures.points);
-    place(block, at, b"}")
+    out.begin_object()?;
+    write_count(out, "club", u64::from(player.club.get()))?;
+    write_truth(out, "gone", player.gone)?;
+    write_count(out, "id", u64::from(player.id.get()))?;
+    write_text(out, "name", text_of(&player.name))?;
+    write_text(out, "position", player.position.letter())?;
+    write_count(out, "price", u64::from(player.price.get()))?;
+    out.end_object()
 }
 
-fn place_head(block: &mut [u8], shown: &ShownFixture) -> usize
-    requires { 192 ≤ length block.old }
-    ensures head { Placed block.old block.new 0 (head_text shown.now) result }
-    ensures short { result ≤ 192 }
+fn write_figures(out: &mut Writer, figures: &Figures) -> Result<(), AllocError>
+    ensures { Appends result out.old out.new (tokens_of (figures_data figures.now)) }
+{
+    out.begin_object()?;
+    write_count(out, "conceded", u64::from(figures.conceded))?;
+    write_count(out, "goals", u64::from(figures.goals))?;
+    write_truth(out, "played", figures.played)?;
+    write_integer(out, "points", figures.points)?;
+    out.end_object()
+}
+
+fn write_fixture(out: &mut Writer, shown: &ShownFixture) -> Result<(), AllocError>
+    ensures { Appends result out.old out.new (tokens_of (fixture_data shown.now)) }
 {
     let fixture = shown.fixture;
-    let at = place(block, 0, br#"{"away":"#);
-    let at = place_count(block, at, u64::from(fixture.away.get()));
-    let at = place(block, at, br#","finished":"#);
-    let at = place_truth(block, at, shown.finished);
-    let at = place(block, at, br#","gameweek":"#);
-    let at = place_gameweek(block, at, fixture.gw);
-    let at = place(block, at, br#","home":"#);
-    let at = place_count(block, at, u64::from(fixture.home.get()));
-    let at = place(block, at, br#","id":"#);
-    let at = place_count(block, at, u64::from(fixture.id.get()));
-    let at = place(block, at, br#","kickoff":"#);
-    let at = place_count(block, at, fixture.kickoff.get());
-    place(block, at, br#","lines":"#)
+    out.begin_object()?;
+    write_count(out, "away", u64::from(fixture.away.get()))?;
+    write_truth(out, "finished", shown.finished)?;
+    write_gameweek(out, fixture.gw)?;
+    write_count(out, "home", u64::from(fixture.home.get()))?;
+    write_count(out, "id", u64::from(fixture.id.get()))?;
+    write_count(out, "kickoff", fixture.kickoff.get())?;
+    out.key("lines")?;
+    write_lines(out, shown.lines.as_slice())?;
+    out.end_object()
 }
 
-fn place_gameweek(block: &mut [u8], at: usize, gameweek: Option<Gw>) -> usize
-    requires { at + 20 ≤ length block.old }
-    ensures text { Placed block.old block.new at (compact_text (count_or_null gameweek)) result }
-    ensures short { result ≤ at + 20 }
+/// The gameweek of a fixture, or `null` where it stands in none.
+fn write_gameweek(out: &mut Writer, gameweek: Option<Gw>) -> Result<(), AllocError>
+    ensures { Appends result out.old out.new (member_tokens (codes "gameweek") (count_or_null gameweek)) }
 {
     match gameweek {
-        Some(gameweek) => place_count(block, at, u64::from(gameweek.get())),
-        None => place(block, at, b"null"),
+        Some(gameweek) => write_count(out, "gameweek", u64::from(gameweek.get())),
+        None => write_nothing(out, "gameweek"),
     }
 }
 
-fn place_tail(block: &mut [u8], lines: &[ShownLine]) -> usize
-    requires { 128 * length lines.now + 3 ≤ length block.old }
-    ensures { Placed block.old block.new 0 (tail_text lines.now) result }
+fn write_lines(out: &mut Writer, lines: &[ShownLine]) -> Result<(), AllocError>
+    ensures { Appends result out.old out.new (tokens_of (array (items_of (map line_data lines.now)))) }
 {
-    let at = place_lines(block, 0, lines);
-    place(block, at, b"}")
-}
-
-fn place_lines(block: &mut [u8], at: usize, lines: &[ShownLine]) -> usize
-    requires { at + 128 * length lines.now + 2 ≤ length block.old }
-    ensures text { Placed block.old block.new at (compact_text (array (items_of (map line_data lines.now)))) result }
-    ensures short { result ≤ at + 128 * length lines.now + 2 }
-{
-    let mut end = place(block, at, b"[");
-    let mut later = false;
+    out.begin_array()?;
     for line in lines {
-        end = place_line(block, end, later, line);
-        later = true;
+        write_line(out, line)?;
     }
-    place(block, end, b"]")
+    out.end_array()
 }
 
-#[inline(always)]
-fn place_line(block: &mut [u8], at: usize, later: bool, line: &ShownLine) -> usize
-    requires { at + 128 ≤ length block.old }
-    ensures text { Placed block.old block.new at (comma_if later ++ compact_text (line_data line.now)) result }
-    ensures short { result ≤ at + 128 }
+fn write_line(out: &mut Writer, line: &ShownLine) -> Result<(), AllocError>
+    ensures { Appends result out.old out.new (tokens_of (line_data line.now)) }
 {
-    let at = place_bonus(block, at, later, line.bonus);
-    let at = place_integer(block, at, line.bps);
-    let at = place(block, at, br#","player":"#);
-    let at = place_count(block, at, u64::from(line.player.get()));
-    let at = place(block, at, br#","points":"#);
-    let at = place_integer(block, at, line.points);
-    place(block, at, b"}")
+    out.begin_object()?;
+    write_count(out, "bonus", u64::from(line.bonus))?;
+    write_integer(out, "bps", line.bps)?;
+    write_count(out, "player", u64::from(line.player.get()))?;
+    write_integer(out, "points", line.points)?;
+    out.end_object()
 }
 
-// The front of a line. Most lines have no bonus, and follow another.
-#[inline(always)]
-fn place_bonus(block: &mut [u8], at: usize, later: bool, bonus: u8) -> usize
-    requires { at + 37 ≤ length block.old }
-    ensures text { Placed block.old block.new at (comma_if later ++ (codes "{\"bonus\":" ++ (decimal bonus ++ codes ",\"bps\":"))) result }
-    ensures short { result ≤ at + 37 }
+/// A name as text, which it always is.
+fn text_of(name: &Name) -> &str
+    ensures { result.now ≡ name.now }
 {
-    if later && bonus == 0 {
-        place(block, at, br#",{"bonus":0,"bps":"#)
-    } else {
-        let at = place_comma_if(block, at, later);
-        let at = place(block, at, br#"{"bonus":"#);
-        let at = place_count(block, at, u64::from(bonus));
-        place(block, at, br#","bps":"#)
+    match str::from_utf8(name.bytes()) {
+        Ok(text) => text,
+        Err(_) => unreachable!(),
     }
-}
-
-#[inline(always)]
-fn place_comma_if(block: &mut [u8], at: usize, later: bool) -> usize
-    requires { at + 1 ≤ length block.old }
-    ensures text { Placed block.old block.new at (comma_if later) result }
-    ensures short { result ≤ at + 1 }
-{
-    if later { place(block, at, b",") } else { at }
 }

@@ -1,10 +1,8 @@
-pub mod AppendLemmas
 pub mod BodyLemmas
 pub mod DifferLemmas
 pub mod DigitLemmas
 pub mod EntryLemmas
 pub mod FitLemmas
-pub mod FixtureFacts
 pub mod FoundFacts
 pub mod ListLemmas
 pub mod MemberLemmas

@@ -1,17 +1,9 @@
-pub mod Answers
-pub mod Bodies
 pub mod Callers
 pub mod FieldNames
-pub mod FixtureTexts
-pub mod KeptPlaces
-pub mod KeptTexts
 pub mod MemberData
 pub mod Members
 pub mod Reading
 pub mod Plain
 pub mod Requests
-pub mod RuleData
-pub mod ShownData
 pub mod Targets
-pub mod Tokens
 pub mod Trees

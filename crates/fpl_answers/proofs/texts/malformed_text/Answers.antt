@@ -1,7 +1,7 @@
 use Rattle.std.proofs.Common.{◌∙◌}
-use Rattle.fpl_json.specs.MemberData.{malformed_data}
-use Rattle.fpl_json.proofs.AppendLemmas.{text_of}
-use Rattle.fpl_json.proofs.texts.malformed_text.Goals as goal
+use Rattle.fpl_answers.specs.MemberData.{malformed_data}
+use Rattle.fpl_answers.proofs.AppendLemmas.{text_of}
+use Rattle.fpl_answers.proofs.texts.malformed_text.Goals as goal
 
 pub returns : goal.returns
 returns c =

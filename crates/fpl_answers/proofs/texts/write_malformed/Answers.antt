@@ -1,5 +1,5 @@
-use Rattle.fpl_json.proofs.AppendLemmas.{one, then}
-use Rattle.fpl_json.proofs.texts.write_malformed.Goals as goal
+use Rattle.fpl_answers.proofs.AppendLemmas.{one, then}
+use Rattle.fpl_answers.proofs.texts.write_malformed.Goals as goal
 
 pub returns : goal.returns
 returns c =

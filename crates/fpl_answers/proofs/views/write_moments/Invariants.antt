@@ -3,9 +3,9 @@ use Rattle.json.specs.Tree.{items_tokens}
 use Rattle.serde_json.specs.Data.{array}
 use Rattle.serde_json.specs.View.{items_of}
 use Rattle.serde_json.specs.Written.{items_outline}
-use Rattle.fpl_json.specs.MemberData.{count}
-use Rattle.fpl_json.specs.Tokens.{tokens_of}
-use Rattle.fpl_json.proofs.named.write_moments.Given as goal
+use Rattle.fpl_answers.specs.MemberData.{count}
+use Rattle.fpl_answers.specs.Tokens.{tokens_of}
+use Rattle.fpl_answers.proofs.views.write_moments.Given as goal
 
 -- the tokens so far, and then those of what is left, are those of all
 abbrev pub invariant-loop-moment : goal.invariant-loop-moment

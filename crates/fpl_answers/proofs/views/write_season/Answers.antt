@@ -1,5 +1,5 @@
-use Rattle.fpl_json.proofs.AppendLemmas.{one, then}
-use Rattle.fpl_json.proofs.named.write_season.Goals as goal
+use Rattle.fpl_answers.proofs.AppendLemmas.{one, then}
+use Rattle.fpl_answers.proofs.views.write_season.Goals as goal
 
 pub returns : goal.returns
 returns c =
