@@ -3,9 +3,10 @@ use Rattle.std.proofs.Common.{◌≡◌, ℕ, List, Result, Ok, Err, IfOk, IsTru
 use Rattle.fpl_base.specs.declared.kinds.Caller.{Caller}
 use Rattle.fpl_base.specs.declared.memory.Memory.{Memory}
 use Rattle.fpl_http.specs.Responses.{is_answer_status}
-use Rattle.fpl_json.specs.Answers.{done_status, status_of}
-use Rattle.fpl_session.specs.Replies.{answer_in, body_of}
-use Rattle.fpl_session.specs.declared.service.Reply.{Reply}
+use Rattle.fpl_answers.specs.Answers.{done_status, status_of}
+use Rattle.fpl_http.specs.Seen.{reply_seen}
+use Rattle.fpl_http.specs.declared.responses.Reply.{Reply}
+use Rattle.fpl_session.specs.Replies.{answer_in}
 use Rattle.record_codec.specs.Book.{Book}
 use Rattle.record_codec.specs.declared.made.Made.{Made}
 use Rattle.record_codec.specs.declared.made.Made.TheVariants as made
@@ -22,7 +23,7 @@ left_behind book after caller now request reply (inr (_, left)) = left
 
 -- an answer of the host that was written, or for which there was no memory
 pub judged_by : (book after : Book) (caller : Caller) (now : ℕ) (request : Request) (answered : Answer) (r : Result Reply Memory)
-    → MayAnswer book caller now request answered after → IfOk r (λ reply. (reply.status, body_of reply) ≡ reply_of answered)
+    → MayAnswer book caller now request answered after → IfOk r (λ reply. reply_seen reply ≡ reply_of answered)
     → IsJudged book caller now request (answer_in r) after
 judged_by book after caller now request answered (Ok reply) may e = inl (answered, may, e)
 judged_by book after caller now request answered (Err _) may e = inr (refl, left_behind book after caller now request answered may)

@@ -12,11 +12,11 @@ use Rattle.fpl_routes.specs.Targets.{OneFound}
 use Rattle.fpl_session.specs.Replies.{Speaks}
 use Rattle.fpl_session.specs.Runs.{Run}
 use Rattle.fpl_host.specs.Once.{AreJudged, IsJudgedAs, MessagesActOnce, OneAsked}
-use Rattle.fpl_host.specs.Replying.{Asking, IsAsked, IsJudged, IsReply, Judges, Reply, Served, asked_at}
+use Rattle.fpl_host.specs.Replying.{Asking, IsAsked, IsJudged, IsReply, Judges, Reply, Served, asked_along, way_of}
 
 pub one_asked : OneFound → OneAsked
-one_asked one host message a b (at, found, is) (at', found', is') =
-    is ∙ ap (asked_at host message) (one message.method message.target at at' found found') ∙ sym is'
+one_asked one host message a b (way, (at, found, goes), is) (way', (at', found', goes'), is') =
+    is ∙ ap (asked_along host message) (goes ∙ ap way_of (one message.method message.target at at' found found') ∙ sym goes') ∙ sym is'
 
 -- of these messages something was judged
 pub record Told (old : Served) (messages : List Message) (new : Served) : Type 0 where

@@ -1,7 +1,7 @@
 -- What a message was found to ask.
 use Rattle.std.specs.Prelude.{◌≡◌, ℕ, List, Result, Ok, Err, IsTrue, ⊤}
 use Rattle.fpl_http.specs.Responses.{is_answer_status}
-use Rattle.fpl_session.specs.Replies.{body_of}
+use Rattle.fpl_http.specs.Seen.{reply_seen}
 use Rattle.season_host.specs.Hosts.{IsRequest}
 use Rattle.fpl_host.specs.declared.desk.Asked.{Asked}
 use Rattle.fpl_host.specs.declared.desk.Asked.TheVariants as asked
@@ -10,7 +10,7 @@ use Rattle.fpl_host.specs.Replying.{Asking}
 -- who asks what, or the reply that refuses it
 abbrev pub asking_in : Asked → Asking
 asking_in (asked.By caller request) = Ok (caller, request)
-asking_in (asked.Refused reply) = Err (reply.status, body_of reply)
+asking_in (asked.Refused reply) = Err (reply_seen reply)
 
 -- what is asked can be judged, and a refusal has a status of a response
 abbrev pub CanFollow : Asked → Type 0

@@ -8,10 +8,10 @@ use Rattle.season_host.specs.Hosts.{HostState, owner_of}
 use Rattle.season_host.specs.Verdict.{MayAnswer, MayBeLeft}
 use Rattle.season_host.specs.declared.answer.Answer.{Answer}
 use Rattle.season_host.specs.declared.request.Request.{Request as Asked}
-use Rattle.fpl_json.specs.Answers.{answer_data, status_of}
+use Rattle.fpl_answers.specs.Answers.{answer_data, status_of}
 use Rattle.fpl_routes.specs.Callers.{is_for}
 use Rattle.fpl_bodies.specs.FieldNames.{name_of}
-use Rattle.fpl_json.specs.MemberData.{error_data, malformed_data}
+use Rattle.fpl_answers.specs.MemberData.{error_data, malformed_data}
 use Rattle.fpl_bodies.specs.Requests.{request_of}
 use Rattle.fpl_routes.specs.Targets.{IsFound}
 use Rattle.fpl_bodies.specs.declared.field.FieldName.{FieldName}
@@ -61,15 +61,28 @@ abbrev pub caller_of : HostState → Option (List ℕ) → Option Caller
 caller_of host None = None
 caller_of host (Some bytes) = owner_of host bytes
 
--- the route before the caller
-abbrev pub asked_at : HostState → Request → Found → Asking
-asked_at host message found.Unknown = Err (error_reply 404 (codes "unknown"))
-asked_at host message found.Method = Err (error_reply 405 (codes "method"))
-asked_at host message (found.Route route ids) = asked_by (caller_of host message.key) route ids message.body
+-- where a message goes: by a route with its ids, or to the reply that refuses it before the host is looked at
+abbrev pub Way : Type 0
+Way = Result (Route × List ℕ) Reply
 
--- what a message asks of the host
+-- the way from what a target and a method were found to be
+abbrev pub way_of : Found → Way
+way_of found.Unknown = Err (error_reply 404 (codes "unknown"))
+way_of found.Method = Err (error_reply 405 (codes "method"))
+way_of (found.Route route ids) = Ok (route, ids)
+
+-- a message goes this way
+abbrev pub Goes : Request → Way → Type 0
+Goes message way = (at : Found) × IsFound message.method message.target at × (way ≡ way_of at)
+
+-- what a message asks of the host on its way
+abbrev pub asked_along : HostState → Request → Way → Asking
+asked_along host message (Err refusal) = Err refusal
+asked_along host message (Ok (route, ids)) = asked_by (caller_of host message.key) route ids message.body
+
+-- what a message asks of the host: the route comes before the caller, and the caller before the body
 abbrev pub IsAsked : HostState → Request → Asking → Type 0
-IsAsked host message asking = (at : Found) × IsFound message.method message.target at × (asking ≡ asked_at host message at)
+IsAsked host message asking = (way : Way) × Goes message way × (asking ≡ asked_along host message way)
 
 -- what goes from message to message: the host, and the moments that the clock has left, if it tells them
 pub record Served : Type 0 where

@@ -1,21 +1,21 @@
 // The host at its desk: what a message asks of it, and the reply.
-ghost use Rattle.std.specs.Prelude.{◌≡◌, ℕ, List, IfOk, IfSome, IsTrue, Some, None, Option, option_map, ⊤};
+ghost use Rattle.std.specs.Prelude.{◌≡◌, ℕ, List, Err, IfOk, IsTrue, Ok, Some, ⊤};
 ghost use Rattle.fpl_base.specs.declared.kinds.Caller.{Caller};
 ghost use Rattle.fpl_http.specs.Responses.{is_answer_status};
-ghost use Rattle.fpl_http.specs.Seen.{request_seen};
-ghost use Rattle.fpl_session.specs.Replies.{answer_in, body_of};
+ghost use Rattle.fpl_http.specs.Seen.{reply_seen, request_seen};
+ghost use Rattle.fpl_session.specs.Replies.{answer_in};
 ghost use Rattle.fpl_bodies.specs.Requests.{request_of};
 ghost use Rattle.season_host.specs.Hosts.{IsRequest};
 ghost use Rattle.fpl_host.specs.Desks.{Asks};
-ghost use Rattle.fpl_host.specs.Replying.{Asking, IsAsked, IsReply, Judges, Served, asked_by, caller_of, reply_of, unless_malformed};
+ghost use Rattle.fpl_host.specs.Replying.{IsReply, Judges, RepliesTo, Served, asked_along, asked_by, caller_of, reply_of, unless_malformed};
 
 use fpl_base::{Caller, Clock, Keeper, Memory, Steps};
-use fpl_http::Message;
+use fpl_http::{Message, Reply};
 use fpl_json::{
-    Found, ReadFault, Route, Routes, Scratch, Texts, caller_text, key_text, malformed_text,
+    Found, ReadFault, Route, Routes, Scratch, answer_text, caller_text, key_text, malformed_text,
     method_text, read_request, unknown_text,
 };
-use fpl_session::{Reply, Service};
+use fpl_session::Service;
 use season_host::{Answer, Host, Request};
 use std::alloc::Global;
 use std::sync::ledger::Ledger;
@@ -26,16 +26,14 @@ pub struct Desk {
     routes: Routes,
 }
 
-/// The host, and what is kept from message to message: the place in which bodies are read, and the texts that were
-/// given before.
+/// The host, and the place in which bodies are read, which is kept from message to message.
 #[derive(Drop)]
 pub struct HostWithScratch {
     pub host: Host,
     pub scratch: Scratch,
-    pub texts: Texts,
 }
 
-/// What a message asks, or the reply that refuses it before the host judges it.
+/// What a message asks by its route, or the reply that refuses it before the host judges it.
 #[derive(Drop)]
 enum Asked {
     By(Caller, Request),
@@ -48,23 +46,6 @@ impl Desk {
         Ok(Desk {
             routes: Routes::new(alloc)?,
         })
-    }
-
-    // What a message asks of a host.
-    fn asked(
-        &self,
-        alloc: Global,
-        host: &Host,
-        scratch: &mut Scratch,
-        message: &Message<'_>,
-    ) -> Result<Asked, Memory>
-        ensures { (asking : Asking) × IsAsked host.now (request_seen message.now) asking × IfOk result (Asks asking) }
-    {
-        match self.routes.find(message.method, message.target) {
-            Found::Unknown => refused(alloc, 404, unknown_text()),
-            Found::Method => refused(alloc, 405, method_text()),
-            Found::Route { route, ids } => { asked_by(alloc, host, scratch, message, route, &ids) }
-        }
     }
 }
 
@@ -113,11 +94,34 @@ fn asked_as(
     }
 }
 
+// The reply to a message that goes by a route: the caller and the body first, and then the host.
+fn answered<K: Keeper, C: Clock, L: Ledger>(
+    alloc: Global,
+    host: &mut HostWithScratch,
+    keeper: &mut K,
+    clock: &mut C,
+    steps: &mut Steps<L>,
+    message: &Message<'_>,
+    route: Route,
+    ids: &[u32; 2],
+) -> Result<Reply, Memory>
+    ensures status { IfOk result (λ reply. IsTrue (is_answer_status reply.status)) }
+    ensures answered { RepliesTo (asked_along host.old.host (request_seen message.now) (Ok (route, ids.now)))
+        (record { host = host.old.host; moments = C.left clock.old })
+        (answer_in result) (record { host = host.new.host; moments = C.left clock.new }) }
+{
+    match asked_by(alloc, &host.host, &mut host.scratch, message, route, ids)? {
+        Asked::Refused(reply) => Ok(reply),
+        Asked::By(caller, request) => {
+            judged(alloc, &mut host.host, keeper, clock, steps, caller, &request)
+        }
+    }
+}
+
 // The reply to what a caller asks, judged at the moment that the clock tells.
 fn judged<K: Keeper, C: Clock, L: Ledger>(
     alloc: Global,
     host: &mut Host,
-    texts: &mut Texts,
     keeper: &mut K,
     clock: &mut C,
     steps: &mut Steps<L>,
@@ -130,31 +134,35 @@ fn judged<K: Keeper, C: Clock, L: Ledger>(
 {
     let now = clock.now();
     let answer = host.answer(keeper, caller, now, request, steps);
-    replied(alloc, texts, &answer)
+    replied(alloc, &answer)
 }
 
 // The reply of an answer.
-fn replied(alloc: Global, texts: &mut Texts, answer: &Answer) -> Result<Reply, Memory>
-    ensures reply { IfOk result (λ reply. (reply.status, body_of reply) ≡ reply_of answer.now) }
+fn replied(alloc: Global, answer: &Answer) -> Result<Reply, Memory>
+    ensures reply { IfOk result (λ reply. reply_seen reply ≡ reply_of answer.now) }
     ensures status { IfOk result (λ reply. IsTrue (is_answer_status reply.status)) }
 {
-    match texts.answer_text(alloc, answer) {
-        Ok(reply) => Ok(Reply {
-            status: reply.status,
-            body: reply.body,
-            rest: reply.rest,
-        }),
-        Err(Memory) => Err(Memory),
-    }
+    answer_text(alloc, answer)
 }
 
 // A reply of this status and this body.
+fn refusal(alloc: Global, status: u16, body: &'static [u8]) -> Result<Reply, Memory>
+    requires { IsTrue (is_answer_status status) }
+    ensures reply { IfOk result (λ reply. reply_seen reply ≡ (status, body.now)) }
+    ensures status { IfOk result (λ reply. IsTrue (is_answer_status reply.status)) }
+{
+    Ok(Reply {
+        status,
+        body: Vec::from_slice(alloc, body)?,
+    })
+}
+
+// The same, for who asks something.
 fn refused(alloc: Global, status: u16, body: &'static [u8]) -> Result<Asked, Memory>
     requires { IsTrue (is_answer_status status) }
     ensures { IfOk result (Asks (Err (status, body.now))) }
 {
-    let body = Vec::from_slice(alloc, body)?;
-    Ok(Asked::Refused(Reply::new(status, body)))
+    Ok(Asked::Refused(refusal(alloc, status, body)?))
 }
 
 // What a caller asks by a route and a body.
@@ -172,7 +180,7 @@ fn read(
         Ok(request) => Ok(Asked::By(*caller, request)),
         Err(ReadFault::Malformed { field }) => {
             let body = malformed_text(alloc, field.name())?;
-            Ok(Asked::Refused(Reply::new(400, body)))
+            Ok(Asked::Refused(Reply { status: 400, body }))
         }
         Err(ReadFault::Memory) => Err(Memory),
     }
@@ -196,24 +204,12 @@ impl<K: Keeper, C: Clock, L: Ledger> Service<HostWithScratch, K, C, L> for Desk 
         steps: &mut Steps<L>,
         message: &Message<'_>,
     ) -> Result<Reply, Memory> {
-        match self.asked(alloc, &host.host, &mut host.scratch, message)? {
-            Asked::Refused(reply) => Ok(reply),
-            Asked::By(caller, request) => {
-                judged(
-                    alloc,
-                    &mut host.host,
-                    &mut host.texts,
-                    keeper,
-                    clock,
-                    steps,
-                    caller,
-                    &request,
-                )
+        match self.routes.find(message.method, message.target) {
+            Found::Unknown => refusal(alloc, 404, unknown_text()),
+            Found::Method => refusal(alloc, 405, method_text()),
+            Found::Route { route, ids } => {
+                answered(alloc, host, keeper, clock, steps, message, route, &ids)
             }
         }
-    }
-
-    fn reclaim(&self, host: &mut HostWithScratch, body: Vec<u8>) {
-        host.texts.reclaim(body);
     }
 }

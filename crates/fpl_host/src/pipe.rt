@@ -7,7 +7,7 @@ ghost use Rattle.fpl_host.specs.Pipe.{Pipes, status_of};
 use crate::desk::{Desk, HostWithScratch};
 use crate::status::{CUT, DONE, MEMORY, READ_FAULT, REFUSED, TOO_LONG, WRITE_FAULT};
 use fpl_base::{Clock, Keeper, Key, Memory, Sink, Source, Steps};
-use fpl_json::{Scratch, Texts};
+use fpl_json::Scratch;
 use fpl_session::{Ending, session};
 use season_host::Host;
 use std::alloc::Global;
@@ -51,7 +51,6 @@ fn opened<K: Keeper, L: Ledger>(
             HostWithScratch {
                 host,
                 scratch: Scratch::new(alloc),
-                texts: Texts::new(alloc),
             },
         )),
         Err(_) => Err(Memory),

@@ -5,4 +5,3 @@ pub mod PartsLemmas
 pub mod StoredLemmas
 pub mod HeldLemmas
 pub mod ResponsesLemmas
-pub mod PiecesLemmas

@@ -8,4 +8,3 @@ pub mod Held
 pub mod Seen
 pub mod Responses
 pub mod Laws
-pub mod Pieces

@@ -1,6 +1,7 @@
--- what a message that borrows its bytes says
-use Rattle.std.specs.Prelude.{option_map}
+-- what a message that borrows its bytes says, and what a reply says
+use Rattle.std.specs.Prelude.{ℕ, List, option_map}
 use Rattle.fpl_http.specs.declared.decoder.Message.{Message}
+use Rattle.fpl_http.specs.declared.responses.Reply.{Reply}
 use Rattle.fpl_http.specs.Stream.{Request}
 
 -- the bytes of its parts
@@ -12,3 +13,7 @@ request_seen m = record {
   body = m.body.now;
   closes = m.closes;
 }
+
+-- its status and its body
+abbrev pub reply_seen : Reply → ℕ × List ℕ
+reply_seen reply = (reply.status, reply.body.items)

@@ -8,13 +8,11 @@ mod head;
 mod laws;
 mod length;
 mod lines;
-mod pieces;
 mod responses;
 
 pub use decoder::{Decoder, Message, Next};
 pub use laws::{fronts_stay, two_readings_are_one};
-pub use pieces::{OwnedMessage, StreamEnd, Transcript, read_pieces};
-pub use responses::{append_response, memory_response};
+pub use responses::{Reply, append_response, memory_response};
 
 #[cfg(test)]
 mod tests;

@@ -1,5 +1,5 @@
 // The lines of a stream: the empty ones in front of a message, and where a head ends.
-ghost use Rattle.std.specs.Prelude.{◌≡◌, ◌≤◌, ◌+◌, ℕ, length, drop, take, None, IfNone, IfSome, option_map};
+ghost use Rattle.std.specs.Prelude.{◌≡◌, ◌≤◌, ◌+◌, length, drop, take, None, IfNone, IfSome};
 ghost use Rattle.fpl_http.specs.Lines.{empty_line, head_len, head_len_behind, strip, line_count, head_end, EndWithin};
 
 use memchr::memchr;
@@ -47,50 +47,25 @@ fn line_length(bytes: &[u8]) -> Option<usize>
     }
 }
 
-/// The length of a head, and how many lines the search for its end went through.
-#[derive(Clone, Copy, Debug)]
-pub struct HeadSize {
-    pub length: usize,
-    pub lines: usize,
-}
-
-/// The size of the head at the front, if it ends there. Nothing ends in the bytes that were searched
+/// The length of the head at the front, if it ends there. Nothing ends in the bytes that were searched
 /// before, so those are passed over, but for the two that may belong to an ending.
-pub fn head_size(bytes: &[u8], searched: usize) -> Option<HeadSize>
+pub fn head_length(bytes: &[u8], searched: usize) -> Option<usize>
     requires within { searched ≤ length bytes.now }
     requires none { head_len (take searched bytes.now) ≡ None }
-    ensures value { option_map (λ size. size.length) result ≡ head_len bytes.now }
-    ensures lines { IfSome result (λ size. searched ≡ 0 → size.lines ≡ line_count (take size.length bytes.now)) }
-    ensures within { IfSome result (λ size. size.length ≤ length bytes.now) }
+    ensures value { result ≡ head_len bytes.now }
+    ensures within { IfSome result (λ n. n ≤ length bytes.now) }
 {
     let mut at = searched.saturating_sub(2);
-    let mut lines = 0;
     while let Some(line) = line_length(&bytes[at..]) {
         at += line;
-        lines += 1;
         if let Some(n) = blank_length(&bytes[at..]) {
-            return Some(HeadSize {
-                length: at + n,
-                lines: lines + 1,
-            });
+            return Some(at + n);
         }
     }
     None
 }
 
-/// How many lines end in a head, which the search told if it began at the front.
-fn lines_of(bytes: &[u8], searched: usize, size: HeadSize) -> usize
-    requires within { size.length ≤ length bytes.now }
-    requires lines { searched ≡ 0 → size.lines ≡ line_count (take size.length bytes.now) }
-    ensures { result ≡ line_count (take size.length bytes.now) }
-{
-    if searched == 0 {
-        size.lines
-    } else {
-        count_lines(&bytes[..size.length])
-    }
-}
-
+/// How many lines end in these bytes.
 fn count_lines(bytes: &[u8]) -> usize
     ensures { result ≡ line_count bytes.now }
 {
@@ -121,16 +96,16 @@ pub fn find_head_end(bytes: &[u8], searched: usize) -> HeadEnd
     ensures within { EndWithin (length bytes.now) result }
 {
     let front = &bytes[..bytes.len().min(HEAD_BYTES)];
-    match head_size(front, searched) {
+    match head_length(front, searched) {
         None => if bytes.len() >= HEAD_BYTES {
             HeadEnd::TooLarge
         } else {
             HeadEnd::Missing
         },
-        Some(size) => if lines_of(front, searched, size) > HEAD_LINES {
+        Some(size) => if count_lines(&front[..size]) > HEAD_LINES {
             HeadEnd::TooLarge
         } else {
-            HeadEnd::At(size.length)
+            HeadEnd::At(size)
         },
     }
 }

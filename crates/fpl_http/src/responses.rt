@@ -1,33 +1,27 @@
-// The bytes of a response.
-ghost use Rattle.std.specs.Prelude.{◌≡◌, ◌≤◌, ◌+◌, ◌++◌, codes, decimal, length, IsTrue, OnErr, OnOk};
+// What goes back for a message, and its bytes.
+ghost use Rattle.std.specs.Prelude.{◌≡◌, ◌≤◌, ◌+◌, ◌++◌, codes, length, IsTrue, OnErr, OnOk};
 ghost use Rattle.std.specs.Vec.{vec_capacity, vec_len};
 ghost use Rattle.fpl_http.specs.Responses.{is_answer_status, phrase, closing_line, head_text, response_text, memory_text};
 
 use fpl_base::Memory;
+use http::StatusCode;
 use itoa::Buffer;
 
-/// The line of a status, without its end.
-fn status_line(status: u16) -> &'static [u8]
+/// What goes back for a message: the status of the response, and its body.
+#[derive(Debug, Drop)]
+pub struct Reply {
+    pub status: u16,
+    pub body: Vec<u8>,
+}
+
+/// The phrase of a status.
+fn phrase_of(status: u16) -> &'static str
     requires { IsTrue (is_answer_status status) }
-    ensures line { result.now ≡ codes "HTTP/1.1 " ++ (decimal status ++ (codes " " ++ phrase status)) }
-    ensures short { length result.now ≤ 44 }
+    ensures { result.now ≡ phrase status }
 {
-    match status {
-        200 => b"HTTP/1.1 200 OK",
-        201 => b"HTTP/1.1 201 Created",
-        400 => b"HTTP/1.1 400 Bad Request",
-        401 => b"HTTP/1.1 401 Unauthorized",
-        403 => b"HTTP/1.1 403 Forbidden",
-        404 => b"HTTP/1.1 404 Not Found",
-        405 => b"HTTP/1.1 405 Method Not Allowed",
-        409 => b"HTTP/1.1 409 Conflict",
-        411 => b"HTTP/1.1 411 Length Required",
-        413 => b"HTTP/1.1 413 Payload Too Large",
-        431 => b"HTTP/1.1 431 Request Header Fields Too Large",
-        500 => b"HTTP/1.1 500 Internal Server Error",
-        501 => b"HTTP/1.1 501 Not Implemented",
-        503 => b"HTTP/1.1 503 Service Unavailable",
-        _ => b"HTTP/1.1 507 Insufficient Storage",
+    match StatusCode::from_u16(status) {
+        Ok(code) => code.canonical_reason().unwrap_or(""),
+        Err(_) => "",
     }
 }
 
@@ -55,6 +49,17 @@ fn put(out: &mut Vec<u8>, text: &[u8])
     let _ = out.extend_from_slice(text);
 }
 
+/// Appends the phrase of a status, for which there is room.
+fn put_phrase(out: &mut Vec<u8>, status: u16)
+    requires status { IsTrue (is_answer_status status) }
+    requires room { vec_len out.old + 31 ≤ vec_capacity out.old }
+    ensures items { out.new.items ≡ out.old.items ++ phrase status }
+    ensures len { vec_len out.new ≤ vec_len out.old + 31 }
+    ensures capacity { vec_capacity out.old ≤ vec_capacity out.new }
+{
+    put(out, phrase_of(status).as_bytes());
+}
+
 /// Room for the longest head.
 const HEAD_ROOM: usize = 160;
 
@@ -66,32 +71,32 @@ fn put_head(out: &mut Vec<u8>, status: u16, size: usize, closing: bool)
     ensures len { vec_len out.new ≤ vec_len out.old + 160 }
     ensures capacity { vec_capacity out.old ≤ vec_capacity out.new }
 {
-    put(out, status_line(status));
+    put(out, b"HTTP/1.1 ");
+    put(out, Buffer::new().format(status).as_bytes());
+    put(out, b" ");
+    put_phrase(out, status);
     put(out, FIELDS);
     put(out, Buffer::new().format(size).as_bytes());
     put(out, end_of_head(closing));
 }
 
-/// Appends the bytes of a response whose body is this front with this rest behind it. `closing` says that the session
-/// ends after it. Where there is no memory for all of it, nothing is appended.
+/// Appends the bytes of a response. `closing` says that the session ends after it. Where there is no memory for all of
+/// it, nothing is appended.
 pub fn append_response(
     out: &mut Vec<u8>,
     status: u16,
-    front: &[u8],
-    rest: &[u8],
+    body: &[u8],
     closing: bool,
 ) -> Result<(), Memory>
     requires { IsTrue (is_answer_status status) }
-    ensures ok { OnOk result (out.new.items ≡ out.old.items ++ response_text status (front.now ++ rest.now) closing) }
+    ensures ok { OnOk result (out.new.items ≡ out.old.items ++ response_text status body.now closing) }
     ensures err { OnErr result (out.new.items ≡ out.old.items) }
     ensures capacity { vec_capacity out.old ≤ vec_capacity out.new }
 {
-    let size = front.len() + rest.len();
-    let room = size.checked_add(HEAD_ROOM).ok_or(Memory)?;
+    let room = body.len().checked_add(HEAD_ROOM).ok_or(Memory)?;
     out.reserve(room)?;
-    put_head(out, status, size, closing);
-    put(out, front);
-    put(out, rest);
+    put_head(out, status, body.len(), closing);
+    put(out, body);
     Ok(())
 }
 

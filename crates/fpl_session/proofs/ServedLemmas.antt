@@ -1,7 +1,6 @@
 -- messages that were answered, one part after another
 use Rattle.std.proofs.Common.{◌≡◌, ◌∙◌, ap, sym, subst, refl, ℕ, List, [], ◌∷◌, ◌++◌, ◌+◌, ◌<◌, ◌≤◌, length, take, true, false, inl, inr, arith, append_assoc, append-nil}
 use Rattle.std.proofs.lemmas.List.{length-append, take_all}
-use Rattle.std.proofs.Math.Seq.{take-append-add}
 use Rattle.std.specs.Prelude.{Option, Some, None}
 use Rattle.std.specs.Io.KnownBytes.{Appends}
 use Rattle.fpl_base.specs.Causes.{AppendsFront}
@@ -19,7 +18,7 @@ use Rattle.fpl_session.specs.declared.turn.Turn.TheVariants as Turns
 use Rattle.fpl_session.specs.Replies.{Refuses}
 use Rattle.fpl_session.specs.Runs.{joined, Served}
 use Rattle.fpl_session.specs.Sessions.{Heard}
-use Rattle.fpl_session.specs.Stops.{IsDueBehind, WriteFailed}
+use Rattle.fpl_session.specs.Stops.{BatchFailed, IsDueBehind, WriteFailed}
 use Rattle.fpl_session.specs.Turns.{Turned, Stopped}
 use Rattle.fpl_session.proofs.RunLemmas.{joined_both, run_then}
 
@@ -33,22 +32,7 @@ Appends-trans (Some x) None c bs cs p q = absurd p
 Appends-trans (Some x) (Some y) None bs cs p q = absurd q
 Appends-trans (Some x) (Some y) (Some z) bs cs p q = q ∙ ap (λ (l : List ℕ). l ++ cs) p ∙ append_assoc x bs cs
 
-Appends-front : (a b : Option (List ℕ)) (bs : List ℕ) → Appends a b bs → AppendsFront a b bs
-Appends-front a b bs p = (length bs, omega arith, subst (Appends a b) (sym (take_all (length bs) bs (omega arith))) p)
-
-AppendsFront-trans : (a b c : Option (List ℕ)) (bs cs : List ℕ) → Appends a b bs → AppendsFront b c cs → AppendsFront a c (bs ++ cs)
-AppendsFront-trans a b c bs cs p (k, fits, q) = (
-  length bs + k,
-  omega (arith, fits, length-append bs cs),
-  subst (Appends a c) (sym (take-append-add bs cs k)) (Appends-trans a b c bs (take k cs) p q),
-)
-
--- what is due behind more messages
-due_after : (s r : List ℕ) (ms ns : List Request) (more : List ℕ) → Begins s ms r → IsDueBehind r ns more → IsDueBehind s (ms ++ ns) more
-due_after s r ms ns more p (inl (inl (rest, q), none)) = inl (inl (rest, begins_then s r rest ms ns p q), none)
-due_after s r ms ns more p (inl (inr q, none)) = inl (inr (begins_reads s r ms ns Closed p q), none)
-due_after s r ms ns more p (inr (k, q, refuses)) = inr (k, begins_reads s r ms ns (Refused k) p q, refuses)
-
+-- what is due, where more bytes come
 due_more : (s x : List ℕ) (ms : List Request) (more : List ℕ) → IsDueBehind s ms more → IsDueBehind (s ++ x) ms more
 due_more s x ms more (inl (inl (rest, q), none)) = inl (inl (rest ++ x, begins_more s x rest ms q), none)
 due_more s x ms more (inl (inr q, none)) = inl (inr (reads_more s x ms q), none)
@@ -99,16 +83,15 @@ module _ {S : Type 0} (step : S → Request → List ℕ → S → Type 0) where
     sent = texts_then u v w x.texts y.texts more x.sent y.sent;
   }
 
-  failed_after : (s r : List ℕ) (a b c : S) (u v w : Option (List ℕ)) → Served step s r a b u v → WriteFailed step r b c v w → WriteFailed step s a c u w
-  failed_after s r a b c u v w x y = record {
-    messages = x.messages ++ y.messages;
-    texts = x.texts ++ y.texts;
-    more = y.more;
-    due = due_after s r x.messages y.messages y.more x.begins y.due;
-    run = run_then step a b c x.messages y.messages x.texts y.texts x.run y.run;
-    some = subst (λ (l : List ℕ). 0 < length l) (both x.texts y.texts y.more) (omega (arith, length-append (joined x.texts) (joined y.texts ++ y.more), y.some));
-    sent = subst (AppendsFront u w) (both x.texts y.texts y.more) (AppendsFront-trans u v w (joined x.texts) (joined y.texts ++ y.more) x.sent y.sent);
-  }
+  -- the batch that failed was the first one
+  failed_first : (s : List ℕ) (a b : S) (u v : Option (List ℕ)) → BatchFailed step s a b u v → WriteFailed step s a b u v
+  failed_first s a b u v y = record { rest = s; mid = a; between = u; whole = served_none s s a u refl; failed = y }
+
+  pub failed_after : (s r : List ℕ) (a b c : S) (u v w : Option (List ℕ)) → Served step s r a b u v → WriteFailed step r b c v w → WriteFailed step s a c u w
+  failed_after s r a b c u v w x y = record { rest = y.rest; mid = y.mid; between = y.between; whole = served_then s r y.rest a b y.mid u v y.between x y.whole; failed = y.failed }
+
+  pub batch_after : (s r : List ℕ) (a b c : S) (u v w : Option (List ℕ)) → Served step s r a b u v → BatchFailed step r b c v w → WriteFailed step s a c u w
+  batch_after s r a b c u v w x y = failed_after s r a b c u v w x (failed_first r b c v w y)
 
   pub stopped_after : (s r : List ℕ) (a b c : S) (u v w : Option (List ℕ)) (e : Ending) → Served step s r a b u v → Stopped step r b c v w e → Stopped step s a c u w e
   stopped_after s r a b c u v w Ends.Closed x y = heard_after s r Closed a b c u v w [] x y
@@ -120,8 +103,17 @@ module _ {S : Type 0} (step : S → Request → List ℕ → S → Type 0) where
   stopped_after s r a b c u v w Ends.Long x y = absurd y
   stopped_after s r a b c u v w Ends.Memory x y = absurd y
 
-  pub failed_more : (s x : List ℕ) (a b : S) (u v : Option (List ℕ)) → WriteFailed step s a b u v → WriteFailed step (s ++ x) a b u v
-  failed_more s x a b u v y = record { messages = y.messages; texts = y.texts; more = y.more; due = due_more s x y.messages y.more y.due; run = y.run; some = y.some; sent = y.sent }
+  batch_more : (s x : List ℕ) (a b : S) (u v : Option (List ℕ)) → BatchFailed step s a b u v → BatchFailed step (s ++ x) a b u v
+  batch_more s x a b u v y = record { messages = y.messages; texts = y.texts; more = y.more; due = due_more s x y.messages y.more y.due; run = y.run; some = y.some; sent = y.sent }
+
+  failed_more : (s x : List ℕ) (a b : S) (u v : Option (List ℕ)) → WriteFailed step s a b u v → WriteFailed step (s ++ x) a b u v
+  failed_more s x a b u v y = record {
+    rest = y.rest ++ x;
+    mid = y.mid;
+    between = y.between;
+    whole = served_more s y.rest x a y.mid u y.between y.whole;
+    failed = batch_more y.rest x y.mid b y.between v y.failed;
+  }
 
   pub closed_more : (s x : List ℕ) (a b : S) (u v : Option (List ℕ)) → Heard step s Closed a b u v [] → Heard step (s ++ x) Closed a b u v []
   closed_more s x a b u v h = record { messages = h.messages; texts = h.texts; reads = reads_more s x h.messages h.reads; run = h.run; sent = h.sent }
@@ -192,7 +184,7 @@ module _ {S : Type 0} (step : S → Request → List ℕ → S → Type 0) where
   turned_sent s r a b u v ts Turns.Closed x sent = heard_sent s.pending Closed a b u v [] ts x sent
   turned_sent s r a b u v ts (Turns.Refused k) (t, refuses, x) sent = (t, refuses, heard_sent s.pending (Refused k) a b u v t ts x sent)
 
-  served_failed : (s r : List ℕ) (a b : S) (u v : Option (List ℕ)) (ts : List ℕ) → 0 < length ts → Served step s r a b (Some []) (Some ts) → AppendsFront u v ts → WriteFailed step s a b u v
+  served_failed : (s r : List ℕ) (a b : S) (u v : Option (List ℕ)) (ts : List ℕ) → 0 < length ts → Served step s r a b (Some []) (Some ts) → AppendsFront u v ts → BatchFailed step s a b u v
   served_failed s r a b u v ts some x sent = record {
     messages = x.messages;
     texts = x.texts;
@@ -203,7 +195,7 @@ module _ {S : Type 0} (step : S → Request → List ℕ → S → Type 0) where
     sent = subst (AppendsFront u v) (x.sent ∙ sym (append-nil (joined x.texts))) sent;
   }
 
-  pub turned_failed : (s r : Held) (a b : S) (u v : Option (List ℕ)) (ts : List ℕ) (turn : Turn) → 0 < length ts → Turned step s r a b (Some []) (Some ts) turn → AppendsFront u v ts → WriteFailed step s.pending a b u v
+  pub turned_failed : (s r : Held) (a b : S) (u v : Option (List ℕ)) (ts : List ℕ) (turn : Turn) → 0 < length ts → Turned step s r a b (Some []) (Some ts) turn → AppendsFront u v ts → BatchFailed step s.pending a b u v
   turned_failed s r a b u v ts Turns.Answered some (x, less) sent = served_failed s.pending r.pending a b u v ts some x sent
   turned_failed s r a b u v ts Turns.Waits some (x, waits) sent = served_failed s.pending r.pending a b u v ts some x sent
   turned_failed s r a b u v ts Turns.Closed some x sent = record { messages = x.messages; texts = x.texts; more = []; due = inl (inr x.reads, refl); run = x.run; some = subst (λ (l : List ℕ). 0 < length l) x.sent some; sent = subst (AppendsFront u v) x.sent sent }

@@ -11,10 +11,9 @@ use Rattle.fpl_http.proofs.StreamLemmas.{begins_reads, nothing_waits}
 use Rattle.fpl_session.specs.declared.ending.Ending.{Ending}
 use Rattle.fpl_session.specs.declared.ending.Ending.TheVariants as Ends
 use Rattle.fpl_session.specs.Runs.{Run, joined, Served}
-use Rattle.fpl_session.specs.Stops.{WriteFailed}
 use Rattle.fpl_session.specs.Sessions.{Heard, SessionOf, SessionOver, ending_of, EndsAs}
 use Rattle.fpl_session.specs.Turns.{Heeds, Exchanged, Stopped}
-use Rattle.fpl_session.proofs.ServedLemmas.{Appends-trans, closed_more, failed_more, refused_more, served_more, served_then, stopped_after, stopped_more}
+use Rattle.fpl_session.proofs.ServedLemmas.{Appends-trans, closed_more, refused_more, served_more, served_then, stopped_after, stopped_more}
 
 pub Consumes-nil : (a : Option (List ℕ)) → Consumes a a []
 Consumes-nil None = tt
@@ -94,7 +93,18 @@ module _ {S : Type 0} (step : S → Request → List ℕ → S → Type 0) where
       let (t, refuses, heard) = joined_stops got h.got s.pending a b c u v w (Ends.Refused k) x h.stopped in
       (got ++ h.got, t, Consumes-trans left mid now got h.got first h.taken, few got h.got most n h.few long short room, refuses, heard)
   session_ends most n left mid now got s r a b c u v w Ends.Write long short room first x wait h =
-      (got ++ h.got, Consumes-trans left mid now got h.got first h.taken, few got h.got most n h.few long short room, joined_stops got h.got s.pending a b c u v w Ends.Write x h.stopped)
+      (got ++ h.got, Consumes-trans left mid now got h.got first h.taken, few got h.got most n h.few long short room, record {
+        earlier = got;
+        piece = h.got;
+        rest = s.pending;
+        mid = b;
+        between = v;
+        all = refl;
+        few = h.size;
+        whole = x;
+        waits = wait.front;
+        failed = h.stopped;
+      })
   session_ends most n left mid now got s r a b c u v w Ends.Long long short room first x wait h = absurd h
   session_ends most n left mid now got s r a b c u v w Ends.Memory long short room first x wait h = absurd h
 
@@ -123,7 +133,7 @@ module _ {S : Type 0} (step : S → Request → List ℕ → S → Type 0) where
   over all rest a c u w (Ends.Refused k) (got, t, e, short, refuses, h) = (t, refuses, heard_at (got ++ rest) all (Refused k) a c u w t (sym e) (refused_more step got rest a c u w k t h))
   over all rest a c u w Ends.Read (got, left, e, short, h) = (got, rest, left, e, h)
   over all rest a c u w Ends.Long (got, left, e, size, h) = (got, rest, left, e, size, h)
-  over all rest a c u w Ends.Write (got, e, short, failed) = subst (λ (l : List ℕ). WriteFailed step l a c u w) (sym e) (failed_more step got rest a c u w failed)
+  over all rest a c u w Ends.Write (got, e, short, failed) = (got, rest, e, failed)
   over all rest a c u w Ends.Memory (e, same, sent) = (same, sent)
 
   pub session_over : (left now : Option (List ℕ)) (a c : S) (u w : Option (List ℕ)) (e : Ending) → SessionOf step left now a c u w e → IfSome left (λ all. SessionOver step all a c u w e)
@@ -132,15 +142,15 @@ module _ {S : Type 0} (step : S → Request → List ℕ → S → Type 0) where
   session_over (Some all) (Some rest) a c u w e h = over all rest a c u w e h
 
   -- a piece was read, and serving it ended the session
-  pub exchanged_stops : (most : ℕ) (left now : Option (List ℕ)) (s r : Held) (a b : S) (u v : Option (List ℕ)) (e : Ending) (got : List ℕ) → Consumes left now got → length got ≤ most → Stopped step (s.pending ++ got) a b u v e → Exchanged step most left now s r a b u v (Err e)
-  exchanged_stops most left now s r a b u v Ends.Closed got c fits stopped = record { got = got; taken = c; few = fits; stopped = stopped }
-  exchanged_stops most left now s r a b u v (Ends.Refused k) got c fits stopped = record { got = got; taken = c; few = fits; stopped = stopped }
-  exchanged_stops most left now s r a b u v Ends.Write got c fits stopped = record { got = got; taken = c; few = fits; stopped = stopped }
-  exchanged_stops most left now s r a b u v Ends.Done got c fits stopped = absurd stopped
-  exchanged_stops most left now s r a b u v Ends.Cut got c fits stopped = absurd stopped
-  exchanged_stops most left now s r a b u v Ends.Read got c fits stopped = absurd stopped
-  exchanged_stops most left now s r a b u v Ends.Long got c fits stopped = absurd stopped
-  exchanged_stops most left now s r a b u v Ends.Memory got c fits stopped = absurd stopped
+  pub exchanged_stops : (most : ℕ) (left now : Option (List ℕ)) (s r : Held) (a b : S) (u v : Option (List ℕ)) (e : Ending) (got : List ℕ) → Consumes left now got → length got ≤ most → length got ≤ 65536 → Stopped step (s.pending ++ got) a b u v e → Exchanged step most left now s r a b u v (Err e)
+  exchanged_stops most left now s r a b u v Ends.Closed got c fits small stopped = record { got = got; taken = c; few = fits; size = small; stopped = stopped }
+  exchanged_stops most left now s r a b u v (Ends.Refused k) got c fits small stopped = record { got = got; taken = c; few = fits; size = small; stopped = stopped }
+  exchanged_stops most left now s r a b u v Ends.Write got c fits small stopped = record { got = got; taken = c; few = fits; size = small; stopped = stopped }
+  exchanged_stops most left now s r a b u v Ends.Done got c fits small stopped = absurd stopped
+  exchanged_stops most left now s r a b u v Ends.Cut got c fits small stopped = absurd stopped
+  exchanged_stops most left now s r a b u v Ends.Read got c fits small stopped = absurd stopped
+  exchanged_stops most left now s r a b u v Ends.Long got c fits small stopped = absurd stopped
+  exchanged_stops most left now s r a b u v Ends.Memory got c fits small stopped = absurd stopped
 
   cut_is : (rest : List ℕ) → 0 < length rest → Ends.Cut ≡ ending_of (Open rest)
   cut_is [] some = absurd (omega arith)

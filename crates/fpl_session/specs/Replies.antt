@@ -1,26 +1,16 @@
 -- what a service answers, and the text that is sent for it
-use Rattle.std.specs.Prelude.{ℕ, ◌≡◌, ◌⊎◌, ◌++◌, Bool, true, List, Option, Some, None, Vec, codes, Result, Ok, Err, OnOk, OnErr}
-use Rattle.std.specs.declared.alloc.Global.{Global}
-use Rattle.std.specs.declared.rc.Rc.{Rc}
+use Rattle.std.specs.Prelude.{ℕ, ◌≡◌, ◌⊎◌, Bool, true, List, Option, codes, Result, Ok, Err, OnOk, OnErr}
 use Rattle.std.specs.Io.KnownBytes.{Appends}
 use Rattle.fpl_base.specs.declared.memory.Memory.{Memory}
 use Rattle.fpl_base.specs.Causes.{AppendsFront}
 use Rattle.fpl_http.specs.Responses.{response_text, memory_text}
+use Rattle.fpl_http.specs.declared.responses.Reply.{Reply}
+use Rattle.fpl_http.specs.Seen.{reply_seen}
 use Rattle.fpl_http.specs.Stream.{Request}
-use Rattle.fpl_session.specs.declared.service.Reply.{Reply}
-
--- a front, with what is shared behind it
-abbrev with_rest : List ℕ → Option (Rc (Vec ℕ Global) Global) → List ℕ
-with_rest front None = front
-with_rest front (Some rest) = front ++ rest.value.items
-
--- the body of a reply
-abbrev pub body_of : Reply → List ℕ
-body_of reply = with_rest reply.body.items reply.rest
 
 -- the answer, a status and a body; of want of memory the status is 507
 abbrev pub answer_in : Result Reply Memory → ℕ × List ℕ
-answer_in (Ok reply) = (reply.status, body_of reply)
+answer_in (Ok reply) = reply_seen reply
 answer_in (Err memory) = (507, memory_text)
 
 -- a text is the response with this status and body, or the one that says that memory is wanting

@@ -6,7 +6,7 @@ use Rattle.fpl_session.specs.declared.ending.Ending.{Ending}
 use Rattle.fpl_session.specs.declared.ending.Ending.TheVariants.{Done, Closed, Cut, Refused, Read, Write, Long, Memory}
 use Rattle.fpl_session.specs.Replies.{Refuses}
 use Rattle.fpl_session.specs.Runs.{Run, joined}
-use Rattle.fpl_session.specs.Stops.{WriteFailed}
+use Rattle.fpl_session.specs.Stops.{LastFailed}
 
 -- these bytes are messages and end so; the texts of the messages were sent, and then this more
 pub record Heard {S : Type 0} (step : S → Request → List ℕ → S → Type 0) (got : List ℕ) (e : End) (old new : S) (before after : Option (List ℕ)) (more : List ℕ) : Type 0 where
@@ -24,10 +24,10 @@ SessionOf step left now old new before after Closed = (got : List ℕ) × Consum
 SessionOf step left now old new before after (Refused k) = (got : List ℕ) × (t : List ℕ) × Consumes left now got × (length got ≤ 2 ^ 32) × Refuses k t × Heard step got (RefusedEnd k) old new before after t
 SessionOf step left now old new before after Read = (got : List ℕ) × (rest : List ℕ) × Consumes left now got × (length got < 2 ^ 32) × Heard step got (Open rest) old new before after []
 SessionOf step left now old new before after Long = (got : List ℕ) × (rest : List ℕ) × Consumes left now got × (length got ≡ 2 ^ 32) × Heard step got (Open rest) old new before after []
-SessionOf step left now old new before after Write = (got : List ℕ) × Consumes left now got × (length got ≤ 2 ^ 32) × WriteFailed step got old new before after
+SessionOf step left now old new before after Write = (got : List ℕ) × Consumes left now got × (length got ≤ 2 ^ 32) × LastFailed step got old new before after
 SessionOf step left now old new before after Memory = Consumes left now [] × (new ≡ old) × Appends before after []
 
--- by all the bytes that the source had: at Done, Closed, Refused and Cut all of them are heard, at Read and Long a front
+-- by all the bytes that the source had: at Done, Closed, Refused and Cut all of them are heard, at Read, Write and Long a front
 abbrev pub SessionOver : {S : Type 0} → (S → Request → List ℕ → S → Type 0) → List ℕ → S → S → Option (List ℕ) → Option (List ℕ) → Ending → Type 0
 SessionOver step all old new before after Done = Heard step all (Open []) old new before after []
 SessionOver step all old new before after Cut = (rest : List ℕ) × (0 < length rest) × Heard step all (Open rest) old new before after []
@@ -35,7 +35,7 @@ SessionOver step all old new before after Closed = Heard step all ClosedEnd old 
 SessionOver step all old new before after (Refused k) = (t : List ℕ) × Refuses k t × Heard step all (RefusedEnd k) old new before after t
 SessionOver step all old new before after Read = (got : List ℕ) × (more : List ℕ) × (rest : List ℕ) × (all ≡ got ++ more) × Heard step got (Open rest) old new before after []
 SessionOver step all old new before after Long = (got : List ℕ) × (more : List ℕ) × (rest : List ℕ) × (all ≡ got ++ more) × (length got ≡ 2 ^ 32) × Heard step got (Open rest) old new before after []
-SessionOver step all old new before after Write = WriteFailed step all old new before after
+SessionOver step all old new before after Write = (got : List ℕ) × (more : List ℕ) × (all ≡ got ++ more) × LastFailed step got old new before after
 SessionOver step all old new before after Memory = (new ≡ old) × Appends before after []
 
 -- the ending that is due at the end of a stream

@@ -13,7 +13,7 @@ use Rattle.fpl_session.specs.declared.turn.Turn.TheVariants.{Answered, Waits}
 use Rattle.fpl_session.specs.Replies.{Refuses}
 use Rattle.fpl_session.specs.Runs.{Served}
 use Rattle.fpl_session.specs.Sessions.{Heard}
-use Rattle.fpl_session.specs.Stops.{WriteFailed}
+use Rattle.fpl_session.specs.Stops.{BatchFailed, WriteFailed}
 
 -- what came of turns: messages were answered, or the decoder waits for more bytes, or a message closed, or bytes were refused
 abbrev pub Turned : {S : Type 0} → (S → Request → List ℕ → S → Type 0) → Held → Held → S → S → Option (List ℕ) → Option (List ℕ) → Turn → Type 0
@@ -25,7 +25,7 @@ Turned step s r old new before after (turns.Refused k) = (t : List ℕ) × Refus
 -- turns were taken and their texts were sent, or the write failed
 abbrev pub Batched : {S : Type 0} → (S → Request → List ℕ → S → Type 0) → Held → Held → S → S → Option (List ℕ) → Option (List ℕ) → Result Turn Failed → Type 0
 Batched step s r old new before after (Ok turn) = Turned step s r old new before after turn
-Batched step s r old new before after (Err failed) = WriteFailed step s.pending old new before after
+Batched step s r old new before after (Err failed) = BatchFailed step s.pending old new before after
 
 -- the session stopped in a stream: at a message that closes, at bytes that are no message, or at a failed write
 abbrev pub Stopped : {S : Type 0} → (S → Request → List ℕ → S → Type 0) → List ℕ → S → S → Option (List ℕ) → Option (List ℕ) → Ending → Type 0
@@ -49,11 +49,12 @@ pub record Rests {S : Type 0} (left now : Option (List ℕ)) (old new : S) (befo
   pub same : new ≡ old
   pub sent : Appends before after []
 
--- at most so many bytes were taken, and the session stopped in them and those that waited
+-- at most so many bytes were taken, by one read, and the session stopped in them and those that waited
 pub record Halts {S : Type 0} (step : S → Request → List ℕ → S → Type 0) (most : ℕ) (left now : Option (List ℕ)) (pending : List ℕ) (old new : S) (before after : Option (List ℕ)) (e : Ending) : Type 0 where
   pub got : List ℕ
   pub taken : Consumes left now got
   pub few : length got ≤ most
+  pub size : length got ≤ 65536
   pub stopped : Stopped step (pending ++ got) old new before after e
 
 -- so many bytes were taken, one at least, and served with those that waited

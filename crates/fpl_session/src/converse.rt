@@ -31,7 +31,7 @@ pub fn converse<R: Service<H, K, C, L>, H, K: Keeper, S: Source, W: Sink, C: Clo
     clock: &mut C,
     steps: &mut Steps<L>,
 ) -> Ending
-    requires room { 0 < length buffer.old }
+    requires room { length buffer.old ≡ 65536 }
     requires empty { outbox.old ≡ [] }
     requires waiting { IsWaiting decoder.old }
     requires fresh { decoder.old.pending ≡ [] }

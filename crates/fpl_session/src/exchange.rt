@@ -59,7 +59,7 @@ pub fn exchange<R: Service<H, K, C, L>, H, K: Keeper, S: Source, W: Sink, C: Clo
     most: u64,
 ) -> Result<u64, Ending>
     requires most { 0 < most }
-    requires room { 0 < length buffer.old }
+    requires room { length buffer.old ≡ 65536 }
     requires empty { outbox.old ≡ [] }
     requires waiting { IsWaiting decoder.old }
     requires ready { R.ready service.now (host.old, keeper.old, clock.old, steps.old) }

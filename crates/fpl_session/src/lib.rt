@@ -13,7 +13,7 @@ mod turn;
 
 pub use ending::Ending;
 pub use opening::session;
-pub use service::{Reply, Service};
+pub use service::Service;
 
 #[cfg(test)]
 mod tests;

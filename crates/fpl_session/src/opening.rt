@@ -93,7 +93,7 @@ const PIECE: usize = 65_536;
 
 /// What a session needs: a decoder that holds nothing, a place to read into, and an empty outbox.
 fn buffers(alloc: Global) -> Result<(Decoder, Vec<u8>, Outbox), Memory>
-    ensures { IfOk result (λ p. IsWaiting p.0 × (p.0.pending ≡ []) × (0 < length p.1.items) × (p.2 ≡ [])) }
+    ensures { IfOk result (λ p. IsWaiting p.0 × (p.0.pending ≡ []) × (length p.1.items ≡ 65536) × (p.2 ≡ [])) }
 {
     let decoder = Decoder::new(alloc)?;
     let buffer = vec![in alloc; 0; PIECE]?;

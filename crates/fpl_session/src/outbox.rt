@@ -50,14 +50,13 @@ impl Outbox {
         self.bytes.len() > FULL
     }
 
-    /// Appends a response whose body is this front with this rest behind it, or the fixed one of status 507 where there is
-    /// no memory for it.
-    pub fn respond(&mut self, status: u16, front: &[u8], rest: &[u8], closing: bool)
+    /// Appends a response, or the fixed one of status 507 where there is no memory for it.
+    pub fn respond(&mut self, status: u16, body: &[u8], closing: bool)
         requires status { IsTrue (is_answer_status status) }
         requires room { length self.old ≤ 262144 }
-        ensures { (t : List ℕ) × IsResponse status (front.now ++ rest.now) closing t × (self.new ≡ self.old ++ t) }
+        ensures { (t : List ℕ) × IsResponse status body.now closing t × (self.new ≡ self.old ++ t) }
     {
-        match append_response(&mut self.bytes, status, front, rest, closing) {
+        match append_response(&mut self.bytes, status, body, closing) {
             Ok(()) => {}
             Err(Memory) => self.respond_without_memory(closing),
         }

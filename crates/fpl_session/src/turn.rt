@@ -46,10 +46,7 @@ fn answer_message<R: Service<H, K, C, L>, H, K: Keeper, C: Clock, L: Ledger>(
         × (outbox.new ≡ outbox.old ++ t) }
 {
     match service.reply(alloc, host, keeper, clock, steps, message) {
-        Ok(reply) => {
-            outbox.respond(reply.status, &reply.body, reply.shared(), message.closes);
-            service.reclaim(host, reply.body);
-        }
+        Ok(reply) => outbox.respond(reply.status, &reply.body, message.closes),
         Err(Memory) => outbox.respond_without_memory(message.closes),
     }
 }
@@ -100,7 +97,7 @@ pub fn take_turn<R: Service<H, K, C, L>, H, K: Keeper, C: Clock, L: Ledger>(
     match decoder.next() {
         Next::NeedMore => Turn::Waits,
         Next::Refused(status) => {
-            outbox.respond(status, BYTES, b"", true);
+            outbox.respond(status, BYTES, true);
             Turn::Refused(status)
         }
         Next::Message => if answer_found(

@@ -14,26 +14,26 @@ pub returns-else-bytes-ge-HEAD_BYTES-clause-value : goal.returns-else-bytes-ge-H
 unfolding head_end
 returns-else-bytes-ge-HEAD_BYTES-clause-value c = let full : nat_le 8192 (length c.args.bytes.now) ≡ false = grind (arith, nat_tests) in end_none 8192 c.args.bytes.now c.min.result false c.min.ensures c.in-None.ensures.value full
 
-pub returns-then-lines_of-gt-HEAD_LINES-clause-value : goal.returns-then-lines_of-gt-HEAD_LINES-clause-value
+pub returns-then-count_lines-gt-HEAD_LINES-clause-value : goal.returns-then-count_lines-gt-HEAD_LINES-clause-value
 unfolding head_end
-returns-then-lines_of-gt-HEAD_LINES-clause-value c =
+returns-then-count_lines-gt-HEAD_LINES-clause-value c =
     let size = c.in-Some.size in
-    let within : size.length ≤ c.min.result = omega (arith, c.in-Some.ensures.within, length-take c.min.result c.args.bytes.now) in
-    let same : line_count (take size.length (take c.min.result c.args.bytes.now)) ≡ line_count (take size.length c.args.bytes.now) = ap line_count (take-take size.length c.min.result c.args.bytes.now within) in
-    let lines : nat_lt 66 (line_count (take size.length c.args.bytes.now)) ≡ true = grind (arith, nat_tests, c.lines_of.ensures, same) in
-    end_some 8192 c.args.bytes.now c.min.result size.length true c.min.ensures c.in-Some.ensures.value lines
+    let within : size ≤ c.min.result = omega (arith, c.in-Some.ensures.within, length-take c.min.result c.args.bytes.now) in
+    let same : line_count (take size (take c.min.result c.args.bytes.now)) ≡ line_count (take size c.args.bytes.now) = ap line_count (take-take size c.min.result c.args.bytes.now within) in
+    let lines : nat_lt 66 (line_count (take size c.args.bytes.now)) ≡ true = grind (arith, nat_tests, c.count_lines.ensures, same) in
+    end_some 8192 c.args.bytes.now c.min.result size true c.min.ensures c.in-Some.ensures.value lines
 
-pub returns-else-lines_of-gt-HEAD_LINES-clause-value : goal.returns-else-lines_of-gt-HEAD_LINES-clause-value
+pub returns-else-count_lines-gt-HEAD_LINES-clause-value : goal.returns-else-count_lines-gt-HEAD_LINES-clause-value
 unfolding head_end
-returns-else-lines_of-gt-HEAD_LINES-clause-value c =
+returns-else-count_lines-gt-HEAD_LINES-clause-value c =
     let size = c.in-Some.size in
-    let within : size.length ≤ c.min.result = omega (arith, c.in-Some.ensures.within, length-take c.min.result c.args.bytes.now) in
-    let same : line_count (take size.length (take c.min.result c.args.bytes.now)) ≡ line_count (take size.length c.args.bytes.now) = ap line_count (take-take size.length c.min.result c.args.bytes.now within) in
-    let lines : nat_lt 66 (line_count (take size.length c.args.bytes.now)) ≡ false = grind (arith, nat_tests, c.lines_of.ensures, same) in
-    end_some 8192 c.args.bytes.now c.min.result size.length false c.min.ensures c.in-Some.ensures.value lines
+    let within : size ≤ c.min.result = omega (arith, c.in-Some.ensures.within, length-take c.min.result c.args.bytes.now) in
+    let same : line_count (take size (take c.min.result c.args.bytes.now)) ≡ line_count (take size c.args.bytes.now) = ap line_count (take-take size c.min.result c.args.bytes.now within) in
+    let lines : nat_lt 66 (line_count (take size c.args.bytes.now)) ≡ false = grind (arith, nat_tests, c.count_lines.ensures, same) in
+    end_some 8192 c.args.bytes.now c.min.result size false c.min.ensures c.in-Some.ensures.value lines
 
-pub returns-else-lines_of-gt-HEAD_LINES-clause-within : goal.returns-else-lines_of-gt-HEAD_LINES-clause-within
-returns-else-lines_of-gt-HEAD_LINES-clause-within c =
+pub returns-else-count_lines-gt-HEAD_LINES-clause-within : goal.returns-else-count_lines-gt-HEAD_LINES-clause-within
+returns-else-count_lines-gt-HEAD_LINES-clause-within c =
     let size = c.in-Some.size in
-    let le = head_le (take c.min.result c.args.bytes.now) size.length (sym c.in-Some.ensures.value) in
+    let le = head_le (take c.min.result c.args.bytes.now) size (sym c.in-Some.ensures.value) in
     (le.0, omega (arith, le.1, length-take c.min.result c.args.bytes.now))

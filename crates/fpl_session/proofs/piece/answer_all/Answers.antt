@@ -1,7 +1,7 @@
 use Rattle.std.proofs.Common.{arith, refl}
 use Rattle.fpl_session.specs.declared.ending.Ending.TheVariants as Ends
 use Rattle.fpl_session.specs.Replies.{Speaks}
-use Rattle.fpl_session.proofs.ServedLemmas.{served_none, served_then, stopped_after}
+use Rattle.fpl_session.proofs.ServedLemmas.{batch_after, served_none, served_then, stopped_after}
 use Rattle.fpl_session.proofs.piece.answer_all.Goals as goal
 
 pub loop-status-init : goal.loop-status-init
@@ -33,4 +33,4 @@ pub returns-in-Ok-Refused-clause-served : goal.returns-in-Ok-Refused-clause-serv
 returns-in-Ok-Refused-clause-served g c = stopped_after (Speaks (g.R.Service.answers c.args.service.now)) _ c.loop-status.decoder.pending _ (g.R.Service.see (c.loop-status.host, c.loop-status.keeper, c.loop-status.clock, c.loop-status.steps)) (g.R.Service.see (c.take_batch.new.host, c.take_batch.new.keeper, c.take_batch.new.clock, c.take_batch.new.steps)) _ (g.W.Sink.taken c.loop-status.out) (g.W.Sink.taken c.take_batch.new.out) (Ends.Refused c.in-Ok-Refused.status) c.loop-status.invariant.served (rw c.in-Ok-Refused.field-0-is at c.in-Ok-Refused.ensures.batched)
 
 pub returns-in-Err-clause-served : goal.returns-in-Err-clause-served
-returns-in-Err-clause-served g c = stopped_after (Speaks (g.R.Service.answers c.args.service.now)) _ c.loop-status.decoder.pending _ (g.R.Service.see (c.loop-status.host, c.loop-status.keeper, c.loop-status.clock, c.loop-status.steps)) (g.R.Service.see (c.take_batch.new.host, c.take_batch.new.keeper, c.take_batch.new.clock, c.take_batch.new.steps)) _ (g.W.Sink.taken c.loop-status.out) (g.W.Sink.taken c.take_batch.new.out) Ends.Write c.loop-status.invariant.served c.in-Err.ensures.batched
+returns-in-Err-clause-served g c = batch_after (Speaks (g.R.Service.answers c.args.service.now)) _ c.loop-status.decoder.pending _ (g.R.Service.see (c.loop-status.host, c.loop-status.keeper, c.loop-status.clock, c.loop-status.steps)) (g.R.Service.see (c.take_batch.new.host, c.take_batch.new.keeper, c.take_batch.new.clock, c.take_batch.new.steps)) _ (g.W.Sink.taken c.loop-status.out) (g.W.Sink.taken c.take_batch.new.out) c.loop-status.invariant.served c.in-Err.ensures.batched

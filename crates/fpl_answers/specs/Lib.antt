@@ -1,0 +1,6 @@
+pub mod Answers
+pub mod KeptPlaces
+pub mod MemberData
+pub mod RuleData
+pub mod ShownData
+pub mod Tokens

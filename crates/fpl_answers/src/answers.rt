@@ -1,0 +1,108 @@
+// Answers: the status and the body of each.
+ghost use Rattle.std.specs.Prelude.{◌≡◌, IfOk};
+ghost use Rattle.serde_json.specs.Written.{compact_text};
+ghost use Rattle.fpl_answers.specs.Answers.{answer_data, damaged_data, done_data, done_status, status_of};
+ghost use Rattle.fpl_answers.specs.MemberData.{error_data};
+ghost use Rattle.fpl_answers.specs.Tokens.{Appends, tokens_of};
+
+use crate::members::{write_count, write_one, write_text, write_two};
+use crate::rules::write_rule;
+use crate::views::{room_of, write_shown};
+use fpl_base::{Memory, RecordKey};
+use fpl_http::Reply;
+use json::Writer;
+use record_codec::Made;
+use season_host::Answer;
+use std::alloc::{AllocError, Global};
+
+/// The reply that tells an answer. Its only error is want of memory.
+pub fn answer_text(alloc: Global, answer: &Answer) -> Result<Reply, Memory>
+    ensures status { IfOk result (λ reply. reply.status ≡ status_of answer.now) }
+    ensures body { IfOk result (λ reply. reply.body.items ≡ compact_text (answer_data answer.now)) }
+{
+    let status = status_of(answer);
+    let mut out = Writer::new(Vec::with_capacity(alloc, room_for(answer))?);
+    write_answer(&mut out, answer)?;
+    Ok(Reply {
+        status,
+        body: out.into_inner(),
+    })
+}
+
+fn status_of(answer: &Answer) -> u16
+    ensures { result ≡ status_of answer.now }
+{
+    match answer {
+        Answer::Done { made, .. } => status_of_done(*made),
+        Answer::Shown(_) => 200,
+        Answer::Rule(_) => 409,
+        Answer::Unknown => 404,
+        Answer::Keeper => 503,
+        Answer::Damaged(_) => 500,
+        Answer::Memory => 507,
+    }
+}
+
+fn status_of_done(made: Made) -> u16
+    ensures { result ≡ done_status made }
+{
+    match made {
+        Made::Nothing => 200,
+        Made::Entry(_) => 201,
+        Made::League(_) => 201,
+        Made::Cup(_) => 201,
+    }
+}
+
+// About how many bytes the body takes, so that it is not copied while it grows.
+fn room_for(answer: &Answer) -> usize {
+    match answer {
+        Answer::Shown(shown) => room_of(shown),
+        _ => 128,
+    }
+}
+
+fn write_answer(out: &mut Writer, answer: &Answer) -> Result<(), AllocError>
+    ensures { Appends result out.old out.new (tokens_of (answer_data answer.now)) }
+{
+    match answer {
+        Answer::Done { number, made } => write_done(out, *number, *made),
+        Answer::Shown(shown) => write_shown(out, shown),
+        Answer::Rule(rule) => write_rule(out, rule),
+        Answer::Unknown => write_error(out, "unknown"),
+        Answer::Keeper => write_error(out, "keeper"),
+        Answer::Damaged(key) => write_damaged(out, *key),
+        Answer::Memory => write_error(out, "memory"),
+    }
+}
+
+fn write_done(out: &mut Writer, number: u64, made: Made) -> Result<(), AllocError>
+    ensures { Appends result out.old out.new (tokens_of (done_data number made)) }
+{
+    match made {
+        Made::Nothing => write_one(out, "done", number),
+        Made::Entry(entry) => write_two(out, "done", number, "entry", u64::from(entry.get())),
+        Made::League(league) => write_two(out, "done", number, "league", u64::from(league.get())),
+        Made::Cup(cup) => write_two(out, "cup", u64::from(cup.get()), "done", number),
+    }
+}
+
+fn write_error(out: &mut Writer, word: &str) -> Result<(), AllocError>
+    ensures { Appends result out.old out.new (tokens_of (error_data word.now)) }
+{
+    out.begin_object()?;
+    write_text(out, "error", word)?;
+    out.end_object()
+}
+
+fn write_damaged(out: &mut Writer, key: RecordKey) -> Result<(), AllocError>
+    ensures { Appends result out.old out.new (tokens_of (damaged_data key)) }
+{
+    out.begin_object()?;
+    write_count(out, "a", u64::from(key.a))?;
+    write_count(out, "b", u64::from(key.b))?;
+    write_count(out, "c", u64::from(key.c))?;
+    write_text(out, "error", "damaged")?;
+    write_count(out, "kind", u64::from(key.kind))?;
+    out.end_object()
+}

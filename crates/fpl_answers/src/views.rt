@@ -1,0 +1,169 @@
+// What the views show: a small function for each, and one for each list in it.
+ghost use Rattle.std.specs.Prelude.{◌≡◌, codes, map};
+ghost use Rattle.serde_json.specs.Data.{array};
+ghost use Rattle.serde_json.specs.View.{items_of};
+ghost use Rattle.fpl_answers.specs.MemberData.{count, count_or_null};
+ghost use Rattle.fpl_answers.specs.ShownData.{club_data, figures_data, fixture_data, line_data, player_data, season_data, shown_data};
+ghost use Rattle.fpl_answers.specs.Tokens.{Appends, member_tokens, tokens_of};
+
+use crate::members::{write_count, write_integer, write_nothing, write_text, write_truth};
+use fpl_base::{ClubId, Gw, Moment, Name};
+use json::Writer;
+use rule_book::{Figures, Player};
+use season_host::{Shown, ShownFixture, ShownLine, ShownSeason};
+use std::alloc::AllocError;
+use std::str;
+
+/// About how many bytes the text of a view takes.
+pub(crate) fn room_of(shown: &Shown) -> usize {
+    match shown {
+        Shown::Season(season) => {
+            let clubs = season.clubs.as_slice().len().saturating_mul(88);
+            let deadlines = season.deadlines.as_slice().len().saturating_mul(14);
+            clubs.saturating_add(deadlines).saturating_add(64)
+        }
+        Shown::Fixture(fixture) => {
+            fixture
+                .lines
+                .as_slice()
+                .len()
+                .saturating_mul(56)
+                .saturating_add(128)
+        }
+        _ => 160,
+    }
+}
+
+pub(crate) fn write_shown(out: &mut Writer, shown: &Shown) -> Result<(), AllocError>
+    ensures { Appends result out.old out.new (tokens_of (shown_data shown.now)) }
+{
+    match shown {
+        Shown::Season(season) => write_season(out, season),
+        Shown::Player(player) => write_player(out, player),
+        Shown::PlayerGameweek(figures) => write_figures(out, figures),
+        Shown::Fixture(fixture) => write_fixture(out, fixture),
+    }
+}
+
+fn write_season(out: &mut Writer, season: &ShownSeason) -> Result<(), AllocError>
+    ensures { Appends result out.old out.new (tokens_of (season_data season.now)) }
+{
+    out.begin_object()?;
+    out.key("clubs")?;
+    write_clubs(out, season.clubs.as_slice())?;
+    out.key("deadlines")?;
+    write_moments(out, season.deadlines.as_slice())?;
+    write_count(out, "locked", u64::from(season.locked))?;
+    write_count(out, "split", u64::from(season.split))?;
+    out.end_object()
+}
+
+fn write_clubs(out: &mut Writer, clubs: &[(ClubId, Name)]) -> Result<(), AllocError>
+    ensures { Appends result out.old out.new (tokens_of (array (items_of (map club_data clubs.now)))) }
+{
+    out.begin_array()?;
+    for (id, name) in clubs {
+        write_club(out, *id, name)?;
+    }
+    out.end_array()
+}
+
+fn write_club(out: &mut Writer, id: ClubId, name: &Name) -> Result<(), AllocError>
+    ensures { Appends result out.old out.new (tokens_of (club_data (id, name.now))) }
+{
+    out.begin_object()?;
+    write_count(out, "id", u64::from(id.get()))?;
+    write_text(out, "name", text_of(name))?;
+    out.end_object()
+}
+
+fn write_moments(out: &mut Writer, moments: &[Moment]) -> Result<(), AllocError>
+    ensures { Appends result out.old out.new (tokens_of (array (items_of (map count moments.now)))) }
+{
+    out.begin_array()?;
+    for moment in moments {
+        out.u64(moment.get())?;
+    }
+    out.end_array()
+}
+
+fn write_player(out: &mut Writer, player: &Player) -> Result<(), AllocError>
+    ensures { Appends result out.old out.new (tokens_of (player_data player.now)) }
+{
+    out.begin_object()?;
+    write_count(out, "club", u64::from(player.club.get()))?;
+    write_truth(out, "gone", player.gone)?;
+    write_count(out, "id", u64::from(player.id.get()))?;
+    write_text(out, "name", text_of(&player.name))?;
+    write_text(out, "position", player.position.letter())?;
+    write_count(out, "price", u64::from(player.price.get()))?;
+    out.end_object()
+}
+
+fn write_figures(out: &mut Writer, figures: &Figures) -> Result<(), AllocError>
+    ensures { Appends result out.old out.new (tokens_of (figures_data figures.now)) }
+{
+    out.begin_object()?;
+    write_count(out, "conceded", u64::from(figures.conceded))?;
+    write_count(out, "goals", u64::from(figures.goals))?;
+    write_truth(out, "played", figures.played)?;
+    write_integer(out, "points", figures.points)?;
+    out.end_object()
+}
+
+fn write_fixture(out: &mut Writer, shown: &ShownFixture) -> Result<(), AllocError>
+    ensures { Appends result out.old out.new (tokens_of (fixture_data shown.now)) }
+{
+    let fixture = shown.fixture;
+    out.begin_object()?;
+    write_count(out, "away", u64::from(fixture.away.get()))?;
+    write_truth(out, "finished", shown.finished)?;
+    write_gameweek(out, fixture.gw)?;
+    write_count(out, "home", u64::from(fixture.home.get()))?;
+    write_count(out, "id", u64::from(fixture.id.get()))?;
+    write_count(out, "kickoff", fixture.kickoff.get())?;
+    out.key("lines")?;
+    write_lines(out, shown.lines.as_slice())?;
+    out.end_object()
+}
+
+/// The gameweek of a fixture, or `null` where it stands in none.
+fn write_gameweek(out: &mut Writer, gameweek: Option<Gw>) -> Result<(), AllocError>
+    ensures { Appends result out.old out.new (member_tokens (codes "gameweek") (count_or_null gameweek)) }
+{
+    match gameweek {
+        Some(gameweek) => write_count(out, "gameweek", u64::from(gameweek.get())),
+        None => write_nothing(out, "gameweek"),
+    }
+}
+
+fn write_lines(out: &mut Writer, lines: &[ShownLine]) -> Result<(), AllocError>
+    ensures { Appends result out.old out.new (tokens_of (array (items_of (map line_data lines.now)))) }
+{
+    out.begin_array()?;
+    for line in lines {
+        write_line(out, line)?;
+    }
+    out.end_array()
+}
+
+fn write_line(out: &mut Writer, line: &ShownLine) -> Result<(), AllocError>
+    ensures { Appends result out.old out.new (tokens_of (line_data line.now)) }
+{
+    out.begin_object()?;
+    write_count(out, "bonus", u64::from(line.bonus))?;
+    write_integer(out, "bps", line.bps)?;
+    write_count(out, "player", u64::from(line.player.get()))?;
+    write_integer(out, "points", line.points)?;
+    out.end_object()
+}
+
+/// A name as text, which it always is.
+fn text_of(name: &Name) -> &str
+    ensures { result.now ≡ name.now }
+{
+    match str::from_utf8(name.bytes()) {
+        Ok(text) => text,
+        Err(_) => unreachable!(),
+    }
+}

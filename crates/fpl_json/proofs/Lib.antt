@@ -1,3 +1,0 @@
-pub mod AppendLemmas
-pub mod FixtureFacts
-pub mod RowLemmas

@@ -1,5 +1,0 @@
-use Rattle.json.proofs.Printed.Places.{Placed-then}
-use Rattle.fpl_json.proofs.place.place_two.Goals as goal
-
-pub returns : goal.returns
-returns c = rw c.two_digits.ensures at (Placed-then c.place_byte-at.ensures c.place_byte.ensures)

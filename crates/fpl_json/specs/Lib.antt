@@ -1,9 +1,0 @@
-pub mod Answers
-pub mod Bodies
-pub mod FixtureTexts
-pub mod KeptPlaces
-pub mod KeptTexts
-pub mod MemberData
-pub mod RuleData
-pub mod ShownData
-pub mod Tokens
