@@ -1,16 +1,12 @@
 mod Absent
 mod AnswerFacts
 mod ClubFacts
-mod Following
 mod Found
 mod Gameweeks
 mod KeptFacts
 mod LastFacts
-mod Leveled
 mod Lists
 mod OnceFacts
-mod PointFacts
 mod RunFacts
 mod Standing
 mod Sums
-mod WorthFacts

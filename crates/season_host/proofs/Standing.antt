@@ -1,5 +1,5 @@
 -- The levels of a match, one more line at a time.
-use Rattle.std.proofs.Common.{◌≡◌, ◌<◌, ◌+◌, ◌-◌, ◌&&◌, ◌∷◌, [], ◌++◌, ℕ, ℤ, List, Bool, true, false, cond, if◌then◌else◌, length, get_or, map, filter, take, zero-add, count_by, int_lt, arith, refl, sym, ap, ◌∙◌}
+use Rattle.std.proofs.Common.{◌≡◌, ◌<◌, ◌+◌, ◌-◌, ◌&&◌, ◌∷◌, [], ◌++◌, ℕ, ℤ, List, Bool, true, false, Some, None, cond, if◌then◌else◌, length, get_or, map, filter, take, zero-add, count_by, int_lt, arith, refl, sym, ap, ◌∙◌}
 use Rattle.std.proofs.lemmas.List.Sums.{sum_by-append}
 use Rattle.std.proofs.lemmas.Option.{slice_get_read}
 use Rattle.line_scoring.specs.Levels.{above, bonus_by}
@@ -9,13 +9,10 @@ use Rattle.rule_book.specs.declared.player.Player.{Player}
 use Rattle.rule_book.specs.Bonus.{bonus_in, number_above, standing, takes_part}
 use Rattle.rule_book.specs.BonusPoints.{bps_of}
 use Rattle.rule_book.specs.MatchFacts.{Lines, is_finished, lines_of}
-use Rattle.rule_book.specs.PlayerFigures.{appearance, bonus_at, position_in}
+use Rattle.rule_book.specs.PlayerFigures.{appearance, position_in}
 use Rattle.record_codec.specs.Book.{Facts}
-use Rattle.season_host.specs.Levels.{higher, is_higher, with_bonus_among}
-use Rattle.season_host.specs.Views.{line_shown}
-use Rattle.season_host.specs.Worth.{AreLevels, bare_line, with_bonus}
-use Rattle.season_host.specs.declared.shown.ShownLine.{ShownLine}
-use Rattle.season_host.proofs.Lists.{made_same, take_next}
+use Rattle.season_host.specs.Worth.{AreLevels, GiveBonus}
+use Rattle.season_host.proofs.Lists.{take_next}
 
 -- he took part and has a greater number
 abbrev pub stands_above : List Player → ℤ → ℕ × Line → Bool
@@ -70,39 +67,13 @@ levels_more facts lines i row old new number within is is_number some none so_fa
     (count_by test (take i lines)) (count_by test (take (i + 1) lines)) took (λ no. ap (λ levels. bonus_by levels own) (none no)) before more
     ∙ ap (λ (n : ℕ). 3 - n) (sym (counted facts.players own (take (i + 1) lines)))
 
--- so by the numbers that lines have
-pub higher_more : (rows : List (Line × ShownLine)) (i : ℕ) (row : Line × ShownLine) (old new : List ℤ) (number : ℤ) → i < length rows → row ≡ get_or rows i row → number ≡ row.1.bps
-    → (takes_part row.0 ≡ true → (own : ℤ) → bonus_by new own ≡ bonus_by old own - above own number) → (takes_part row.0 ≡ false → new ≡ old)
-    → ((own : ℤ) → bonus_by old own ≡ 3 - higher (take i rows) own) → (own : ℤ) → bonus_by new own ≡ 3 - higher (take (i + 1) rows) own
-higher_more rows i row old new number within is is_number some none so_far own =
-    let more : higher (take (i + 1) rows) own ≡ higher (take i rows) own + cond (is_higher own row) 1 0 =
-    ap (count_by (is_higher own)) (take_next rows i row (slice_get_read rows (length rows) i row refl within is)) ∙ count_by-last (is_higher own) (take i rows) row in
-    let took : takes_part row.0 ≡ true → bonus_by new own ≡ bonus_by old own - cond (int_lt own row.1.bps) 1 0 =
-    λ yes. some yes own ∙ ap (λ n. bonus_by old own - above own n) is_number in
-    levels_case (takes_part row.0) (int_lt own row.1.bps) (bonus_by old own) (bonus_by new own)
-    (higher (take i rows) own) (higher (take (i + 1) rows) own) took (λ no. ap (λ levels. bonus_by levels own) (none no)) (so_far own) more
-
--- the bonus by the levels is that among the lines
-pub leveled_by : (levels : List ℤ) (rows : List (Line × ShownLine)) → ((own : ℤ) → bonus_by levels own ≡ 3 - higher rows own) → map (with_bonus levels) rows ≡ map (with_bonus_among rows) rows
-leveled_by levels rows are =
-    made_same (with_bonus levels) (with_bonus_among rows) rows
-    (λ row. ap (λ n. record row.1 { bonus = if takes_part row.0 then n else 0 }) (are row.1.bps))
-
--- the bonus by the levels is that of the match
-pub bonus_found : (facts : Facts) (f : ℕ) (row : ℕ × Line) (levels : List ℤ) (number : ℤ) (won : ℕ) → is_finished facts.matches f ≡ true
-    → AreLevels facts levels (lines_of facts.matches f) → number ≡ bps_of (position_in facts.players row.0) row.1
-    → won ≡ (if takes_part row.1 then bonus_by levels number else 0) → won ≡ bonus_at facts.players facts.matches f row
-bonus_found facts f row levels number won finished are is_number is_won =
-    is_won
-    ∙ ap (λ n. if takes_part row.1 then bonus_by levels n else 0) is_number
-    ∙ ap (λ n. if takes_part row.1 then n else 0) (are (bps_of (position_in facts.players row.0) row.1))
+-- in a match that is finished each line gets its bonus by the levels
+pub give_levels : (facts : Facts) (f : ℕ) (levels : List ℤ) → is_finished facts.matches f ≡ true → AreLevels facts levels (lines_of facts.matches f) → GiveBonus facts f (Some levels)
+give_levels facts f levels finished are row =
+    ap (λ n. if takes_part row.1 then n else 0) (are (bps_of (position_in facts.players row.0) row.1))
     ∙ ap (λ b. if b then bonus_in (map (appearance facts.players) (lines_of facts.matches f)) (appearance facts.players row) else 0) (sym finished)
 
--- before a match is finished its lines have no bonus
-pub shown_unfinished : (facts : Facts) (f : ℕ) → is_finished facts.matches f ≡ false
-    → map (bare_line facts) (lines_of facts.matches f) ≡ map (line_shown facts f) (lines_of facts.matches f)
-shown_unfinished facts f open_still =
-    let with : Bool → ℕ × Line → ShownLine = λ b row. record (bare_line facts row) {
-      bonus = if b then bonus_in (map (appearance facts.players) (lines_of facts.matches f)) (appearance facts.players row) else 0;
-    } in
-    ap (λ b. map (with b) (lines_of facts.matches f)) (sym open_still)
+-- before that none gets any
+pub give_none : (facts : Facts) (f : ℕ) → is_finished facts.matches f ≡ false → GiveBonus facts f None
+give_none facts f open_still row =
+    ap (λ b. if b then bonus_in (map (appearance facts.players) (lines_of facts.matches f)) (appearance facts.players row) else 0) (sym open_still)

@@ -1,5 +1,5 @@
 -- What a player did, one more fixture at a time.
-use Rattle.std.proofs.Common.{◌≡◌, ◌<◌, ◌≤◌, ◌+◌, ◌-◌, ◌||◌, ◌∷◌, [], ◌++◌, ℕ, ℤ, pos, ◌+ℤ◌, Bool, true, false, cond, List, Option, Some, None, length, get_or, take, zero-add, arith, refl, sym, ap, ◌∙◌}
+use Rattle.std.proofs.Common.{◌≡◌, ◌<◌, ◌+◌, ◌||◌, ◌∷◌, [], ◌++◌, ℕ, ℤ, pos, ◌+ℤ◌, Bool, true, false, List, Option, Some, None, length, get_or, take, zero-add, refl, sym, ap, ◌∙◌}
 use Rattle.std.specs.List.{flat_map, fold, list_any, sum_by}
 use Rattle.std.specs.Option.{option_map_or}
 use Rattle.std.proofs.lemmas.List.{flat_map_more, append-nil}
@@ -7,25 +7,13 @@ use Rattle.std.proofs.lemmas.List.Folds.{list_any-append}
 use Rattle.std.proofs.lemmas.List.Sums.{fold_push, sum_by-append}
 use Rattle.std.proofs.lemmas.Option.{slice_get_read}
 use Rattle.rule_book.specs.declared.line.Line.{Line}
-use Rattle.rule_book.specs.declared.player.Player.{Player}
 use Rattle.rule_book.specs.declared.team_score.Figures.{Figures}
-use Rattle.rule_book.specs.Bonus.{takes_part}
 use Rattle.rule_book.specs.Figures.{figure}
-use Rattle.rule_book.specs.MatchFacts.{MatchFacts, is_finished, line_of}
-use Rattle.rule_book.specs.PlayerFigures.{bonus_at, line_beside, played_with, points_at}
+use Rattle.rule_book.specs.MatchFacts.{line_of}
+use Rattle.rule_book.specs.PlayerFigures.{line_beside, played_with, points_at}
 use Rattle.record_codec.specs.Book.{Facts}
 use Rattle.season_host.specs.Worth.{figures_by, with_fixture, with_line}
 use Rattle.season_host.proofs.Lists.{take_next}
-
-at_most_3 : (finished part : Bool) (n : ℕ) → cond finished (cond part (3 - n) 0) 0 ≤ 3
-at_most_3 true true n = omega arith
-at_most_3 true false n = omega arith
-at_most_3 false part n = omega arith
-
--- no bonus is more than 3
-pub bonus_le : (players : List Player) (facts : MatchFacts) (f : ℕ) (row : ℕ × Line) → bonus_at players facts f row ≤ 3
-bonus_le players facts f row =
-    at_most_3 (is_finished facts f) (takes_part row.1) _
 
 abbrev same_figures : ℤ → Bool → ℕ → ℕ → Figures
 same_figures points played goals conceded = record { points = points; played = played; goals = goals; conceded = conceded }

@@ -2,7 +2,6 @@ pub mod Commands
 pub mod Doing
 pub mod Hosts
 pub mod Kept
-pub mod Levels
 pub mod Once
 pub mod Runs
 pub mod Verdict

@@ -1,5 +1,5 @@
 -- What the players of a match are worth, and what a player did by his lines so far.
-use Rattle.std.specs.Prelude.{◌≡◌, ◌≤◌, ◌≤ℤ◌, ◌*◌, ◌+◌, ◌||◌, ℕ, ℤ, pos, neg_ℤ, ◌+ℤ◌, List, map, fold, sum_by, if◌then◌else◌}
+use Rattle.std.specs.Prelude.{◌≡◌, ◌≤◌, ◌≤ℤ◌, ◌*◌, ◌+◌, ◌||◌, ℕ, ℤ, pos, neg_ℤ, ◌+ℤ◌, List, Option, map, fold, sum_by, if◌then◌else◌}
 use Rattle.std.specs.List.{list_any}
 use Rattle.std.specs.Option.{option_map_or}
 use Rattle.line_scoring.specs.Levels.{bonus_by}
@@ -9,27 +9,21 @@ use Rattle.rule_book.specs.Bonus.{bonus_of, standing, takes_part}
 use Rattle.rule_book.specs.BonusPoints.{bps_of}
 use Rattle.rule_book.specs.Figures.{figure}
 use Rattle.rule_book.specs.MatchFacts.{Lines, line_of}
-use Rattle.rule_book.specs.PlayerFigures.{appearance, played_with, points_at, figures_in, position_in}
-use Rattle.rule_book.specs.Points.{points_of}
+use Rattle.rule_book.specs.PlayerFigures.{appearance, bonus_at, played_with, points_at, figures_in, position_in}
 use Rattle.record_codec.specs.Book.{Facts}
-use Rattle.season_host.specs.declared.shown.ShownLine.{ShownLine}
-
--- a player's line in a fixture, and what it is worth without bonus
-abbrev pub bare_line : Facts → ℕ × Line → ShownLine
-bare_line facts row = record {
-  player = row.0;
-  points = points_of facts.profile (position_in facts.players row.0) row.1;
-  bps = bps_of (position_in facts.players row.0) row.1;
-  bonus = 0;
-}
 
 -- levels that give each number the bonus that it has in a match of these lines
 abbrev pub AreLevels : Facts → List ℤ → Lines → Type 0
 AreLevels facts levels lines = (own : ℤ) → bonus_by levels own ≡ bonus_of (standing (map (appearance facts.players) lines)) own
 
--- a line with its bonus by the levels of the match
-abbrev pub with_bonus : List ℤ → Line × ShownLine → ShownLine
-with_bonus levels row = record row.1 { bonus = if takes_part row.0 then bonus_by levels row.1.bps else 0 }
+-- the bonus of a line of this number, by the levels of its match, if it is finished
+abbrev pub bonus_among : Option (List ℤ) → Line → ℤ → ℕ
+bonus_among levels line number = option_map_or (λ those. if takes_part line then bonus_by those number else 0) levels 0
+
+-- so each line of a fixture gets the bonus that it has there
+abbrev pub GiveBonus : Facts → ℕ → Option (List ℤ) → Type 0
+GiveBonus facts f levels =
+    (row : ℕ × Line) → bonus_among levels row.1 (bps_of (position_in facts.players row.0) row.1) ≡ bonus_at facts.players facts.matches f row
 
 -- what a player did in a gameweek
 abbrev pub gameweek_figures : Facts → ℕ → ℕ → Figures

@@ -4,7 +4,6 @@ ghost use Rattle.season_host.specs.Commands.{by_id, new_season};
 ghost use Rattle.season_host.specs.Doing.{IsBegun};
 ghost use Rattle.season_host.specs.Verdict.{begun};
 
-use crate::worths::Worths;
 use crate::{Answer, Season, SharedClubs};
 use fpl_base::{ClubId, Memory, Name, Refused};
 use match_facts::MatchFacts;
@@ -40,7 +39,6 @@ impl Season {
             clubs,
             players: Players::new(alloc),
             matches: MatchFacts::new(alloc),
-            worths: Worths::new(alloc),
         })
     }
 }

@@ -63,11 +63,9 @@ impl Season {
                 fixture,
                 player,
                 line,
-            } => self.put_line(now, *fixture, *player, line, steps),
+            } => self.put_line(now, *fixture, *player, line),
             Command::Drop { fixture, player } => self.drop_line(now, *fixture, *player, steps),
-            Command::Finished { fixture, finished } => self.set_finished(
-                now, *fixture, *finished, steps,
-            ),
+            Command::Finished { fixture, finished } => self.set_finished(now, *fixture, *finished),
         }
     }
 }

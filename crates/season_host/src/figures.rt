@@ -1,32 +1,25 @@
 // What a player did in a gameweek.
-ghost use Rattle.std.specs.Prelude.{◌≡◌, ◌<◌, ◌≤◌, ◌≤ℤ◌, ◌+◌, ◌+ℤ◌, ℕ, Some, length, pos, negsuc, slice_get, true};
+ghost use Rattle.std.specs.Prelude.{◌≡◌, ◌<◌, ◌≤◌, ◌≤ℤ◌, ◌+◌, ℕ, Some, length, pos, negsuc, slice_get};
 ghost use Rattle.rule_book.specs.Calendar.{standing};
 ghost use Rattle.rule_book.specs.Figures.{IsLine};
-ghost use Rattle.rule_book.specs.MatchFacts.{is_finished, line_of};
 ghost use Rattle.rule_book.specs.PlayerFigures.{bonus_at, played_with, points_at};
 ghost use Rattle.season_host.specs.Worth.{gameweek_figures, with_line, with_fixture, AreModest};
 
-use crate::sheets::{
-    bonus_of, is_finished, keep_lines, kept_line, levels_of, line_of, number_of, position_of,
-    profile_of,
-};
-use crate::{Season, ShownLine};
+use crate::Season;
+use crate::sheets::{bonus_among, levels_of, line_of, number_of, position_of, profile_of};
 use fpl_base::{FixtureId, Gw, PlayerId, Steps};
 use line_scoring::line_points;
 use rule_book::{Figures, Line};
-use std::alloc::Global;
 use std::sync::ledger::Ledger;
 
 // What a player did in a gameweek, over his lines in the fixtures that now stand in it.
 pub(crate) fn gameweek_figures<L: Ledger>(
-    alloc: Global,
-    season: &mut Season,
+    season: &Season,
     player: PlayerId,
     gameweek: Gw,
     steps: &mut Steps<L>,
 ) -> Figures
-    ensures figures { result ≡ gameweek_figures season.old player gameweek }
-    ensures same { season.new ≡ season.old }
+    ensures { result ≡ gameweek_figures season.now player gameweek }
 {
     let mut figures = Figures {
         points: 0,
@@ -36,7 +29,7 @@ pub(crate) fn gameweek_figures<L: Ledger>(
     };
     for place in 0..season.calendar.standing(gameweek).len() {
         let fixture = fixture_at(season, gameweek, place);
-        figures = with_fixture(alloc, season, player, fixture, &figures, steps);
+        figures = with_fixture(season, player, fixture, &figures, steps);
     }
     figures
 }
@@ -51,22 +44,20 @@ fn fixture_at(season: &Season, gameweek: Gw, place: usize) -> FixtureId
 
 // The figures with those of the player's line in a fixture, if he has one there.
 fn with_fixture<L: Ledger>(
-    alloc: Global,
-    season: &mut Season,
+    season: &Season,
     player: PlayerId,
     fixture: FixtureId,
     figures: &Figures,
     steps: &mut Steps<L>,
 ) -> Figures
     requires modest { AreModest 19 figures.now }
-    ensures value { result ≡ with_fixture season.old player fixture figures.now }
+    ensures value { result ≡ with_fixture season.now player fixture figures.now }
     ensures modest { (lines : ℕ) → AreModest lines figures.now → AreModest (lines + 1) result }
-    ensures same { season.new ≡ season.old }
 {
     match line_of(season, fixture, player, steps) {
         Some(there) => {
             let line = *there;
-            let points = points_of(alloc, season, player, fixture, &line, steps);
+            let points = points_of(season, player, fixture, &line, steps);
             with_line(figures, &line, points)
         }
         None => *figures,
@@ -97,97 +88,35 @@ fn has_played(line: &Line) -> bool
     line.figures[0] >= 1 || line.figures[7] == 1 || line.figures[8] == 1
 }
 
-// The points of a player's line in a fixture, with the bonus: as they are kept, or else computed.
+// The points of a player who has this line in a fixture, with the bonus.
 fn points_of<L: Ledger>(
-    alloc: Global,
-    season: &mut Season,
+    season: &Season,
     player: PlayerId,
     fixture: FixtureId,
     line: &Line,
     steps: &mut Steps<L>,
 ) -> i32
-    requires line { IsLine line.now }
-    requires there { line_of season.old.matches fixture player ≡ Some line.now }
-    ensures value { result ≡ points_at season.old.profile season.old.players season.old.matches fixture (player, line.now) }
-    ensures same { season.new ≡ season.old }
+    requires { IsLine line.now }
+    ensures value { result ≡ points_at season.now.profile season.now.players season.now.matches fixture (player, line.now) }
     ensures low { negsuc 9999 ≤ℤ result }
     ensures high { result ≤ℤ pos 10003 }
 {
-    match kept_line(season, fixture, player) {
-        Some(kept) => points_with_bonus(&kept),
-        None => computed_points(alloc, season, player, fixture, line, steps),
-    }
-}
-
-// The points of a line that is kept, with its bonus.
-fn points_with_bonus(kept: &ShownLine) -> i32
-    requires low { negsuc 9999 ≤ℤ kept.now.points }
-    requires high { kept.now.points ≤ℤ pos 10000 }
-    requires bonus { kept.now.bonus ≤ 3 }
-    ensures value { result ≡ kept.now.points +ℤ pos kept.now.bonus }
-    ensures low { negsuc 9999 ≤ℤ result }
-    ensures high { result ≤ℤ pos 10003 }
-{
-    kept.points + i32::from(kept.bonus)
-}
-
-// The same, computed.
-fn computed_points<L: Ledger>(
-    alloc: Global,
-    season: &mut Season,
-    player: PlayerId,
-    fixture: FixtureId,
-    line: &Line,
-    steps: &mut Steps<L>,
-) -> i32
-    requires line { IsLine line.now }
-    requires there { line_of season.old.matches fixture player ≡ Some line.now }
-    ensures value { result ≡ points_at season.old.profile season.old.players season.old.matches fixture (player, line.now) }
-    ensures same { season.new ≡ season.old }
-    ensures low { negsuc 9999 ≤ℤ result }
-    ensures high { result ≤ℤ pos 10003 }
-{
-    let won = bonus_at(alloc, season, player, fixture, line, steps);
+    let won = bonus_of(season, player, fixture, line, steps);
     line_points(profile_of(season), position_of(season, player), line) + i32::from(won)
 }
 
 // The bonus of a player who has this line in a fixture.
-fn bonus_at<L: Ledger>(
-    alloc: Global,
-    season: &mut Season,
-    player: PlayerId,
-    fixture: FixtureId,
-    line: &Line,
-    steps: &mut Steps<L>,
-) -> u8
-    requires line { IsLine line.now }
-    requires there { line_of season.old.matches fixture player ≡ Some line.now }
-    ensures value { result ≡ bonus_at season.old.players season.old.matches fixture (player, line.now) }
-    ensures bound { result ≤ 3 }
-    ensures same { season.new ≡ season.old }
-{
-    if !is_finished(season, fixture) {
-        return 0;
-    }
-    keep_lines(alloc, season, fixture, steps);
-    match kept_line(season, fixture, player) {
-        Some(kept) => kept.bonus,
-        None => computed_bonus(season, player, fixture, line, steps),
-    }
-}
-
-// The bonus of a player who has this line in a fixture that is finished, computed anew.
-fn computed_bonus<L: Ledger>(
+fn bonus_of<L: Ledger>(
     season: &Season,
     player: PlayerId,
     fixture: FixtureId,
     line: &Line,
     steps: &mut Steps<L>,
 ) -> u8
-    requires line { IsLine line.now }
-    requires finished { is_finished season.now.matches fixture ≡ true }
-    ensures { result ≡ bonus_at season.now.players season.now.matches fixture (player, line.now) }
+    requires { IsLine line.now }
+    ensures value { result ≡ bonus_at season.now.players season.now.matches fixture (player, line.now) }
+    ensures bound { result ≤ 3 }
 {
     let levels = levels_of(season, fixture, steps);
-    bonus_of(&levels, line, number_of(season, player, line))
+    bonus_among(&levels, line, number_of(season, player, line))
 }

@@ -149,7 +149,7 @@ impl Host {
         ensures operator { self.new.operator ≡ self.old.operator }
         ensures storeless { IsStoreless result }
     {
-        match &mut self.season {
+        match &self.season {
             Some(season) => answer_shown(self.alloc, season, view, steps),
             None => Answer::Rule(Rule::NoSeason),
         }
@@ -211,12 +211,11 @@ impl Host {
 // What a view of a season gets.
 fn answer_shown<L: Ledger>(
     alloc: Global,
-    season: &mut Season,
+    season: &Season,
     view: View,
     steps: &mut Steps<L>,
 ) -> Answer
-    ensures shown { IsShown (view_answer (Some season.old) view) result }
-    ensures same { season.new ≡ season.old }
+    ensures { IsShown (view_answer (Some season.now) view) result }
 {
     match show(alloc, season, view, steps) {
         Ok(Some(shown)) => Answer::Shown(shown),

@@ -11,7 +11,6 @@ mod figures;
 mod host;
 mod lasts;
 mod laws;
-mod levels;
 mod match_commands;
 mod player_commands;
 mod request;
@@ -23,7 +22,6 @@ mod shown;
 mod tests;
 mod there;
 mod views;
-mod worths;
 
 pub use answer::Answer;
 pub use clubs::SharedClubs;

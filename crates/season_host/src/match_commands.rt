@@ -4,7 +4,6 @@ ghost use Rattle.season_host.specs.Doing.{IsDone};
 ghost use Rattle.season_host.specs.Verdict.{judged};
 ghost use Rattle.record_codec.specs.declared.command.Command.TheVariants as command;
 
-use crate::sheets::{bare_worth, place_of_line};
 use crate::{Answer, Season};
 use fpl_base::{Moment, PlayerId, Refused, Steps};
 use match_facts::facts_are_maps;
@@ -29,7 +28,6 @@ impl Season {
         }
         let locked = self.is_in_locked(fixture);
         facts_are_maps();
-        self.worths.forget(fixture);
         match self.matches.put_sheet(fixture, locked, lines, finished) {
             Ok(()) => Ok(()),
             Err(Refused::Rule(rule)) => Err(Answer::Rule(rule)),
@@ -37,13 +35,12 @@ impl Season {
         }
     }
 
-    pub(crate) fn put_line<L: Ledger>(
+    pub(crate) fn put_line(
         &mut self,
         now: Moment,
         number: u32,
         player: PlayerId,
         line: &Line,
-        steps: &mut Steps<L>,
     ) -> Result<(), Answer>
         ensures { IsDone (judged (Some self.old) now (command.Line number player line.now)) self.old self.new result }
     {
@@ -55,14 +52,8 @@ impl Season {
         }
         let locked = self.is_in_locked(fixture);
         facts_are_maps();
-        let place = place_of_line(&self.matches, fixture, player);
         match self.matches.put_line(fixture, locked, player, line) {
-            Ok(()) => {
-                let worth = bare_worth(&self.players, player, line);
-                self.worths
-                    .follow_line(&self.matches, fixture, place, worth, steps);
-                Ok(())
-            }
+            Ok(()) => Ok(()),
             Err(Refused::Rule(rule)) => Err(Answer::Rule(rule)),
             Err(Refused::Memory) => Err(Answer::Memory),
         }
@@ -84,17 +75,15 @@ impl Season {
             return Err(Answer::Unknown);
         }
         facts_are_maps();
-        self.worths.forget(fixture);
         self.matches.drop_line(fixture, player);
         Ok(())
     }
 
-    pub(crate) fn set_finished<L: Ledger>(
+    pub(crate) fn set_finished(
         &mut self,
         now: Moment,
         number: u32,
         finished: bool,
-        steps: &mut Steps<L>,
     ) -> Result<(), Answer>
         ensures { IsDone (judged (Some self.old) now (command.Finished number finished)) self.old self.new result }
     {
@@ -104,10 +93,7 @@ impl Season {
         let locked = self.is_in_locked(fixture);
         facts_are_maps();
         match self.matches.set_finished(fixture, locked, finished) {
-            Ok(()) => {
-                self.worths.relevel(&self.matches, fixture, steps);
-                Ok(())
-            }
+            Ok(()) => Ok(()),
             Err(Refused::Rule(rule)) => Err(Answer::Rule(rule)),
             Err(Refused::Memory) => Err(Answer::Memory),
         }

@@ -47,7 +47,6 @@ impl Season {
             return Err(Answer::Unknown);
         }
         let _ = player.id.get();
-        self.worths.forget_all();
         match self.players.add(player) {
             Ok(()) => Ok(()),
             Err(Refused::Rule(rule)) => Err(Answer::Rule(rule)),

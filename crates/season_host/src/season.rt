@@ -1,5 +1,4 @@
 use crate::SharedClubs;
-use crate::worths::Worths;
 use match_facts::MatchFacts;
 use player_prices::Players;
 use season_calendar::Calendar;
@@ -12,18 +11,16 @@ pub struct Season {
     pub(crate) clubs: SharedClubs,
     pub(crate) players: Players,
     pub(crate) matches: MatchFacts,
-    // What views found, which no contract sees.
-    pub(crate) worths: Worths,
 }
 
 impl Model for Season {
     ghost use Rattle.fpl_base.specs.declared.kinds.Profile.TheVariants as profile;
     ghost use Rattle.record_codec.specs.Book.{Facts};
-    ghost use Rattle.season_host.specs.Kept.{AreFacts, AreWorths};
+    ghost use Rattle.season_host.specs.Kept.{AreFacts};
 
     ghost Value = { Facts };
 
     ghost view = { λ s. record { profile = profile.A; calendar = s.calendar; clubs = s.clubs; players = s.players; matches = s.matches } };
 
-    ghost invariant = { λ s. AreFacts (record { profile = profile.A; calendar = s.calendar; clubs = s.clubs; players = s.players; matches = s.matches }) × AreWorths (record { profile = profile.A; calendar = s.calendar; clubs = s.clubs; players = s.players; matches = s.matches }) s.worths };
+    ghost invariant = { λ s. AreFacts (record { profile = profile.A; calendar = s.calendar; clubs = s.clubs; players = s.players; matches = s.matches }) };
 }

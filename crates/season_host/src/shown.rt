@@ -1,17 +1,12 @@
 // What views show.
-ghost use Rattle.std.specs.Prelude.{◌≡◌, ◌<◌, ◌++◌, ◌==◌, ◌∷◌, [], List, IfOk, OnErr, OnOk, find, length, slice_set};
-ghost use Rattle.rule_book.specs.MatchFacts.{lines_of};
-ghost use Rattle.season_host.specs.Levels.{leveled_in};
+ghost use Rattle.std.specs.Prelude.{◌≡◌, ◌++◌, ◌∷◌, [], List, IfOk, OnErr, OnOk};
 
 use crate::SharedClubs;
-use crate::levels::relevel;
-use fpl_base::{FixtureId, Memory, PlayerId, Steps};
-use match_facts::MatchFacts;
+use fpl_base::{Memory, PlayerId};
 use record_codec::Moments;
 use rule_book::{Figures, Fixture, Player};
 use std::alloc::Global;
 use std::marker::Model;
-use std::sync::ledger::Ledger;
 
 /// A season as it stands.
 #[derive(Drop)]
@@ -60,11 +55,13 @@ impl ShownLines {
         }
     }
 
-    /// These lines.
-    pub fn of(items: Vec<ShownLine>) -> Self
-        ensures { result ≡ items.items }
+    /// No lines, with room for so many.
+    pub fn with_room(alloc: Global, room: usize) -> Result<Self, Memory>
+        ensures { IfOk result (λ lines. lines ≡ []) }
     {
-        ShownLines { items }
+        Ok(ShownLines {
+            items: Vec::with_capacity(alloc, room)?,
+        })
     }
 
     /// The list with this line at its end; unchanged after want of memory.
@@ -82,55 +79,6 @@ impl ShownLines {
     {
         self.items.as_slice()
     }
-
-    // Another list of the same lines.
-    pub(crate) fn copy(&self) -> Result<Self, Memory>
-        ensures { IfOk result (λ copy. copy ≡ self.now) }
-    {
-        let alloc = *self.items.allocator();
-        let items = Vec::from_slice(alloc, self.items.as_slice())?;
-        Ok(ShownLines { items })
-    }
-
-    // Puts this line at a place.
-    pub(crate) fn set(&mut self, place: usize, line: ShownLine)
-        requires { place < length self.old }
-        ensures { self.new ≡ slice_set self.old place line }
-    {
-        self.items[place] = line;
-    }
-
-    // Gives the lines of a fixture their bonus anew.
-    pub(crate) fn relevel<L: Ledger>(
-        &mut self,
-        matches: &MatchFacts,
-        fixture: FixtureId,
-        steps: &mut Steps<L>,
-    )
-        requires { length self.old ≡ length (lines_of matches.now fixture) }
-        ensures { self.new ≡ leveled_in matches.now fixture self.old }
-    {
-        relevel(matches, fixture, &mut self.items, steps);
-    }
-
-    // The line of a player.
-    pub(crate) fn line(&self, player: PlayerId) -> Option<ShownLine>
-        ensures { result ≡ find (λ line. line.player == player) self.now }
-    {
-        line_in(self.items.as_slice(), player)
-    }
-}
-
-// The line of a player among lines.
-fn line_in(lines: &[ShownLine], player: PlayerId) -> Option<ShownLine>
-    ensures { result ≡ find (λ line. line.player == player) lines.now }
-{
-    for line in lines {
-        if line.player == player {
-            return Some(*line);
-        }
-    }
-    None
 }
 
 /// A fixture as it stands.

@@ -16,23 +16,20 @@ use std::alloc::Global;
 use std::sync::ledger::Ledger;
 
 /// What a view shows; `None` exactly where an id is not there, or the gameweek is not locked. Each line of a match that
-/// it reads is a counted read; what the lines of a match are worth is kept for later views, which do not read them
-/// until a sheet or a line more, a line taken away, or a new player changes that. A line that is corrected and the mark
-/// are followed in what is kept.
+/// it reads is a counted read.
 pub fn show<L: Ledger>(
     alloc: Global,
-    season: &mut Season,
+    season: &Season,
     view: View,
     steps: &mut Steps<L>,
 ) -> Result<Option<Shown>, Memory>
-    ensures shown { IfOk result (λ shown. shown ≡ shown_of season.old view) }
-    ensures same { season.new ≡ season.old }
+    ensures { IfOk result (λ shown. shown ≡ shown_of season.now view) }
 {
     match view {
         View::Season => Ok(Some(Shown::Season(season_shown(alloc, season)?))),
         View::Player { player } => player_shown(season, player),
         View::PlayerGameweek { player, gameweek } => {
-            Ok(gameweek_shown(alloc, season, player, gameweek, steps))
+            Ok(gameweek_shown(season, player, gameweek, steps))
         }
         View::Fixture { fixture } => fixture_shown(alloc, season, fixture, steps),
     }
@@ -102,19 +99,17 @@ fn copy_of_player(player: &Player) -> Result<Player, Memory>
 }
 
 fn gameweek_shown<L: Ledger>(
-    alloc: Global,
-    season: &mut Season,
+    season: &Season,
     player: u32,
     gameweek: u32,
     steps: &mut Steps<L>,
 ) -> Option<Shown>
-    ensures shown { result ≡ shown_of season.old (view.PlayerGameweek player gameweek) }
-    ensures same { season.new ≡ season.old }
+    ensures { result ≡ shown_of season.now (view.PlayerGameweek player gameweek) }
 {
     let there = player_there(season, player)?;
     let id = there.id;
     let locked = locked_gameweek(season, gameweek)?;
-    let figures = gameweek_figures(alloc, season, id, locked, steps);
+    let figures = gameweek_figures(season, id, locked, steps);
     Some(Shown::PlayerGameweek(figures))
 }
 
@@ -131,12 +126,11 @@ fn locked_gameweek(season: &Season, number: u32) -> Option<Gw>
 
 fn fixture_shown<L: Ledger>(
     alloc: Global,
-    season: &mut Season,
+    season: &Season,
     fixture: u32,
     steps: &mut Steps<L>,
 ) -> Result<Option<Shown>, Memory>
-    ensures shown { IfOk result (λ shown. shown ≡ shown_of season.old (view.Fixture fixture)) }
-    ensures same { season.new ≡ season.old }
+    ensures { IfOk result (λ shown. shown ≡ shown_of season.now (view.Fixture fixture)) }
 {
     match fixture_there(season, fixture) {
         Some(there) => Ok(Some(Shown::Fixture(ShownFixture {
@@ -157,6 +151,3 @@ fn fixture_there(season: &Season, fixture: u32) -> Option<Fixture>
         None => None,
     }
 }
-
-#[cfg(test)]
-mod tests;

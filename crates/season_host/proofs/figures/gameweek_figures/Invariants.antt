@@ -7,7 +7,6 @@ use Rattle.season_host.proofs.figures.gameweek_figures.Given as goal
 
 abbrev pub invariant-loop-place : goal.invariant-loop-place
 invariant-loop-place g l = record {
-  same : l.season ≡ l.fn.season;
-  value : l.figures ≡ figures_by l.fn.season l.player (flat_map (line_beside l.fn.season.matches l.player) (take l.place (standing l.fn.season.calendar l.gameweek)));
+  value : l.figures ≡ figures_by l.season l.player (flat_map (line_beside l.season.matches l.player) (take l.place (standing l.season.calendar l.gameweek)));
   modest : AreModest l.place l.figures;
 }

@@ -1,28 +1,10 @@
-use Rattle.std.proofs.Common.{◌≡◌, [], get_or, subst, ◌∙◌, arith, rules, w32, FitsSigned, to_z, of_z, zip, take}
-use Rattle.std.proofs.lemmas.Int.{to_z-of_z}
-use Rattle.std.proofs.lemmas.Slice.Zip.{length-zip}
-use Rattle.rule_book.specs.MatchFacts.{lines_of}
-use Rattle.season_host.specs.Worth.{AreLevels}
-use Rattle.season_host.proofs.Lists.{all_rows, row_at}
-use Rattle.season_host.proofs.Standing.{levels_more, no_levels}
+use Rattle.std.proofs.Common.{◌∙◌, sym}
+use Rattle.season_host.proofs.Standing.{give_levels, give_none}
 use Rattle.season_host.proofs.sheets.levels_of.Goals as goal
 
-pub loop-place-init : goal.loop-place-init
-loop-place-init g c = rw c.new-levels.ensures (no_levels c.args.season.now)
+pub returns-then-is_finished : goal.returns-then-is_finished
+returns-then-is_finished g c =
+    give_levels c.args.season.now c.args.fixture c.levels_among.result (sym c.is_finished.ensures ∙ c.if-is_finished.true) c.levels_among.ensures
 
--- The number is passed on by value, so it is seen through its bits and back.
-pub loop-place-preserved : goal.loop-place-preserved
-loop-place-preserved g c =
-    let players = c.rows_of.result.0.now in
-    let lines = c.rows_of.result.1.now in
-    let fits : FitsSigned w32 c.number_of-number.result = search rules in
-    levels_more c.args.season.now (zip players lines) c.loop-place.place (c.index-players-place.result, get_or lines c.loop-place.place (record { figures = [] })) c.loop-place.levels c.count_in.new.levels
-    (to_z w32 (of_z w32 c.number_of-number.result)) (omega (arith, c.loop-place-test.true, c.rows_of.ensures.paired, length-zip players lines))
-    (row_at players lines c.loop-place.place c.index-players-place.result (record { figures = [] }) c.loop-place-test.true c.rows_of.ensures.paired c.index-players-place.is)
-    (to_z-of_z w32 c.number_of-number.result fits ∙ c.number_of-number.ensures) c.count_in.ensures.part c.count_in.ensures.none c.loop-place.invariant
-
-pub returns : goal.returns
-returns g c =
-    let those : take c.loop-place.place (zip c.rows_of.result.0.now c.rows_of.result.1.now) ≡ lines_of c.args.season.now.matches c.args.fixture =
-    all_rows c.rows_of.result.0.now c.rows_of.result.1.now c.loop-place.place c.loop-place-test.false ∙ c.rows_of.ensures.rows in
-    subst (AreLevels c.args.season.now c.loop-place.levels) those c.loop-place.invariant
+pub returns-else-is_finished : goal.returns-else-is_finished
+returns-else-is_finished g c = give_none c.args.season.now c.args.fixture (sym c.is_finished.ensures ∙ c.if-is_finished.false)

@@ -6,4 +6,4 @@ use Rattle.season_host.proofs.sheets.rows_of.Goals as goal
 pub returns-clause-in_range : goal.returns-clause-in_range
 returns-clause-in_range g c =
     all_in_range c.rows.result.0.now c.rows.result.1.now c.rows.ensures.ascending c.rows.ensures.paired
-    (λ p line at. c.season.invariant.0.lines_in_range c.args.fixture p line (ap (λ rows. line_in rows p) (sym c.rows.ensures.rows) ∙ at))
+    (λ p line at. c.season.invariant.lines_in_range c.args.fixture p line (ap (λ rows. line_in rows p) (sym c.rows.ensures.rows) ∙ at))

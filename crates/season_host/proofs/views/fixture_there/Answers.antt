@@ -6,5 +6,5 @@ use Rattle.season_host.proofs.views.fixture_there.Goals as goal
 
 pub returns-in-None : goal.returns-in-None
 returns-in-None c =
-    let facts : AreFacts c.args.season.now = subst AreFacts c.season.view_is c.season.invariant.0 in
+    let facts : AreFacts c.args.season.now = subst AreFacts c.season.view_is c.season.invariant in
     sym (no_such_id (λ x. x.id) c.args.season.now.calendar.fixtures c.args.fixture facts.fixture_ids (λ is_id. false≢true (c.in-None.ensures.there.1 is_id)))

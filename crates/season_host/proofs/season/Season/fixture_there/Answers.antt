@@ -9,7 +9,7 @@ use Rattle.season_host.proofs.season.Season.fixture_there.Goals as goal
 
 pub returns-in-None : goal.returns-in-None
 returns-in-None c =
-    let facts : AreFacts c.args.self.now = subst AreFacts c.self.view_is c.self.invariant.0 in
+    let facts : AreFacts c.args.self.now = subst AreFacts c.self.view_is c.self.invariant in
     let none : find (λ x. x.id == c.args.number) c.args.self.now.calendar.fixtures ≡ None =
     no_such_id (λ x. x.id) c.args.self.now.calendar.fixtures c.args.number facts.fixture_ids (λ is_id. false≢true (c.in-None.ensures.there.1 is_id)) in
     ap is_some none

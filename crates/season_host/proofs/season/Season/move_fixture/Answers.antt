@@ -9,12 +9,10 @@ pub invariant_of-self : goal.invariant_of-self
 invariant_of-self c =
     let calendar = c.self.inside.calendar in
     let fixture = c.in-Some.fixture in
-    let ids = ids_with_move calendar fixture c.args.gameweek c.args.kickoff c.self.invariant.0.fixture_ids in (
-      record {
-        player_ids = c.self.invariant.0.player_ids;
-        fixture_ids = kept_or_out (λ (x : CalendarFacts). All (λ f. IsId f.id) x.fixtures) (move_refusal calendar fixture c.args.gameweek c.args.kickoff c.has_facts-has_facts.result) calendar c.move_fixture.new.self (with_move calendar fixture c.args.gameweek c.args.kickoff)
-            c.self.invariant.0.fixture_ids (λ _. ids) c.move_fixture.result c.move_fixture.ensures.judged c.move_fixture.ensures.ok c.move_fixture.ensures.err;
-        lines_in_range = c.self.invariant.0.lines_in_range;
-      },
-      c.self.invariant.1,
-    )
+    let ids = ids_with_move calendar fixture c.args.gameweek c.args.kickoff c.self.invariant.fixture_ids in
+    record {
+      player_ids = c.self.invariant.player_ids;
+      fixture_ids = kept_or_out (λ (x : CalendarFacts). All (λ f. IsId f.id) x.fixtures) (move_refusal calendar fixture c.args.gameweek c.args.kickoff c.has_facts-has_facts.result) calendar c.move_fixture.new.self (with_move calendar fixture c.args.gameweek c.args.kickoff)
+          c.self.invariant.fixture_ids (λ _. ids) c.move_fixture.result c.move_fixture.ensures.judged c.move_fixture.ensures.ok c.move_fixture.ensures.err;
+      lines_in_range = c.self.invariant.lines_in_range;
+    }

@@ -3,26 +3,16 @@ use Rattle.std.specs.List.{All}
 use Rattle.rule_book.specs.Players.{price_refusal, with_price}
 use Rattle.season_host.specs.Kept.{IsId}
 use Rattle.season_host.proofs.KeptFacts.{ids_with_change, kept_or}
-use Rattle.fpl_base.specs.declared.kinds.Profile.TheVariants as profile
-use Rattle.record_codec.specs.Book.{Facts}
-use Rattle.season_host.specs.Kept.{AreWorths}
-use Rattle.season_host.proofs.WorthFacts.{worths_with_change}
 use Rattle.season_host.proofs.season.Season.set_price.Goals as goal
 
 pub invariant_of-self : goal.invariant_of-self
 invariant_of-self c =
-    let s = c.self.inside in
-    let facts : Facts = record { profile = profile.A; calendar = s.calendar; clubs = s.clubs; players = s.players; matches = s.matches } in
     let players = c.self.inside.players in
     let tenths = c.unwrap-tenths.result in
-    let ids = ids_with_change (λ p. record p { price = tenths }) players c.args.player (λ p. refl) c.self.invariant.0.player_ids in (
-      record {
-        player_ids = kept_or (All (λ p. IsId p.id)) (price_refusal tenths) players c.set_price.new.self (with_price players c.args.player tenths)
-            c.self.invariant.0.player_ids (λ _. ids) c.set_price.result c.set_price.ensures.judged c.set_price.ensures.ok c.set_price.ensures.err;
-        fixture_ids = c.self.invariant.0.fixture_ids;
-        lines_in_range = c.self.invariant.0.lines_in_range;
-      },
-      kept_or (λ those. AreWorths (record facts { players = those }) s.worths) (price_refusal tenths) players c.set_price.new.self (with_price players c.args.player tenths)
-          c.self.invariant.1 (λ _. worths_with_change (λ p. record p { price = tenths }) (λ p. refl) (λ p. refl) c.args.player facts s.worths c.self.invariant.1)
-          c.set_price.result c.set_price.ensures.judged c.set_price.ensures.ok c.set_price.ensures.err,
-    )
+    let ids = ids_with_change (λ p. record p { price = tenths }) players c.args.player (λ p. refl) c.self.invariant.player_ids in
+    record {
+      player_ids = kept_or (All (λ p. IsId p.id)) (price_refusal tenths) players c.set_price.new.self (with_price players c.args.player tenths)
+          c.self.invariant.player_ids (λ _. ids) c.set_price.result c.set_price.ensures.judged c.set_price.ensures.ok c.set_price.ensures.err;
+      fixture_ids = c.self.invariant.fixture_ids;
+      lines_in_range = c.self.invariant.lines_in_range;
+    }

@@ -1,4 +1,0 @@
-use Rattle.season_host.proofs.views.tests.seen.Given as goal
-
-abbrev pub ghosts-seen_by : goal.ghosts-seen_by
-ghosts-seen_by a = record { name = a.blank.name; parts = a.blank.parts }
