@@ -7,8 +7,8 @@ use Rattle.json.specs.Filled.{Placed}
 use Rattle.json.proofs.Printed.Places.{Placed-then}
 use Rattle.serde_json.specs.Written.{compact_text}
 use Rattle.serde_json.proofs.OnLiterals.{serde_json_on_literals}
-use Rattle.season_host.specs.declared.shown.ShownFixture.{ShownFixture}
-use Rattle.season_host.specs.declared.shown.ShownLine.{ShownLine}
+use Rattle.season_book.specs.declared.shown.ShownFixture.{ShownFixture}
+use Rattle.season_book.specs.declared.shown.ShownLine.{ShownLine}
 use Rattle.fpl_json.specs.FixtureTexts.{head_text, tail_text}
 use Rattle.fpl_json.specs.ShownData.{fixture_data}
 

@@ -3,8 +3,8 @@ use Rattle.std.specs.Prelude.{ℕ, List, ◌++◌, codes, decimal, map}
 use Rattle.serde_json.specs.Data.{array, boolean}
 use Rattle.serde_json.specs.View.{items_of}
 use Rattle.serde_json.specs.Written.{compact_text}
-use Rattle.season_host.specs.declared.shown.ShownFixture.{ShownFixture}
-use Rattle.season_host.specs.declared.shown.ShownLine.{ShownLine}
+use Rattle.season_book.specs.declared.shown.ShownFixture.{ShownFixture}
+use Rattle.season_book.specs.declared.shown.ShownLine.{ShownLine}
 use Rattle.fpl_json.specs.MemberData.{count_or_null}
 use Rattle.fpl_json.specs.ShownData.{line_data}
 

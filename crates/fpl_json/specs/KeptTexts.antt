@@ -1,7 +1,7 @@
 -- Of what texts are kept.
 use Rattle.std.specs.Prelude.{ℕ, List, [], Option, None}
-use Rattle.season_host.specs.declared.shown.ShownLine.{ShownLine}
-use Rattle.season_host.specs.declared.shown.ShownSeason.{ShownSeason}
+use Rattle.season_book.specs.declared.shown.ShownLine.{ShownLine}
+use Rattle.season_book.specs.declared.shown.ShownSeason.{ShownSeason}
 
 -- the lines of fixtures, by ascending fixture, and a season
 pub record KeptTexts : Type 0 where

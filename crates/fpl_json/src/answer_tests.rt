@@ -4,9 +4,11 @@ use fpl_base::{
     ClubId, CupId, EntryId, FixtureId, Gw, LeagueId, Moment, Name, PlayerId, Position, RecordKey,
     Rule, Tenths,
 };
-use record_codec::{Clubs, Made, Moments};
 use rule_book::{Figures, Fixture, Player};
-use season_host::{Answer, SharedClubs, Shown, ShownFixture, ShownLine, ShownLines, ShownSeason};
+use season_book::{
+    Answer, Clubs, Made, Moments, SharedClubs, Shown, ShownFixture, ShownLine, ShownLines,
+    ShownSeason,
+};
 use std::alloc::Global;
 use std::str;
 use std::test::Fail;

@@ -11,8 +11,7 @@ use crate::place::{place, place_count, place_slice, zeros};
 use crate::rules::rule_text;
 use crate::shown::shown_text;
 use fpl_base::{Memory, RecordKey};
-use record_codec::Made;
-use season_host::Answer;
+use season_book::{Answer, Made};
 use std::alloc::{AllocError, Global};
 use std::rc::Rc;
 

@@ -1,6 +1,6 @@
 // The commands, each by its members in their order.
 ghost use Rattle.std.specs.Prelude.{◌≢◌, IfOk};
-ghost use Rattle.season_host.specs.Commands.{IsCommand};
+ghost use Rattle.season_book.specs.Commands.{IsCommand};
 ghost use Rattle.fpl_json.specs.Members.{Gives};
 ghost use Rattle.fpl_json.specs.Requests.{command_of, deadline, drop, finish, fixture, gone, guest, move, player, player_club, price, put, season, sheet};
 ghost use Rattle.fpl_json.specs.Trees.{view};
@@ -13,7 +13,7 @@ use crate::members::{
 use crate::tree::Tree;
 use crate::{FieldName, ReadFault, Route};
 use fpl_base::ClubId;
-use record_codec::Command;
+use season_book::Command;
 use std::alloc::Global;
 
 /// The command of a route at a fixture, where its target names one. A view orders nothing.

@@ -12,7 +12,7 @@ use crate::answers::{Reply, answer_text};
 use crate::named::season_text;
 use crate::shown::{drafted_tail_text, figures_text_in, head_text_in};
 use fpl_base::{FixtureId, Memory};
-use season_host::{Answer, Shown, ShownFixture, ShownLine, ShownSeason};
+use season_book::{Answer, Shown, ShownFixture, ShownLine, ShownSeason};
 use std::alloc::{AllocError, Global};
 use std::collections::BTreeMap;
 use std::marker::Model;
@@ -49,7 +49,7 @@ struct KeptLines {
 
 impl Model for KeptLines {
     ghost use Rattle.std.specs.Prelude.{◌≡◌, List};
-    ghost use Rattle.season_host.specs.declared.shown.ShownLine.{ShownLine};
+    ghost use Rattle.season_book.specs.declared.shown.ShownLine.{ShownLine};
     ghost use Rattle.fpl_json.specs.FixtureTexts.{tail_text};
 
     ghost Value = { List ShownLine };
@@ -68,7 +68,7 @@ struct KeptSeason {
 
 impl Model for KeptSeason {
     ghost use Rattle.std.specs.Prelude.{◌≡◌};
-    ghost use Rattle.season_host.specs.declared.shown.ShownSeason.{ShownSeason};
+    ghost use Rattle.season_book.specs.declared.shown.ShownSeason.{ShownSeason};
     ghost use Rattle.serde_json.specs.Written.{compact_text};
     ghost use Rattle.fpl_json.specs.ShownData.{season_data};
 

@@ -1,9 +1,10 @@
 // Answers that are given one after another by the same texts, each beside what is written anew.
 use crate::answer_tests::{club, fixture, gameweek, line_of, moment, name, player};
 use crate::{Reply, Texts};
-use record_codec::{Clubs, Moments};
 use rule_book::{Figures, Fixture};
-use season_host::{Answer, SharedClubs, Shown, ShownFixture, ShownLine, ShownLines, ShownSeason};
+use season_book::{
+    Answer, Clubs, Moments, SharedClubs, Shown, ShownFixture, ShownLine, ShownLines, ShownSeason,
+};
 use std::alloc::Global;
 use std::str;
 use std::test::Fail;

@@ -1,7 +1,7 @@
 // Readers of the lists that commands hold.
 ghost use Rattle.std.specs.Prelude.{◌≡◌, ◌≤◌, ◌==◌, ◌&&◌, IfOk, Result, length, map, nat_le};
 ghost use Rattle.std.specs.List.{list_any};
-ghost use Rattle.season_host.specs.Commands.{club_ids};
+ghost use Rattle.season_book.specs.Commands.{club_ids};
 ghost use Rattle.rule_book.specs.Ranks.{AllDiffer};
 ghost use Rattle.fpl_json.specs.declared.field.FieldName.{FieldName};
 ghost use Rattle.fpl_json.specs.declared.field.FieldName.TheVariants as field;
@@ -14,8 +14,8 @@ use crate::members::{club_id, counts, entry, items, moment_entry, player_id, row
 use crate::tree::{Row, Tree};
 use crate::{FieldName, ReadFault};
 use fpl_base::{ClubId, Name, PlayerId};
-use record_codec::{Clubs, Lines, Moments};
 use rule_book::Line;
+use season_book::{Clubs, Lines, Moments};
 use std::alloc::Global;
 
 // Whatever is wrong inside of a list, the list is named.

@@ -11,7 +11,7 @@ use crate::written::{write_count, write_text, write_truth};
 use fpl_base::{ClubId, Moment, Name};
 use json::Writer;
 use rule_book::Player;
-use season_host::ShownSeason;
+use season_book::ShownSeason;
 use std::alloc::{AllocError, Global};
 use std::str;
 

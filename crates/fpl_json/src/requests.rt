@@ -4,7 +4,7 @@ ghost use Rattle.serde_json.specs.Read.{read};
 ghost use Rattle.fpl_json.specs.declared.field.FieldName.TheVariants as field;
 ghost use Rattle.fpl_json.specs.Members.{Gives, GivesObject, if_object, object_of, or_wrong};
 ghost use Rattle.fpl_json.specs.Requests.{ordered, request_of, view_of};
-ghost use Rattle.season_host.specs.Hosts.{IsRequest};
+ghost use Rattle.season_book.specs.Hosts.{IsRequest};
 
 use crate::commands::read_command;
 use crate::members::{whole, wrong};
@@ -12,7 +12,7 @@ use crate::parse::{Refusal, parse};
 use crate::tree::Tree;
 use crate::{FieldName, ReadFault, Route};
 use json::Scratch;
-use season_host::{Request, View};
+use season_book::{Request, View};
 use std::alloc::Global;
 
 /// What is asked by a route and the ids of its target, as [`crate::Routes::find`] gives them, and a body, which is not

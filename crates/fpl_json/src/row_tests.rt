@@ -1,6 +1,5 @@
 use crate::{FieldName, ReadFault, Route, Scratch, read_request};
-use record_codec::{Command, Lines};
-use season_host::Request;
+use season_book::{Command, Lines, Request};
 use std::alloc::{AllocError, Global};
 
 const ROW: &str =

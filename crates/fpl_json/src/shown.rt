@@ -14,7 +14,7 @@ use crate::named::{player_text, season_text};
 use crate::place::{place, place_count, place_integer, place_truth, zeros};
 use fpl_base::Gw;
 use rule_book::Figures;
-use season_host::{Shown, ShownFixture, ShownLine};
+use season_book::{Shown, ShownFixture, ShownLine};
 use std::alloc::{AllocError, Global};
 
 /// The text of what a view shows.

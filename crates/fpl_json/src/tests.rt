@@ -1,7 +1,6 @@
 use crate::{FieldName, Found, ReadFault, Route, Routes, Scratch, read_request};
 use fpl_base::{Memory, Position};
-use record_codec::Command;
-use season_host::Request;
+use season_book::{Command, Request};
 use std::alloc::{AllocError, Global};
 use std::test::Fail;
 

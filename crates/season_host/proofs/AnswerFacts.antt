@@ -5,17 +5,17 @@ use Rattle.fpl_base.specs.declared.kinds.Caller.{Caller}
 use Rattle.fpl_base.specs.declared.rule.Rule.{Rule}
 use Rattle.fpl_base.specs.declared.rule.Rule.TheVariants as rule
 use Rattle.rule_book.specs.Calendar.{deadlines_order}
-use Rattle.record_codec.specs.Book.{Book, Facts, last_number}
-use Rattle.record_codec.specs.declared.command.Command.{Command}
-use Rattle.record_codec.specs.declared.made.Made.{Made}
-use Rattle.record_codec.specs.declared.made.Made.TheVariants as made
-use Rattle.season_host.specs.Commands.{are_there, begun_by, changed_by, refusal_of}
-use Rattle.season_host.specs.Doing.{IsRefused, IsStoreless, MayAnswerIn}
-use Rattle.season_host.specs.Verdict.{IsRepeat, IsVerdictIn, MayAnswer, Verdict, accepted, begun, fresh_verdict, judged, number_refusal, pass, settled, unless_misnumbered, unless_refused}
-use Rattle.season_host.specs.declared.answer.Answer.{Answer}
-use Rattle.season_host.specs.declared.answer.Answer.TheVariants as answer
-use Rattle.season_host.specs.declared.request.Request.{Request}
-use Rattle.season_host.specs.declared.request.Request.TheVariants as request
+use Rattle.season_book.specs.Book.{Book, Facts, last_number}
+use Rattle.season_book.specs.declared.command.Command.{Command}
+use Rattle.season_book.specs.declared.made.Made.{Made}
+use Rattle.season_book.specs.declared.made.Made.TheVariants as made
+use Rattle.season_book.specs.Commands.{are_there, begun_by, changed_by, refusal_of}
+use Rattle.season_book.specs.Doing.{IsRefused, IsStoreless, MayAnswerIn}
+use Rattle.season_book.specs.Verdict.{IsRepeat, IsVerdictIn, MayAnswer, Verdict, accepted, begun, fresh_verdict, judged, number_refusal, pass, settled, unless_misnumbered, unless_refused}
+use Rattle.season_book.specs.declared.answer.Answer.{Answer}
+use Rattle.season_book.specs.declared.answer.Answer.TheVariants as answer
+use Rattle.season_book.specs.declared.request.Request.{Request}
+use Rattle.season_book.specs.declared.request.Request.TheVariants as request
 
 -- no verdict speaks of a store
 

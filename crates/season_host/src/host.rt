@@ -1,18 +1,19 @@
 // The host of a season.
 ghost use Rattle.std.specs.Prelude.{◌≡◌, ◌≤◌, Some, MatchResult, IsOk};
 ghost use Rattle.rule_book.specs.Refusals.{IsJudged};
-ghost use Rattle.record_codec.specs.Book.{empty_book, last_number};
-ghost use Rattle.season_host.specs.Commands.{IsCommand};
-ghost use Rattle.season_host.specs.Doing.{IsAccepted, IsShown, IsStoreless, MayAnswerIn};
-ghost use Rattle.season_host.specs.Hosts.{IsRequest, caller_with, owner_of};
-ghost use Rattle.season_host.specs.Verdict.{MayAnswer, judged, number_refusal, pass, view_answer};
-ghost use Rattle.season_host.specs.declared.request.Request.TheVariants as request_of;
+ghost use Rattle.season_book.specs.Book.{empty_book, last_number};
+ghost use Rattle.season_book.specs.Commands.{IsCommand};
+ghost use Rattle.season_book.specs.Doing.{IsAccepted, IsShown, IsStoreless, MayAnswerIn};
+ghost use Rattle.season_book.specs.Hosts.{IsRequest, caller_with, owner_of};
+ghost use Rattle.season_book.specs.Verdict.{MayAnswer, judged, number_refusal, pass, view_answer};
+ghost use Rattle.season_book.specs.declared.request.Request.TheVariants as request_of;
 
 use crate::accept::{accept, begin};
 use crate::lasts::Lasts;
-use crate::views::show;
-use crate::{Answer, Command, Made, Request, Season, View};
 use fpl_base::{Caller, Keeper, Key, Memory, Moment, RecordKey, Rule, Steps};
+use season_book::{Answer, Command, Made, Request, View};
+use season_facts::Season;
+use season_views::show;
 use std::alloc::Global;
 use std::marker::Model;
 use std::sync::ledger::Ledger;
@@ -38,7 +39,7 @@ pub struct Host {
 }
 
 impl Model for Host {
-    ghost use Rattle.season_host.specs.Hosts.{HostState, host_state};
+    ghost use Rattle.season_book.specs.Hosts.{HostState, host_state};
 
     ghost Value = { HostState };
 

@@ -1,10 +1,11 @@
 // Requests to a host, and what it says.
 ghost use Rattle.std.specs.Prelude.{◌≡◌, ◌<◌};
-ghost use Rattle.season_host.specs.Commands.{IsCommand};
-ghost use Rattle.season_host.specs.Hosts.{IsRequest};
+ghost use Rattle.season_book.specs.Commands.{IsCommand};
+ghost use Rattle.season_book.specs.Hosts.{IsRequest};
 
-use crate::{Answer, Clubs, Command, Host, Moments, OpenFault, Request, Shown, View};
+use crate::{Host, OpenFault};
 use fpl_base::{Caller, ClubId, EntryId, Key, Moment, Name, PlayerId, Position, Quiet, Steps};
+use season_book::{Answer, Clubs, Command, Moments, Request, Shown, View};
 use std::alloc::Global;
 use std::marker::Brand;
 use std::process::Abort;

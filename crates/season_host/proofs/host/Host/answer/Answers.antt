@@ -1,4 +1,4 @@
-use Rattle.season_host.specs.declared.request.Request.TheVariants as request
+use Rattle.season_book.specs.declared.request.Request.TheVariants as request
 use Rattle.season_host.proofs.AnswerFacts.{may_answer}
 use Rattle.season_host.proofs.host.Host.answer.Goals as goal
 

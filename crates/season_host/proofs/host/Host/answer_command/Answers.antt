@@ -1,8 +1,8 @@
 use Rattle.std.proofs.Common.{◌≡◌, None, ◌∙◌, ap, subst, sym}
-use Rattle.record_codec.specs.Book.{last_number}
-use Rattle.record_codec.specs.declared.made.Made.{Made}
-use Rattle.season_host.specs.Hosts.{HostState}
-use Rattle.season_host.specs.Verdict.{IsRepeat, judged, number_refusal}
+use Rattle.season_book.specs.Book.{last_number}
+use Rattle.season_book.specs.declared.made.Made.{Made}
+use Rattle.season_book.specs.Hosts.{HostState}
+use Rattle.season_book.specs.Verdict.{IsRepeat, judged, number_refusal}
 use Rattle.season_host.proofs.AnswerFacts.{done_answer, storeless_judged, storeless_refused}
 use Rattle.season_host.proofs.host.Host.answer_command.Goals as goal
 
