@@ -12,8 +12,6 @@ mod made;
 mod request;
 mod same;
 mod shown;
-#[cfg(test)]
-mod tests;
 
 pub use answer::Answer;
 pub use clubs::SharedClubs;
