@@ -2,10 +2,10 @@
 use Rattle.std.specs.Prelude.{ℕ, codes}
 use Rattle.serde_json.specs.Data.{Data, string, object, member, no_members}
 use Rattle.fpl_base.specs.declared.records.RecordKey.{RecordKey}
-use Rattle.record_codec.specs.declared.made.Made.{Made}
-use Rattle.record_codec.specs.declared.made.Made.TheVariants as made
-use Rattle.season_host.specs.declared.answer.Answer.{Answer}
-use Rattle.season_host.specs.declared.answer.Answer.TheVariants as answer
+use Rattle.season_book.specs.declared.made.Made.{Made}
+use Rattle.season_book.specs.declared.made.Made.TheVariants as made
+use Rattle.season_book.specs.declared.answer.Answer.{Answer}
+use Rattle.season_book.specs.declared.answer.Answer.TheVariants as answer
 use Rattle.fpl_answers.specs.MemberData.{count, error_data}
 use Rattle.fpl_answers.specs.RuleData.{rule_data}
 use Rattle.fpl_answers.specs.ShownData.{shown_data}

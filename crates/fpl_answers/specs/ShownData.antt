@@ -6,11 +6,11 @@ use Rattle.serde_json.specs.View.{items_of}
 use Rattle.fpl_base.specs.Letters.{letter_of}
 use Rattle.rule_book.specs.declared.player.Player.{Player}
 use Rattle.rule_book.specs.declared.team_score.Figures.{Figures}
-use Rattle.season_host.specs.declared.shown.Shown.{Shown}
-use Rattle.season_host.specs.declared.shown.Shown.TheVariants as shown
-use Rattle.season_host.specs.declared.shown.ShownFixture.{ShownFixture}
-use Rattle.season_host.specs.declared.shown.ShownLine.{ShownLine}
-use Rattle.season_host.specs.declared.shown.ShownSeason.{ShownSeason}
+use Rattle.season_book.specs.declared.shown.Shown.{Shown}
+use Rattle.season_book.specs.declared.shown.Shown.TheVariants as shown
+use Rattle.season_book.specs.declared.shown.ShownFixture.{ShownFixture}
+use Rattle.season_book.specs.declared.shown.ShownLine.{ShownLine}
+use Rattle.season_book.specs.declared.shown.ShownSeason.{ShownSeason}
 use Rattle.fpl_answers.specs.MemberData.{count, count_or_null}
 
 -- a club of the season

@@ -11,8 +11,8 @@ use crate::views::{room_of, write_shown};
 use fpl_base::{Memory, RecordKey};
 use fpl_http::Reply;
 use json::Writer;
-use record_codec::Made;
-use season_host::Answer;
+use season_book::Made;
+use season_book::Answer;
 use std::alloc::{AllocError, Global};
 
 /// The reply that tells an answer. Its only error is want of memory.

@@ -10,7 +10,7 @@ use crate::members::{write_count, write_integer, write_nothing, write_text, writ
 use fpl_base::{ClubId, Gw, Moment, Name};
 use json::Writer;
 use rule_book::{Figures, Player};
-use season_host::{Shown, ShownFixture, ShownLine, ShownSeason};
+use season_book::{Shown, ShownFixture, ShownLine, ShownSeason};
 use std::alloc::AllocError;
 use std::str;
 

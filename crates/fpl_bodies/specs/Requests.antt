@@ -2,13 +2,13 @@
 use Rattle.std.specs.Prelude.{ℕ, Bool, true, not, ◌==◌, ◌&&◌, List, [], ◌∷◌, length, if◌then◌else◌, Result, Ok, Err, slice_index}
 use Rattle.std.specs.List.{list_any}
 use Rattle.rule_book.specs.declared.line.Line.{Line}
-use Rattle.record_codec.specs.declared.command.Command.{Command}
-use Rattle.record_codec.specs.declared.command.Command.TheVariants as command
-use Rattle.season_host.specs.Commands.{club_ids}
-use Rattle.season_host.specs.declared.request.Request.{Request}
-use Rattle.season_host.specs.declared.request.Request.TheVariants as request
-use Rattle.season_host.specs.declared.request.View.{View}
-use Rattle.season_host.specs.declared.request.View.TheVariants as view
+use Rattle.season_book.specs.declared.command.Command.{Command}
+use Rattle.season_book.specs.declared.command.Command.TheVariants as command
+use Rattle.season_book.specs.Commands.{club_ids}
+use Rattle.season_book.specs.declared.request.Request.{Request}
+use Rattle.season_book.specs.declared.request.Request.TheVariants as request
+use Rattle.season_book.specs.declared.request.View.{View}
+use Rattle.season_book.specs.declared.request.View.TheVariants as view
 use Rattle.serde_json.specs.Data.{Data}
 use Rattle.fpl_bodies.specs.declared.field.FieldName.{FieldName}
 use Rattle.fpl_bodies.specs.declared.field.FieldName.TheVariants as field

@@ -1,6 +1,6 @@
 // The commands, each by its members in their order.
 ghost use Rattle.std.specs.Prelude.{◌≢◌, IfOk};
-ghost use Rattle.season_host.specs.Commands.{IsCommand};
+ghost use Rattle.season_book.specs.Commands.{IsCommand};
 ghost use Rattle.fpl_bodies.specs.Members.{Gives};
 ghost use Rattle.fpl_bodies.specs.Requests.{command_of, deadline, drop, finish, fixture, gone, guest, move, player, player_club, price, put, season, sheet};
 ghost use Rattle.json_tree.specs.Trees.{view};
@@ -14,7 +14,7 @@ use crate::{FieldName, ReadFault};
 use fpl_base::ClubId;
 use fpl_routes::CommandRoute;
 use json_tree::Tree;
-use record_codec::Command;
+use season_book::Command;
 use std::alloc::Global;
 
 /// The command of a route at a fixture, where its target names one.

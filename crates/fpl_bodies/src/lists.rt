@@ -1,7 +1,7 @@
 // Readers of the lists that commands hold.
 ghost use Rattle.std.specs.Prelude.{◌≡◌, ◌≤◌, ◌==◌, ◌&&◌, IfOk, Result, length, nat_le};
 ghost use Rattle.std.specs.List.{list_any};
-ghost use Rattle.season_host.specs.Commands.{club_ids};
+ghost use Rattle.season_book.specs.Commands.{club_ids};
 ghost use Rattle.rule_book.specs.Ranks.{AllDiffer};
 ghost use Rattle.fpl_bodies.specs.declared.field.FieldName.{FieldName};
 ghost use Rattle.fpl_bodies.specs.declared.field.FieldName.TheVariants as field;
@@ -13,7 +13,7 @@ use crate::members::{club_id, entry, items, moment_entry, player_id, title, wron
 use crate::{FieldName, ReadFault};
 use fpl_base::{ClubId, Name, PlayerId};
 use json_tree::Tree;
-use record_codec::{Clubs, Lines, Moments};
+use season_book::{Clubs, Lines, Moments};
 use rule_book::Line;
 use std::alloc::Global;
 

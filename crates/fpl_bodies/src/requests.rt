@@ -4,14 +4,14 @@ ghost use Rattle.serde_json.specs.Read.{read};
 ghost use Rattle.fpl_bodies.specs.declared.field.FieldName.TheVariants as field;
 ghost use Rattle.fpl_bodies.specs.Members.{Gives, GivesObject, if_object, object_of, or_wrong};
 ghost use Rattle.fpl_bodies.specs.Requests.{ordered, request_of, view_of};
-ghost use Rattle.season_host.specs.Hosts.{IsRequest};
+ghost use Rattle.season_book.specs.Hosts.{IsRequest};
 
 use crate::commands::read_command;
 use crate::members::{whole, wrong};
 use crate::{FieldName, ReadFault};
 use fpl_routes::{Asks, CommandRoute, Route, ViewRoute};
 use json_tree::{ParseFault, Scratch, Tree, parse};
-use season_host::{Request, View};
+use season_book::{Request, View};
 use std::alloc::Global;
 
 /// What is asked by a route and the ids of its target, as [`fpl_routes::Routes::find`] gives them, and a body, which is

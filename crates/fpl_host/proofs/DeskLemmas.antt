@@ -7,13 +7,13 @@ use Rattle.fpl_answers.specs.Answers.{done_status, status_of}
 use Rattle.fpl_http.specs.Seen.{reply_seen}
 use Rattle.fpl_http.specs.declared.responses.Reply.{Reply}
 use Rattle.fpl_session.specs.Replies.{answer_in}
-use Rattle.record_codec.specs.Book.{Book}
-use Rattle.record_codec.specs.declared.made.Made.{Made}
-use Rattle.record_codec.specs.declared.made.Made.TheVariants as made
-use Rattle.season_host.specs.Verdict.{MayAnswer, MayBeLeft}
-use Rattle.season_host.specs.declared.answer.Answer.{Answer}
-use Rattle.season_host.specs.declared.answer.Answer.TheVariants as answer
-use Rattle.season_host.specs.declared.request.Request.{Request}
+use Rattle.season_book.specs.Book.{Book}
+use Rattle.season_book.specs.declared.made.Made.{Made}
+use Rattle.season_book.specs.declared.made.Made.TheVariants as made
+use Rattle.season_book.specs.Verdict.{MayAnswer, MayBeLeft}
+use Rattle.season_book.specs.declared.answer.Answer.{Answer}
+use Rattle.season_book.specs.declared.answer.Answer.TheVariants as answer
+use Rattle.season_book.specs.declared.request.Request.{Request}
 use Rattle.fpl_host.specs.Replying.{IsJudged, reply_of}
 
 -- behind each answer stands a book that may be left where memory ran out

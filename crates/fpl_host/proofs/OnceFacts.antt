@@ -2,11 +2,11 @@
 use Rattle.std.proofs.Common.{◌≡◌, ◌∙◌, sym, refl, ap, subst, ℕ, List, [], ◌∷◌, inl, inr}
 use Rattle.std.specs.Prelude.{Ok, Err}
 use Rattle.fpl_base.specs.declared.kinds.Caller.{Caller}
-use Rattle.season_host.specs.Once.{CommandsActOnce}
-use Rattle.season_host.specs.Runs.{Asked, Run as HostRun}
-use Rattle.season_host.specs.declared.answer.Answer.{Answer}
-use Rattle.season_host.specs.declared.answer.Answer.TheVariants as answer
-use Rattle.season_host.specs.declared.request.Request.{Request}
+use Rattle.season_book.specs.Once.{CommandsActOnce}
+use Rattle.season_book.specs.Runs.{Asked, Run as HostRun}
+use Rattle.season_book.specs.declared.answer.Answer.{Answer}
+use Rattle.season_book.specs.declared.answer.Answer.TheVariants as answer
+use Rattle.season_book.specs.declared.request.Request.{Request}
 use Rattle.fpl_http.specs.Stream.{Request as Message}
 use Rattle.fpl_routes.specs.Targets.{OneFound}
 use Rattle.fpl_session.specs.Replies.{Speaks}

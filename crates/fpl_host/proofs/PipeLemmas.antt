@@ -7,7 +7,7 @@ use Rattle.fpl_session.specs.Replies.{Speaks}
 use Rattle.fpl_session.specs.Sessions.{EndsAs, SessionOf, SessionOver}
 use Rattle.fpl_session.specs.declared.ending.Ending.{Ending}
 use Rattle.fpl_session.specs.declared.ending.Ending.TheVariants as ends
-use Rattle.season_host.specs.Hosts.{HostState}
+use Rattle.season_book.specs.Hosts.{HostState}
 use Rattle.fpl_host.specs.Pipe.{Pipes, opened, status_of}
 use Rattle.fpl_host.specs.Replying.{IsReply, Served}
 

@@ -2,7 +2,7 @@
 use Rattle.std.specs.Prelude.{◌≡◌, ℕ, List, Result, Ok, Err, IsTrue, ⊤}
 use Rattle.fpl_http.specs.Responses.{is_answer_status}
 use Rattle.fpl_http.specs.Seen.{reply_seen}
-use Rattle.season_host.specs.Hosts.{IsRequest}
+use Rattle.season_book.specs.Hosts.{IsRequest}
 use Rattle.fpl_host.specs.declared.desk.Asked.{Asked}
 use Rattle.fpl_host.specs.declared.desk.Asked.TheVariants as asked
 use Rattle.fpl_host.specs.Replying.{Asking}

@@ -2,12 +2,12 @@
 use Rattle.std.specs.Prelude.{◌≡◌, ◌⊎◌, ℕ, Bool, List, [], ◌∷◌, Ok}
 use Rattle.fpl_base.specs.declared.kinds.Caller.{Caller}
 use Rattle.fpl_base.specs.Moments.{Tells}
-use Rattle.record_codec.specs.Book.{caller_number, last_number}
-use Rattle.season_host.specs.Hosts.{HostState}
-use Rattle.season_host.specs.Once.{Acted, RiseByOne, acted_numbers}
-use Rattle.season_host.specs.Runs.{Asked}
-use Rattle.season_host.specs.Verdict.{MayAnswer}
-use Rattle.season_host.specs.declared.answer.Answer.{Answer}
+use Rattle.season_book.specs.Book.{caller_number, last_number}
+use Rattle.season_book.specs.Hosts.{HostState}
+use Rattle.season_book.specs.Once.{Acted, RiseByOne, acted_numbers}
+use Rattle.season_book.specs.Runs.{Asked}
+use Rattle.season_book.specs.Verdict.{MayAnswer}
+use Rattle.season_book.specs.declared.answer.Answer.{Answer}
 use Rattle.fpl_http.specs.Stream.{Request as Message}
 use Rattle.fpl_session.specs.Replies.{Speaks}
 use Rattle.fpl_session.specs.Runs.{Run}

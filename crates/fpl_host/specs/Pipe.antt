@@ -6,8 +6,8 @@ use Rattle.fpl_session.specs.Replies.{Speaks}
 use Rattle.fpl_session.specs.Sessions.{EndsAs, SessionOf, SessionOver}
 use Rattle.fpl_session.specs.declared.ending.Ending.{Ending}
 use Rattle.fpl_session.specs.declared.ending.Ending.TheVariants.{Done, Closed, Cut, Refused, Read, Write, Long, Memory}
-use Rattle.record_codec.specs.Book.{empty_book}
-use Rattle.season_host.specs.Hosts.{HostState}
+use Rattle.season_book.specs.Book.{empty_book}
+use Rattle.season_book.specs.Hosts.{HostState}
 use Rattle.fpl_host.specs.Replying.{IsReply, Served}
 
 -- the exit status of a session: 0 where it ended with the input or with a message that closes, and else a number for each cause

@@ -3,11 +3,11 @@ use Rattle.std.specs.Prelude.{◌≡◌, ◌⊎◌, ℕ, List, Option, Some, Non
 use Rattle.serde_json.specs.Written.{compact_text}
 use Rattle.fpl_base.specs.declared.kinds.Caller.{Caller}
 use Rattle.fpl_base.specs.Moments.{Moments, Tells}
-use Rattle.record_codec.specs.Book.{Book}
-use Rattle.season_host.specs.Hosts.{HostState, owner_of}
-use Rattle.season_host.specs.Verdict.{MayAnswer, MayBeLeft}
-use Rattle.season_host.specs.declared.answer.Answer.{Answer}
-use Rattle.season_host.specs.declared.request.Request.{Request as Asked}
+use Rattle.season_book.specs.Book.{Book}
+use Rattle.season_book.specs.Hosts.{HostState, owner_of}
+use Rattle.season_book.specs.Verdict.{MayAnswer, MayBeLeft}
+use Rattle.season_book.specs.declared.answer.Answer.{Answer}
+use Rattle.season_book.specs.declared.request.Request.{Request as Asked}
 use Rattle.fpl_answers.specs.Answers.{answer_data, status_of}
 use Rattle.fpl_routes.specs.Callers.{is_for}
 use Rattle.fpl_bodies.specs.FieldNames.{name_of}

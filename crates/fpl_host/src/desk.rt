@@ -5,7 +5,7 @@ ghost use Rattle.fpl_http.specs.Responses.{is_answer_status};
 ghost use Rattle.fpl_http.specs.Seen.{reply_seen, request_seen};
 ghost use Rattle.fpl_session.specs.Replies.{answer_in};
 ghost use Rattle.fpl_bodies.specs.Requests.{request_of};
-ghost use Rattle.season_host.specs.Hosts.{IsRequest};
+ghost use Rattle.season_book.specs.Hosts.{IsRequest};
 ghost use Rattle.fpl_host.specs.Desks.{Asks};
 ghost use Rattle.fpl_host.specs.Replying.{IsReply, Judges, RepliesTo, Served, asked_along, asked_by, caller_of, reply_of, unless_malformed};
 
@@ -16,7 +16,8 @@ use fpl_json::{
     method_text, read_request, unknown_text,
 };
 use fpl_session::Service;
-use season_host::{Answer, Host, Request};
+use season_book::{Answer, Request};
+use season_host::{Host};
 use std::alloc::Global;
 use std::sync::ledger::Ledger;
 

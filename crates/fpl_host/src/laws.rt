@@ -3,7 +3,7 @@ ghost use Rattle.fpl_host.specs.Once.{MessagesActOnce, OneAsked};
 
 use fpl_json::targets_ask_one_thing;
 use score_sheet::input_scores_once;
-use season_host::commands_act_once;
+use season_book::commands_act_once;
 
 /// For the bytes of a match one status and one text are due.
 pub fn one_score_is_due()

@@ -1,7 +1,7 @@
 // The command that runs one session over the input and the output.
 ghost use Rattle.std.specs.Prelude.{◌≡◌, ◌≤◌, IfOk};
 ghost use Rattle.fpl_base.specs.Causes.{Rose};
-ghost use Rattle.record_codec.specs.Book.{empty_book};
+ghost use Rattle.season_book.specs.Book.{empty_book};
 ghost use Rattle.fpl_host.specs.Pipe.{Pipes, status_of};
 
 use crate::desk::{Desk, HostWithScratch};

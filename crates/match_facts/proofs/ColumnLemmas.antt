@@ -12,7 +12,7 @@ use Rattle.rule_book.specs.declared.line.Line.{Line}
 use Rattle.rule_book.specs.MatchFacts.{with_line}
 use Rattle.rule_book.specs.ById.{at_id, placed_at}
 use Rattle.match_facts.specs.Columns.{AreColumns, IsAscending, IsPlace, IsGap, IsSought}
-use Rattle.match_facts.proofs.Placed.{AllAbove, placed_before, placed_here, placed_past}
+use Rattle.rule_book.proofs.Placed.{AllAbove, placed_before, placed_here, placed_past}
 
 module _ (ps : List ℕ) (ascending : IsAscending ps) (p : ℕ) where
   -- the comparisons rise along the list, as a binary search asks

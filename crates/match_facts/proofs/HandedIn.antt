@@ -13,7 +13,8 @@ use Rattle.rule_book.specs.ById.{at_id}
 use Rattle.rule_book.specs.MatchFacts.{Lines, players_in, with_line}
 use Rattle.rule_book.specs.Repeats.{is_repeat, first_repeat}
 use Rattle.match_facts.specs.Laws.{SheetsHaveTheirLines}
-use Rattle.match_facts.proofs.Maps.{or_else, or_none, lines_are_a_map, chosen_same, chosen_other}
+use Rattle.rule_book.proofs.AtId.{chosen_other, chosen_same, or_else, or_none}
+use Rattle.match_facts.proofs.Maps.{lines_are_a_map}
 use Rattle.match_facts.proofs.Repeats.{at, long, length-players}
 
 map_none : {X Y : Type 0} (f : X → Y) (o : Option X) → option_map f o ≡ None → o ≡ None

@@ -3,7 +3,6 @@ pub mod FirstAbove
 pub mod HandedIn
 pub mod Maps
 pub mod MarkLemmas
-pub mod Placed
 pub mod Repeats
 pub mod SheetEntries
 pub mod TableLemmas

@@ -6,7 +6,8 @@ use Rattle.std.proofs.lemmas.List.{get_or-set_same, get_or-set_other}
 use Rattle.rule_book.specs.declared.line.Line.{Line}
 use Rattle.rule_book.specs.MatchFacts.{Lines, line_in, with_line, without_line}
 use Rattle.match_facts.specs.Marks.{AreMarked}
-use Rattle.match_facts.proofs.Maps.{lines_are_a_map, lines_go, chosen_other, chosen_same}
+use Rattle.rule_book.proofs.AtId.{chosen_other, chosen_same}
+use Rattle.match_facts.proofs.Maps.{lines_are_a_map, lines_go}
 
 -- a mark's place
 pub within : (marks : List Bool) (player : ℕ) → length marks ≡ 256 → player % 256 < length marks

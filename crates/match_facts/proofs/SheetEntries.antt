@@ -12,8 +12,8 @@ use Rattle.std.proofs.lemmas.Map.{keys-set_value}
 use Rattle.std.proofs.lemmas.Map.Steps.{set_value_same}
 use Rattle.rule_book.specs.ById.{at_id, placed_at}
 use Rattle.rule_book.specs.MatchFacts.{Lines, with_line, by_player, Sheet, bare_sheet, tells_facts, MatchFacts, sheet_of, with_sheet}
-use Rattle.match_facts.specs.Entries.{AreSorted}
-use Rattle.match_facts.proofs.Placed.{placed-insert_entry, placed-remove_entry, placed-set_value, at_id-lookup}
+use Rattle.rule_book.specs.ById.{AreSorted}
+use Rattle.rule_book.proofs.Placed.{placed-insert_entry, placed-remove_entry, placed-set_value, at_id-lookup}
 
 module _ {X : Type 0} where
   -- nothing is removed where nothing is found

@@ -11,10 +11,10 @@ use Rattle.std.proofs.lemmas.Map.Keys.{sorted_from_strictly_increasing}
 use Rattle.std.proofs.lemmas.Map.Made.{keys_of-zip}
 use Rattle.rule_book.specs.MatchFacts.{Sheet}
 use Rattle.match_facts.specs.Columns.{IsPlace, IsGap}
-use Rattle.match_facts.specs.Entries.{AreSorted}
+use Rattle.rule_book.specs.ById.{AreSorted}
 use Rattle.match_facts.specs.Tables.{IsTable}
 use Rattle.match_facts.proofs.ColumnLemmas.{line_here, zip-set, zip-insert, zip-remove, zip-gap, ascending-insert, ascending-remove}
-use Rattle.match_facts.proofs.Placed.{placed-insert_entry, placed-remove_entry, placed-set_value, at_id-lookup}
+use Rattle.rule_book.proofs.Placed.{placed-insert_entry, placed-remove_entry, placed-set_value, at_id-lookup}
 use Rattle.match_facts.proofs.SheetEntries.{is_some_found}
 
 pub empty_table : IsTable [] []

@@ -1,5 +1,4 @@
 pub mod Columns
-pub mod Entries
 pub mod Laws
 pub mod Lending
 pub mod Marks

@@ -28,7 +28,7 @@ pub struct MatchFacts {
 
 impl Model for MatchFacts {
     ghost use Rattle.rule_book.specs.MatchFacts as facts;
-    ghost use Rattle.match_facts.specs.Entries.{AreSorted};
+    ghost use Rattle.rule_book.specs.ById.{AreSorted};
 
     ghost Value = { facts.MatchFacts };
 

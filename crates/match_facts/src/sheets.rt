@@ -2,7 +2,7 @@
 ghost use Rattle.std.specs.Prelude.{◌≡◌, ◌≤◌, length, OnOk, OnErr};
 ghost use Rattle.rule_book.specs.MatchFacts.{with_sheet, lines_of, with_line};
 ghost use Rattle.rule_book.specs.MatchCalls.{put_line, drop_line, set_finished};
-ghost use Rattle.match_facts.specs.Entries.{AreSorted};
+ghost use Rattle.rule_book.specs.ById.{AreSorted};
 
 use crate::sheet::Sheet;
 use crate::table::Table;

@@ -7,7 +7,7 @@ ghost use Rattle.std.specs.Map.{keys_of, remove_entry};
 ghost use Rattle.std.specs.Ordering.{nat_cmp};
 ghost use Rattle.rule_book.specs.ById.{at_id};
 ghost use Rattle.match_facts.specs.Columns.{IsAscending, IsPlace, IsSought};
-ghost use Rattle.match_facts.specs.Entries.{AreSorted};
+ghost use Rattle.rule_book.specs.ById.{AreSorted};
 ghost use Rattle.match_facts.specs.Lending.{LendsSheet};
 
 use crate::sheet::Sheet;

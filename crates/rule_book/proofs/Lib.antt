@@ -1,6 +1,8 @@
 pub mod AgreeFacts
+pub mod AtId
 pub mod Examples
 pub mod OrderFacts
+pub mod Placed
 pub mod RankLemmas
 pub mod TableLemmas
 pub mod TableOrder

@@ -4,6 +4,7 @@ pub mod Bonus
 pub mod BonusPoints
 pub mod ById
 pub mod Calendar
+pub mod CalendarCalls
 pub mod ClassicTable
 pub mod CupLaws
 pub mod CupRounds

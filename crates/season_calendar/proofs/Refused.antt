@@ -12,7 +12,7 @@ use Rattle.fpl_base.specs.declared.rule.Rule.TheVariants as rule
 use Rattle.rule_book.specs.declared.season.Fixture.{Fixture}
 use Rattle.rule_book.specs.Calendar.{CalendarFacts, standing, is_early, first_out_of_order}
 use Rattle.season_calendar.specs.Kept.{IsAt, IsGap, ids_without}
-use Rattle.season_calendar.specs.Verdicts.{place_refusal, fixture_refusal}
+use Rattle.rule_book.specs.CalendarCalls.{place_refusal, fixture_refusal}
 use Rattle.season_calendar.proofs.Places.{found_at, none_there, any_found, none_any}
 
 -- a place that is free

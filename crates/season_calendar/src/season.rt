@@ -40,7 +40,7 @@ impl Model for Calendar {
 
 impl Calendar {
     ghost use Rattle.rule_book.specs.Calendar.{IsCalendar, new_calendar, deadlines_order, next_gameweek, deadline_of, fixture_of, stands_in, standing, after_pass, with_deadline, with_fixture, with_move};
-    ghost use Rattle.season_calendar.specs.Verdicts.{deadline_refusal, place_refusal, fixture_refusal, move_refusal};
+    ghost use Rattle.rule_book.specs.CalendarCalls.{deadline_refusal, place_refusal, fixture_refusal, move_refusal};
 
     /// The calendar of a season that has not begun: no gameweek is locked, and no fixture is there. The first `split`
     /// gameweeks are the season's first half. `DeadlineOrder` names the first gameweek whose deadline is not after

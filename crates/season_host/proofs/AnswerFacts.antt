@@ -1,21 +1,21 @@
 -- From a command that was done and kept to what may be answered.
-use Rattle.std.proofs.Common.{◌≡◌, ℕ, Bool, true, false, if◌then◌else◌, Option, Some, None, sym, ap, subst, ◌∙◌, inl, inr}
+use Rattle.std.proofs.Common.{◌≡◌, ℕ, Bool, true, false, if◌then◌else◌, List, Option, Some, None, sym, ap, subst, ◌∙◌, inl, inr}
 use Rattle.std.specs.Prelude.{Result, Ok, Err, IfErr, MatchResult, is_some}
 use Rattle.fpl_base.specs.declared.kinds.Caller.{Caller}
 use Rattle.fpl_base.specs.declared.rule.Rule.{Rule}
 use Rattle.fpl_base.specs.declared.rule.Rule.TheVariants as rule
 use Rattle.rule_book.specs.Calendar.{deadlines_order}
-use Rattle.record_codec.specs.Book.{Book, Facts, last_number}
-use Rattle.record_codec.specs.declared.command.Command.{Command}
-use Rattle.record_codec.specs.declared.made.Made.{Made}
-use Rattle.record_codec.specs.declared.made.Made.TheVariants as made
-use Rattle.season_host.specs.Commands.{are_there, begun_by, changed_by, refusal_of}
-use Rattle.season_host.specs.Doing.{IsRefused, IsStoreless, MayAnswerIn}
-use Rattle.season_host.specs.Verdict.{IsRepeat, IsVerdictIn, MayAnswer, Verdict, accepted, begun, fresh_verdict, judged, number_refusal, pass, settled, unless_misnumbered, unless_refused}
-use Rattle.season_host.specs.declared.answer.Answer.{Answer}
-use Rattle.season_host.specs.declared.answer.Answer.TheVariants as answer
-use Rattle.season_host.specs.declared.request.Request.{Request}
-use Rattle.season_host.specs.declared.request.Request.TheVariants as request
+use Rattle.season_book.specs.Book.{Book, Facts, last_number}
+use Rattle.season_book.specs.declared.command.Command.{Command}
+use Rattle.season_book.specs.declared.made.Made.{Made}
+use Rattle.season_book.specs.declared.made.Made.TheVariants as made
+use Rattle.season_book.specs.Commands.{are_there, begun_by, changed_by, refusal_of}
+use Rattle.season_book.specs.Doing.{IsRefused, IsStoreless, MayAnswerIn, with_facts}
+use Rattle.season_book.specs.Verdict.{Failures, IsRepeat, IsVerdictIn, MayAnswer, Verdict, begun, fresh_verdict, judged, number_refusal, pass, ruled_by, settled, unless_misnumbered, unless_refused}
+use Rattle.season_book.specs.declared.answer.Answer.{Answer}
+use Rattle.season_book.specs.declared.answer.Answer.TheVariants as answer
+use Rattle.season_book.specs.declared.request.Request.{Request}
+use Rattle.season_book.specs.declared.request.Request.TheVariants as request
 
 -- no verdict speaks of a store
 
@@ -52,27 +52,27 @@ storeless_refused verdict answer.Memory storeless refused = tt
 
 -- the verdict on a command that is no repeat
 
-module _ (book : Book) (caller : Caller) (now number : ℕ) (command : Command)
+module _ (operator : List ℕ) (book : Book) (caller : Caller) (now number : ℕ) (command : Command)
     (fresh : (made : Made) → IsRepeat book caller number command made → ⊥) where
   abbrev due : Result Facts Answer
   due = judged book.facts now command
 
-  numbered : number_refusal (last_number book caller) number ≡ None → settled book caller number command due ≡ fresh_verdict book caller now number command
-  numbered none = ap (λ broken. unless_misnumbered broken book (settled book caller number command due)) (sym none)
+  numbered : number_refusal (last_number book caller) number ≡ None → settled book caller number command (ruled_by book due) ≡ fresh_verdict operator book caller now number command
+  numbered none = ap (λ broken. unless_misnumbered broken book (settled book caller number command (ruled_by book due))) (sym none)
 
-  settled_ok : (after : Book) (verdict : Result Facts Answer) → MatchResult verdict (λ facts. after ≡ accepted book caller number command facts) (λ refused. ⊥)
-      → (let done : Verdict = record { answer = answer.Done number made.Nothing; book = after } in done) ≡ settled book caller number command verdict
+  settled_ok : (after : Book) (verdict : Result Facts Answer) → MatchResult verdict (λ facts. after ≡ with_facts book caller number command facts) (λ refused. ⊥)
+      → (let done : Verdict = record { answer = answer.Done number made.Nothing; book = after } in done) ≡ settled book caller number command (ruled_by book verdict)
   settled_ok after (Ok facts) same = ap (λ b. let done : Verdict = record { answer = answer.Done number made.Nothing; book = b } in done) same
   settled_ok after (Err refused) never = absurd never
 
   pub done_answer : (after : Book) → number_refusal (last_number book caller) number ≡ None
-      → MatchResult due (λ facts. after ≡ accepted book caller number command facts) (λ refused. ⊥)
-      → MayAnswerIn book caller now (request.Command number command) (answer.Done number made.Nothing) after
+      → MatchResult due (λ facts. after ≡ with_facts book caller number command facts) (λ refused. ⊥)
+      → MayAnswerIn operator book caller now (request.Command number command) (answer.Done number made.Nothing) after
   done_answer after none done = inl (inr (fresh, settled_ok after due done ∙ numbered none))
 
 -- what may be answered in the book with the moment's locks may be answered in the book before
-pub may_answer : (book passed : Book) (caller : Caller) (now : ℕ) (asked : Request) (reply : Answer) (after : Book) → passed ≡ pass book now
-    → MayAnswerIn passed caller now asked reply after → MayAnswer book caller now asked reply after
-may_answer book passed caller now asked reply after same (inl verdict) =
-    inl (subst (λ b. IsVerdictIn b caller now asked (record { answer = reply; book = after })) same verdict)
-may_answer book passed caller now asked reply after same (inr (out, left)) = inr (out, inr (inl (left ∙ same)))
+pub may_answer : (operator : List ℕ) (failures : Failures) (book passed : Book) (caller : Caller) (now : ℕ) (asked : Request) (reply : Answer) (after : Book) → passed ≡ pass book now
+    → MayAnswerIn operator passed caller now asked reply after → MayAnswer operator failures book caller now asked reply after
+may_answer operator failures book passed caller now asked reply after same (inl verdict) =
+    inl (subst (λ b. IsVerdictIn operator b caller now asked (record { answer = reply; book = after })) same verdict)
+may_answer operator failures book passed caller now asked reply after same (inr (out, left)) = inr (inl out, inr (inl (left ∙ same)))

@@ -11,11 +11,11 @@ use Rattle.std.proofs.lemmas.Bool.{cases_order, false≢true}
 use Rattle.std.proofs.lemmas.Map.Keys.{sorted_head, sorted_tail}
 use Rattle.std.proofs.lemmas.Option.{same_Some}
 use Rattle.rule_book.specs.ById.{at_id, placed_at}
-use Rattle.record_codec.specs.Book.{Last}
-use Rattle.record_codec.specs.declared.made.Made.{Made}
-use Rattle.match_facts.specs.Entries.{AreSorted}
-use Rattle.match_facts.proofs.Placed.{AllAbove, placed_before, placed_here, placed_past}
-use Rattle.season_host.specs.Hosts.{row_at}
+use Rattle.season_book.specs.Book.{Last}
+use Rattle.season_book.specs.declared.made.Made.{Made}
+use Rattle.rule_book.specs.ById.{AreSorted}
+use Rattle.rule_book.proofs.Placed.{AllAbove, placed_before, placed_here, placed_past}
+use Rattle.season_book.specs.Hosts.{row_at}
 
 above_first : (row : ℕ × Last) (rows : List (ℕ × Last)) → AllByRecursion (λ k. nat_cmp row.0 k ≡ Less) (keys_of rows) → AllAbove row.0 rows
 above_first row [] less = tt

@@ -1,12 +1,2 @@
-mod Absent
 mod AnswerFacts
-mod ClubFacts
-mod Found
-mod Gameweeks
-mod KeptFacts
 mod LastFacts
-mod Lists
-mod OnceFacts
-mod RunFacts
-mod Standing
-mod Sums

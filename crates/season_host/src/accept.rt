@@ -1,12 +1,13 @@
 // A command that is judged, done, and kept as its caller's last one.
 ghost use Rattle.std.specs.Prelude.{Some, None};
-ghost use Rattle.season_host.specs.Commands.{IsCommand};
-ghost use Rattle.season_host.specs.Doing.{IsBegunAndKept, IsDoneAndKept, IsKept};
-ghost use Rattle.season_host.specs.Verdict.{judged};
+ghost use Rattle.season_book.specs.Commands.{IsCommand};
+ghost use Rattle.season_book.specs.Doing.{IsBegunAndKept, IsDoneAndKept, IsKept};
+ghost use Rattle.season_book.specs.Verdict.{judged};
 
 use crate::lasts::{LastCommand, Lasts};
-use crate::{Answer, Command, Made, Season};
 use fpl_base::{Caller, Memory, Moment, Rule, Steps};
+use season_book::{Answer, Command, Made};
+use season_facts::Season;
 use std::alloc::Global;
 use std::sync::ledger::Ledger;
 

@@ -1,18 +1,19 @@
 // The host of a season.
 ghost use Rattle.std.specs.Prelude.{◌≡◌, ◌≤◌, Some, MatchResult, IsOk};
 ghost use Rattle.rule_book.specs.Refusals.{IsJudged};
-ghost use Rattle.record_codec.specs.Book.{empty_book, last_number};
-ghost use Rattle.season_host.specs.Commands.{IsCommand};
-ghost use Rattle.season_host.specs.Doing.{IsAccepted, IsShown, IsStoreless, MayAnswerIn};
-ghost use Rattle.season_host.specs.Hosts.{IsRequest, caller_with, owner_of};
-ghost use Rattle.season_host.specs.Verdict.{MayAnswer, judged, number_refusal, pass, view_answer};
-ghost use Rattle.season_host.specs.declared.request.Request.TheVariants as request_of;
+ghost use Rattle.season_book.specs.Book.{empty_book, last_number};
+ghost use Rattle.season_book.specs.Commands.{IsCommand};
+ghost use Rattle.season_book.specs.Doing.{IsAccepted, IsShown, IsStoreless, MayAnswerIn};
+ghost use Rattle.season_book.specs.Hosts.{IsRequest, caller_with, owner_of};
+ghost use Rattle.season_book.specs.Verdict.{MayAnswer, judged, fact_shown, number_refusal, pass};
+ghost use Rattle.season_book.specs.declared.request.Request.TheVariants as request_of;
 
 use crate::accept::{accept, begin};
 use crate::lasts::Lasts;
-use crate::views::show;
-use crate::{Answer, Command, Made, Request, Season, View};
 use fpl_base::{Caller, Keeper, Key, Memory, Moment, RecordKey, Rule, Steps};
+use season_book::{Answer, Command, Made, Request, View};
+use season_facts::Season;
+use season_views::show;
 use std::alloc::Global;
 use std::marker::Model;
 use std::sync::ledger::Ledger;
@@ -38,7 +39,7 @@ pub struct Host {
 }
 
 impl Model for Host {
-    ghost use Rattle.season_host.specs.Hosts.{HostState, host_state};
+    ghost use Rattle.season_book.specs.Hosts.{HostState, host_state};
 
     ghost Value = { HostState };
 
@@ -107,14 +108,15 @@ impl Host {
     /// its repeat tells.
     pub fn answer<K: Keeper, L: Ledger>(
         &mut self,
-        _keeper: &mut K,
+        keeper: &mut K,
         caller: Caller,
         now: Moment,
         request: &Request,
         steps: &mut Steps<L>,
     ) -> Answer
         requires { IsRequest request.now }
-        ensures answered { MayAnswer self.old.book caller now request.now result self.new.book }
+        ensures answered { MayAnswer self.old.operator (record { before = K.faults keeper.old; behind = K.faults keeper.new }) self.old.book caller now request.now result self.new.book }
+        ensures keeper { keeper.new ≡ keeper.old }
         ensures operator { self.new.operator ≡ self.old.operator }
         ensures storeless { IsStoreless result }
     {
@@ -145,7 +147,7 @@ impl Host {
         view: View,
         steps: &mut Steps<L>,
     ) -> Answer
-        ensures answered { MayAnswerIn self.old.book caller.now now (request_of.View view) result self.new.book }
+        ensures answered { MayAnswerIn self.old.operator self.old.book caller.now now (request_of.View view) result self.new.book }
         ensures operator { self.new.operator ≡ self.old.operator }
         ensures storeless { IsStoreless result }
     {
@@ -165,7 +167,7 @@ impl Host {
     ) -> Answer
         requires numbered { 1 ≤ number }
         requires command { IsCommand command.now }
-        ensures answered { MayAnswerIn self.old.book caller.now now (request_of.Command number command.now) result self.new.book }
+        ensures answered { MayAnswerIn self.old.operator self.old.book caller.now now (request_of.Command number command.now) result self.new.book }
         ensures operator { self.new.operator ≡ self.old.operator }
         ensures storeless { IsStoreless result }
     {
@@ -215,7 +217,7 @@ fn answer_shown<L: Ledger>(
     view: View,
     steps: &mut Steps<L>,
 ) -> Answer
-    ensures { IsShown (view_answer (Some season.now) view) result }
+    ensures { IsShown (fact_shown (Some season.now) view) result }
 {
     match show(alloc, season, view, steps) {
         Ok(Some(shown)) => Answer::Shown(shown),

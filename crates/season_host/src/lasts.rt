@@ -1,12 +1,12 @@
 // The last accepted command of each caller.
 ghost use Rattle.std.specs.Prelude.{◌≡◌, ◌∷◌, [], Some, None, IfOk, OnErr, IsSome, MatchOption};
 ghost use Rattle.rule_book.specs.ById.{at_id, placed_at};
-ghost use Rattle.record_codec.specs.Book.{Last, caller_number};
-ghost use Rattle.record_codec.specs.declared.made.Made.{Made};
-ghost use Rattle.season_host.specs.Hosts.{number_in, row_at};
+ghost use Rattle.season_book.specs.Book.{Last, caller_number};
+ghost use Rattle.season_book.specs.declared.made.Made.{Made};
+ghost use Rattle.season_book.specs.Hosts.{number_in, row_at};
 
 use fpl_base::{Caller, Memory};
-use record_codec::{Command, Made};
+use season_book::{Command, Made};
 use std::alloc::Global;
 use std::collections::BTreeMap;
 use std::marker::Model;
@@ -20,7 +20,7 @@ pub struct LastCommand {
 }
 
 impl Model for LastCommand {
-    ghost use Rattle.record_codec.specs.Book.{Last};
+    ghost use Rattle.season_book.specs.Book.{Last};
 
     ghost Value = { Last };
 
@@ -35,8 +35,8 @@ pub struct Lasts {
 
 impl Model for Lasts {
     ghost use Rattle.std.specs.Prelude.{List, ℕ};
-    ghost use Rattle.record_codec.specs.Book.{Last};
-    ghost use Rattle.match_facts.specs.Entries.{AreSorted};
+    ghost use Rattle.season_book.specs.Book.{Last};
+    ghost use Rattle.rule_book.specs.ById.{AreSorted};
 
     ghost Value = { List (ℕ × Last) };
 

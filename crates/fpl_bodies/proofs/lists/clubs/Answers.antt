@@ -1,5 +1,5 @@
 use Rattle.std.proofs.Common.{ap, sym, ◌∙◌}
-use Rattle.season_host.specs.Commands.{club_ids}
+use Rattle.season_book.specs.Commands.{club_ids}
 use Rattle.fpl_bodies.specs.Requests.{differ}
 use Rattle.fpl_bodies.proofs.DifferLemmas.{AllDiffer-differ}
 use Rattle.fpl_bodies.proofs.lists.clubs.Goals as goal

@@ -1,6 +1,6 @@
 use Rattle.std.proofs.Common.{◌≡◌, ◌==◌, drop}
 use Rattle.std.specs.List.{list_any}
-use Rattle.season_host.specs.Commands.{club_ids}
+use Rattle.season_book.specs.Commands.{club_ids}
 use Rattle.fpl_bodies.proofs.lists.has_id.Given as goal
 
 -- what is left decides

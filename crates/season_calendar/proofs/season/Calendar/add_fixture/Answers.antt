@@ -1,7 +1,7 @@
 use Rattle.std.proofs.Common.{◌≡◌, ◌∙◌, Some, subst, arith}
 use Rattle.fpl_base.specs.declared.rule.Rule.TheVariants as rule
 use Rattle.rule_book.specs.Calendar.{CalendarFacts}
-use Rattle.season_calendar.specs.Verdicts.{fixture_refusal, place_refusal}
+use Rattle.rule_book.specs.CalendarCalls.{fixture_refusal, place_refusal}
 use Rattle.season_calendar.specs.contracts.season.Calendar.{the_view}
 use Rattle.season_calendar.proofs.Refused.{refused_there, refused_full, refused_by_place}
 use Rattle.season_calendar.proofs.season.Calendar.add_fixture.Goals as goal

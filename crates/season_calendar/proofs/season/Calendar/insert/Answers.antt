@@ -1,7 +1,7 @@
 use Rattle.std.proofs.Common.{◌≡◌, ◌≤◌, ◌<◌, ◌∙◌, None, IfSome, ap, length, sym, subst}
 use Rattle.rule_book.specs.Calendar.{CalendarFacts, with_fixture}
 use Rattle.season_calendar.specs.Kept.{IsGap}
-use Rattle.season_calendar.specs.Verdicts.{place_refusal}
+use Rattle.rule_book.specs.CalendarCalls.{place_refusal}
 use Rattle.season_calendar.specs.contracts.season.Calendar.{the_view}
 use Rattle.season_calendar.proofs.Lawful.{room_for_new, rises_for_new, kept_with_new, inserted, fixtures_are}
 use Rattle.season_calendar.proofs.season.Calendar.insert.Goals as goal

@@ -2,7 +2,7 @@ use Rattle.std.proofs.Common.{◌≡◌, ◌≤◌, ◌<◌, ◌-◌, ◌∙◌,
 use Rattle.rule_book.specs.declared.season.Fixture.{Fixture}
 use Rattle.rule_book.specs.Calendar.{CalendarFacts}
 use Rattle.season_calendar.specs.Kept.{IsAt, IsKept, taken_out, put_in}
-use Rattle.season_calendar.specs.Verdicts.{place_refusal}
+use Rattle.rule_book.specs.CalendarCalls.{place_refusal}
 use Rattle.season_calendar.specs.contracts.season.Calendar.{the_view}
 use Rattle.std.proofs.lemmas.List.{get_or_default}
 use Rattle.season_calendar.proofs.Lawful.{room_for_moved, rises_for_moved, kept_moved}

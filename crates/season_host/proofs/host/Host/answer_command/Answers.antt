@@ -1,8 +1,8 @@
 use Rattle.std.proofs.Common.{◌≡◌, None, ◌∙◌, ap, subst, sym}
-use Rattle.record_codec.specs.Book.{last_number}
-use Rattle.record_codec.specs.declared.made.Made.{Made}
-use Rattle.season_host.specs.Hosts.{HostState}
-use Rattle.season_host.specs.Verdict.{IsRepeat, judged, number_refusal}
+use Rattle.season_book.specs.Book.{last_number}
+use Rattle.season_book.specs.declared.made.Made.{Made}
+use Rattle.season_book.specs.Hosts.{HostState}
+use Rattle.season_book.specs.Verdict.{IsRepeat, judged, number_refusal}
 use Rattle.season_host.proofs.AnswerFacts.{done_answer, storeless_judged, storeless_refused}
 use Rattle.season_host.proofs.host.Host.answer_command.Goals as goal
 
@@ -14,7 +14,7 @@ returns-in-Ok-accept-clause-answered g c =
     let none : number_refusal (last_number c.args.self.now.book caller) c.args.number ≡ None =
     subst (λ (h : HostState). number_refusal (last_number h.book caller) c.args.number ≡ None) c.self.view_is
     (ap (λ n. number_refusal n c.args.number) (sym c.number.ensures) ∙ c.in-Ok.ensures) in
-    done_answer c.args.self.now.book caller c.args.now c.args.number c.args.command.now fresh c.accept.new.self.book none c.in-Ok-accept.ensures.accepted
+    done_answer c.args.self.now.operator c.args.self.now.book caller c.args.now c.args.number c.args.command.now fresh c.accept.new.self.book none c.in-Ok-accept.ensures.accepted
 
 pub returns-in-Err-accept-clause-storeless : goal.returns-in-Err-accept-clause-storeless
 returns-in-Err-accept-clause-storeless g c =

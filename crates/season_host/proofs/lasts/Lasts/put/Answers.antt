@@ -1,6 +1,6 @@
 use Rattle.std.proofs.Common.{◌≡◌, ◌∷◌, [], ◌∙◌}
 use Rattle.rule_book.specs.ById.{at_id, placed_at}
-use Rattle.match_facts.proofs.Placed.{at_id-lookup, placed-insert_entry}
+use Rattle.rule_book.proofs.Placed.{at_id-lookup, placed-insert_entry}
 use Rattle.season_host.proofs.LastFacts.{placed_back}
 use Rattle.season_host.proofs.lasts.Lasts.put.Goals as goal
 

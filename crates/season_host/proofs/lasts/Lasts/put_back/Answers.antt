@@ -2,7 +2,7 @@ use Rattle.std.proofs.Common.{◌∙◌, IsSome, subst, sym}
 use Rattle.std.specs.BTreeMap.{insert_entry}
 use Rattle.std.specs.Ordering.{nat_cmp}
 use Rattle.rule_book.specs.ById.{at_id}
-use Rattle.match_facts.proofs.Placed.{at_id-lookup, placed-insert_entry, placed-remove_entry}
+use Rattle.rule_book.proofs.Placed.{at_id-lookup, placed-insert_entry, placed-remove_entry}
 use Rattle.season_host.proofs.LastFacts.{replaced}
 use Rattle.season_host.proofs.lasts.Lasts.put_back.Goals as goal
 

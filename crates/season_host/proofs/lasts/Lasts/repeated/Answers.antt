@@ -1,6 +1,6 @@
 use Rattle.std.proofs.Common.{◌≡◌, ◌∙◌, Some, sym}
 use Rattle.rule_book.specs.ById.{at_id}
-use Rattle.match_facts.proofs.Placed.{at_id-lookup}
+use Rattle.rule_book.proofs.Placed.{at_id-lookup}
 use Rattle.season_host.proofs.LastFacts.{repeated_at}
 use Rattle.season_host.proofs.lasts.Lasts.repeated.Goals as goal
 

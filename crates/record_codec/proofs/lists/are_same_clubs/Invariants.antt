@@ -1,5 +1,0 @@
-use Rattle.std.proofs.Common.{◌≡◌, take}
-use Rattle.record_codec.proofs.lists.are_same_clubs.Given as goal
-
-abbrev pub invariant-clubs : goal.invariant-clubs
-invariant-clubs l = take l.place l.others ≡ take l.place l.clubs

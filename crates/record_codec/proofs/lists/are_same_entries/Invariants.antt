@@ -1,5 +1,0 @@
-use Rattle.std.proofs.Common.{◌≡◌, take}
-use Rattle.record_codec.proofs.lists.are_same_entries.Given as goal
-
-abbrev pub invariant-entries : goal.invariant-entries
-invariant-entries l = take l.place l.others ≡ take l.place l.entries

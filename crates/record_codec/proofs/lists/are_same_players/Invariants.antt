@@ -1,5 +1,0 @@
-use Rattle.std.proofs.Common.{◌≡◌, take}
-use Rattle.record_codec.proofs.lists.are_same_players.Given as goal
-
-abbrev pub invariant-players : goal.invariant-players
-invariant-players l = take l.place l.others ≡ take l.place l.players

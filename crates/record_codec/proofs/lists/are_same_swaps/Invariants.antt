@@ -1,5 +1,0 @@
-use Rattle.std.proofs.Common.{◌≡◌, take}
-use Rattle.record_codec.proofs.lists.are_same_swaps.Given as goal
-
-abbrev pub invariant-swaps : goal.invariant-swaps
-invariant-swaps l = take l.place l.others ≡ take l.place l.swaps

@@ -1,0 +1,266 @@
+-- Each step of a run acts or rests, and what acts rises a caller's number by one.
+use Rattle.std.proofs.Common.{◌≡◌, ◌+◌, ℕ, Bool, true, false, ◌&&◌, ◌==◌, if◌then◌else◌, nat_lt, List, [], ◌∷◌, Option, Some, None, arith, refl, sym, ap, subst, ◌∙◌, inl, inr}
+use Rattle.std.specs.Prelude.{◌⊎◌, Result, Ok, Err, IfErr, is_some}
+use Rattle.std.proofs.lemmas.Bool.{cases_eq, false≢true}
+use Rattle.std.proofs.lemmas.Bool.Decides.{nat_tests}
+use Rattle.std.proofs.lemmas.Option.{none-some}
+use Rattle.fpl_base.specs.Causes.{Rose}
+use Rattle.fpl_base.specs.declared.kinds.Caller.{Caller}
+use Rattle.fpl_base.specs.declared.rule.Rule.{Rule}
+use Rattle.fpl_base.specs.declared.rule.Rule.TheVariants as rule
+use Rattle.rule_book.specs.Calendar.{deadlines_order}
+use Rattle.rule_book.specs.ById.{at_id, placed_at}
+use Rattle.rule_book.proofs.AtId.{placed_other, placed_same}
+use Rattle.season_book.specs.Book.{Book, Facts, Last, caller_number, last_number}
+use Rattle.season_book.specs.declared.command.Command.{Command}
+use Rattle.season_book.specs.Commands.{are_there, begun_by, changed_by, refusal_of}
+use Rattle.season_book.specs.Hosts.{number_in}
+use Rattle.season_book.specs.Once.{Acted, Acts, CommandsActOnce, Rests, RiseByOne, WasDone, acted_numbers, number_asked}
+use Rattle.season_book.specs.Runs.{Asked}
+use Rattle.season_book.specs.Verdict.{Failures, IsVerdictIn, MayAnswer, MayBeLeft, Outcome, Verdict, accepted, begun, fact_shown, judged, number_refusal, pass, ruled, ruled_by, settled, shown_or_unknown, unless_misnumbered, unless_refused, view_answer}
+use Rattle.season_book.specs.Views.{shown_of}
+use Rattle.season_book.specs.declared.answer.Answer.{Answer}
+use Rattle.season_book.specs.declared.answer.Answer.TheVariants as answer
+use Rattle.season_book.specs.declared.request.Request.{Request}
+use Rattle.season_book.specs.declared.request.Request.TheVariants as request
+use Rattle.season_book.specs.declared.request.View.{View}
+use Rattle.season_book.specs.declared.shown.Shown.{Shown}
+
+-- an answer that says of no command that it was done
+abbrev IsUndone : Answer → Type 0
+IsUndone (answer.Done number made) = ⊥
+IsUndone reply = Unit {0}
+
+undone : (book : Book) (asked : Asked) (reply : Answer) → IsUndone reply → WasDone book asked reply
+undone book asked (answer.Done number made) never = absurd never
+undone book asked (answer.Shown shown) un = tt
+undone book asked (answer.Rule rule) un = tt
+undone book asked answer.Unknown un = tt
+undone book asked answer.Keeper un = tt
+undone book asked (answer.Damaged key) un = tt
+undone book asked answer.Memory un = tt
+
+undone_shown : (shown : Option Shown) → IsUndone (shown_or_unknown shown)
+undone_shown None = tt
+undone_shown (Some shown) = tt
+
+undone_view : (facts : Option Facts) (view : View) → IsUndone (fact_shown facts view)
+undone_view None view = tt
+undone_view (Some facts) view = undone_shown (shown_of facts view)
+
+chosen : (b : Bool) (P : Result Facts Answer → Type 0) (x y : Result Facts Answer) → P x → P y → P (if b then x else y)
+chosen true P x y px py = px
+chosen false P x y px py = py
+
+abbrev Undone : Result Facts Answer → Type 0
+Undone verdict = IfErr verdict IsUndone
+
+undone_unless : (broken : Option Rule) (facts : Facts) → Undone (unless_refused broken facts)
+undone_unless None facts = tt
+undone_unless (Some rule) facts = tt
+
+undone_begun : (facts : Option Facts) → Undone (begun facts)
+undone_begun None = tt
+undone_begun (Some facts) = undone_unless (deadlines_order facts.calendar.deadlines) facts
+
+undone_judged : (facts : Option Facts) (now : ℕ) (command : Command) → Undone (judged facts now command)
+undone_judged None now command = undone_begun (begun_by command)
+undone_judged (Some facts) now command =
+    let behind = unless_refused (refusal_of facts now command) (changed_by facts command) in
+    chosen (is_some (begun_by command)) Undone (Err (answer.Rule rule.SeasonThere)) (if are_there facts command then behind else Err answer.Unknown) tt
+    (chosen (are_there facts command) Undone behind (Err answer.Unknown) (undone_unless (refusal_of facts now command) (changed_by facts command)) tt)
+
+undone_by : (book : Book) (facts : Result Facts Answer) → Undone facts → IfErr (ruled_by book facts) IsUndone
+undone_by book (Ok facts) un = tt
+undone_by book (Err refused) un = un
+
+-- a number that no rule refuses is the next one
+used_or_gap : (last : ℕ) (c : Bool) → (if c then Some (rule.NumberUsed last) else Some (rule.NumberGap last)) ≡ None → ⊥
+used_or_gap last true none = none-some (rule.NumberUsed last) (sym none)
+used_or_gap last false none = none-some (rule.NumberGap last) (sym none)
+
+old_or_more : (last : ℕ) (b c : Bool) → (if b then Some (rule.NumberOld last) else if c then Some (rule.NumberUsed last) else Some (rule.NumberGap last)) ≡ None → ⊥
+old_or_more last true c none = none-some (rule.NumberOld last) (sym none)
+old_or_more last false c none = used_or_gap last c none
+
+wrong : (last : ℕ) (a b c : Bool) → a ≡ false → (if a then None else if b then Some (rule.NumberOld last) else if c then Some (rule.NumberUsed last) else Some (rule.NumberGap last)) ≡ None → ⊥
+wrong last true b c not none = false≢true (sym not)
+wrong last false b c not none = old_or_more last b c none
+
+equal : (a b : ℕ) → a ≡ b → (a == b) ≡ true
+equal a b same = grind (arith, nat_tests, same)
+
+unequal : (a b : ℕ) → (a ≡ b → ⊥) → (a == b) ≡ false
+unequal a b apart = grind (arith, nat_tests, apart)
+
+is_next : (last number : ℕ) → number_refusal last number ≡ None → number ≡ last + 1
+is_next last number none = elim (cases_eq number (last + 1)) [
+  | inl same ↦ same
+  | inr apart ↦ absurd (wrong last (number == last + 1) (nat_lt number last) (number == last) (unequal number (last + 1) apart) none)
+]
+
+-- what a verdict says: the request acted, or it rested
+abbrev Told : List ℕ → Book → Asked → Answer → Book → Type 0
+Told operator book asked told after = Acts operator book asked told after ⊎ ((after ≡ pass book asked.now) × WasDone book asked told)
+
+abbrev verdict_of : Answer → Book → Verdict
+verdict_of told after = record { answer = told; book = after }
+
+rested : (operator : List ℕ) (book : Book) (asked : Asked) (told due : Answer) (after : Book) → verdict_of told after ≡ verdict_of due (pass book asked.now) → WasDone book asked due → Told operator book asked told after
+rested operator book asked told due after same done =
+    inr (ap (λ v. v.book) same, subst (WasDone book asked) (sym (ap (λ v. v.answer) same)) done)
+
+module _ (operator : List ℕ) (book : Book) (caller : Caller) (now number : ℕ) (failures : Failures) (command : Command) (told : Answer) (after : Book) where
+  abbrev order : Asked
+  order = record { caller = caller; now = now; request = request.Command number command; failures = failures }
+
+  settled_told : (due : Result Outcome Answer) → ruled operator (pass book now) caller now command ≡ due → number ≡ last_number book caller + 1
+      → verdict_of told after ≡ settled (pass book now) caller number command due → Told operator book order told after
+  settled_told (Err refused) is next same =
+      let un : IsUndone refused = subst (λ r. IfErr r IsUndone) is (undone_by (pass book now) (judged (pass book now).facts now command) (undone_judged (pass book now).facts now command)) in
+      rested operator book order told refused after same (undone book order refused un)
+  settled_told (Ok outcome) is next same = inl (record {
+    command = command;
+    outcome = outcome;
+    is_next = ap (λ n. request.Command n command) next;
+    is_ruled = is;
+    is_done = subst (λ n. after ≡ accepted caller n command outcome) next (ap (λ v. v.book) same);
+    is_told = inl (subst (λ n. told ≡ answer.Done n outcome.made) next (ap (λ v. v.answer) same));
+  })
+
+  numbered_told : (broken : Option Rule) → number_refusal (last_number book caller) number ≡ broken
+      → verdict_of told after ≡ unless_misnumbered broken (pass book now) (settled (pass book now) caller number command (ruled operator (pass book now) caller now command))
+      → Told operator book order told after
+  numbered_told (Some broken) is same = rested operator book order told (answer.Rule broken) after same tt
+  numbered_told None is same = settled_told (ruled operator (pass book now) caller now command) refl (is_next (last_number book caller) number is) same
+
+  command_told : IsVerdictIn operator (pass book now) caller now (request.Command number command) (verdict_of told after) → Told operator book order told after
+  command_told (inl (made, again, same)) = rested operator book order told (answer.Done number made) after same (command, refl, again)
+  command_told (inr (fresh, same)) = numbered_told (number_refusal (last_number book caller) number) refl same
+
+verdict_told : (operator : List ℕ) (book : Book) (asked : Asked) (told : Answer) (after : Book) (due : Request) → asked.request ≡ due
+    → IsVerdictIn operator (pass book asked.now) asked.caller asked.now due (verdict_of told after) → Told operator book asked told after
+verdict_told operator book asked told after (request.View view) is same =
+    rested operator book asked told (view_answer (pass book asked.now) asked.caller view) after same (undone book asked (view_answer (pass book asked.now) asked.caller view) (undone_view (pass book asked.now).facts view))
+verdict_told operator book asked told after (request.Command number command) is verdict =
+    subst (λ r. Told operator book (record asked { request = r }) told after) (sym is) (command_told operator book asked.caller asked.now number asked.failures command told after verdict)
+
+abbrev Step : List ℕ → Book → Asked → Answer → Book → Type 0
+Step operator book asked reply after = Acts operator book asked reply after ⊎ Rests book asked reply after
+
+told_step : (operator : List ℕ) (book : Book) (asked : Asked) (reply : Answer) (after : Book) → Told operator book asked reply after → Step operator book asked reply after
+told_step operator book asked reply after (inl acts) = inl acts
+told_step operator book asked reply after (inr (stays, done)) = inr (record { stays = inr stays; was_done = done })
+
+-- an answer that says that the request may have been done or not
+abbrev IsOut : Answer → Type 0
+IsOut reply = (reply ≡ answer.Memory) ⊎ (reply ≡ answer.Keeper)
+
+undone_out : (book : Book) (asked : Asked) (reply : Answer) → IsOut reply → WasDone book asked reply
+undone_out book asked reply (inl out) = subst (WasDone book asked) (sym out) tt
+undone_out book asked reply (inr out) = subst (WasDone book asked) (sym out) tt
+
+out_step : (operator : List ℕ) (book : Book) (asked : Asked) (told reply : Answer) (after : Book) → IsOut reply → Told operator book asked told after → Step operator book asked reply after
+out_step operator book asked told reply after out (inl acts) = inl (record {
+  command = acts.command;
+  outcome = acts.outcome;
+  is_next = acts.is_next;
+  is_ruled = acts.is_ruled;
+  is_done = acts.is_done;
+  is_told = inr out;
+})
+out_step operator book asked told reply after out (inr (stays, done)) = inr (record { stays = inr stays; was_done = undone_out book asked reply out })
+
+left_step : (operator : List ℕ) (book : Book) (asked : Asked) (reply : Answer) (after : Book) → IsOut reply → MayBeLeft operator book asked.caller asked.now asked.request after → Step operator book asked reply after
+left_step operator book asked reply after out (inl same) = inr (record { stays = inl same; was_done = undone_out book asked reply out })
+left_step operator book asked reply after out (inr (inl passed)) = inr (record { stays = inr passed; was_done = undone_out book asked reply out })
+left_step operator book asked reply after out (inr (inr (told, verdict))) = out_step operator book asked told reply after out (verdict_told operator book asked told after asked.request refl verdict)
+
+is_out : (failures : Failures) (reply : Answer) → (reply ≡ answer.Memory) ⊎ ((reply ≡ answer.Keeper) × Rose failures.before failures.behind) → IsOut reply
+is_out failures reply (inl out) = inl out
+is_out failures reply (inr (failed, rose)) = inr failed
+
+pub step : (operator : List ℕ) (book : Book) (asked : Asked) (reply : Answer) (after : Book) → MayAnswer operator asked.failures book asked.caller asked.now asked.request reply after → Step operator book asked reply after
+step operator book asked reply after (inl verdict) = told_step operator book asked reply after (verdict_told operator book asked reply after asked.request refl verdict)
+step operator book asked reply after (inr (out, left)) = left_step operator book asked reply after (is_out asked.failures reply out) left
+
+-- the numbers
+
+abbrev last_at : List (ℕ × Last) → ℕ → ℕ
+last_at lasts k = number_in (at_id lasts k)
+
+one_same : (k : ℕ) (x : Last) → at_id ((k, x) ∷ []) k ≡ Some x
+one_same k x = grind (arith, nat_tests)
+
+one_other : (k q : ℕ) (x : Last) → (q ≡ k → ⊥) → at_id ((k, x) ∷ []) q ≡ None
+one_other k q x apart = grind (arith, nat_tests, apart)
+
+number_same : (lasts : List (ℕ × Last)) (k : ℕ) (x : Last) → last_at (placed_at lasts k ((k, x) ∷ [])) k ≡ x.number
+number_same lasts k x = ap number_in (placed_same lasts ((k, x) ∷ []) k ∙ one_same k x)
+
+number_other : (lasts : List (ℕ × Last)) (k q : ℕ) (x : Last) → (q ≡ k → ⊥) → last_at (placed_at lasts k ((k, x) ∷ [])) q ≡ last_at lasts q
+number_other lasts k q x apart = ap number_in (placed_other lasts ((k, x) ∷ []) k q apart (one_other k q x apart))
+
+-- what a command leads to leaves the last commands
+abbrev lasts_in : Result Outcome Answer → List (ℕ × Last) → List (ℕ × Last)
+lasts_in (Ok outcome) lasts = outcome.book.lasts
+lasts_in (Err refused) lasts = lasts
+
+lasts_by : (book : Book) (facts : Result Facts Answer) → lasts_in (ruled_by book facts) book.lasts ≡ book.lasts
+lasts_by book (Ok facts) = refl
+lasts_by book (Err refused) = refl
+
+ruled_lasts : (operator : List ℕ) (book : Book) (caller : Caller) (now : ℕ) (command : Command) (outcome : Outcome) → ruled operator book caller now command ≡ Ok outcome → outcome.book.lasts ≡ book.lasts
+ruled_lasts operator book caller now command outcome is =
+    ap (λ r. lasts_in r book.lasts) (sym is) ∙ lasts_by book (judged book.facts now command)
+
+-- a command that acted, in front of those that act behind it
+module _ (operator : List ℕ) (book between : Book) (asked : Asked) (reply : Answer) (acts : Acts operator book asked reply between) (q : ℕ) (numbers : List ℕ) (rise : RiseByOne (last_at between.lasts q) numbers) where
+  abbrev k : ℕ
+  k = caller_number asked.caller
+
+  abbrev kept : Last
+  kept = record { number = last_number book asked.caller + 1; command = acts.command; made = acts.outcome.made }
+
+  lasts_are : between.lasts ≡ placed_at book.lasts k ((k, kept) ∷ [])
+  lasts_are = ap (λ b. b.lasts) acts.is_done ∙ ap (λ rows. placed_at rows k ((k, kept) ∷ [])) (ruled_lasts operator (pass book asked.now) asked.caller asked.now acts.command acts.outcome acts.is_ruled)
+
+  number_is : number_asked asked.request ≡ last_number book asked.caller + 1
+  number_is = ap number_asked acts.is_next
+
+  here : k ≡ q → RiseByOne (last_at book.lasts q) (number_asked asked.request ∷ numbers)
+  here same =
+      let last : last_at between.lasts q ≡ number_asked asked.request =
+      ap (λ rows. last_at rows q) lasts_are ∙ subst (λ j. last_at (placed_at book.lasts k ((k, kept) ∷ [])) j ≡ last_number book asked.caller + 1) same (number_same book.lasts k kept) ∙ sym number_is in
+      (number_is ∙ ap (λ j. last_at book.lasts j + 1) same, subst (λ n. RiseByOne n numbers) last rise)
+
+  elsewhere : (q ≡ k → ⊥) → RiseByOne (last_at book.lasts q) numbers
+  elsewhere apart = subst (λ n. RiseByOne n numbers) (ap (λ rows. last_at rows q) lasts_are ∙ number_other book.lasts k q kept apart) rise
+
+  pub rises : RiseByOne (last_at book.lasts q) (if true && (k == q) then number_asked asked.request ∷ numbers else numbers)
+  rises = elim (cases_eq k q) [
+    | inl same ↦ subst (λ b. RiseByOne (last_at book.lasts q) (if true && b then number_asked asked.request ∷ numbers else numbers)) (sym (equal k q same)) (here same)
+    | inr apart ↦ subst (λ b. RiseByOne (last_at book.lasts q) (if true && b then number_asked asked.request ∷ numbers else numbers)) (sym (unequal k q apart)) (elsewhere (λ e. apart (sym e)))
+  ]
+
+stays_last : (book between : Book) (asked : Asked) (q : ℕ) → (between ≡ book) ⊎ (between ≡ pass book asked.now) → last_at between.lasts q ≡ last_at book.lasts q
+stays_last book between asked q (inl same) = ap (λ b. last_at b.lasts q) same
+stays_last book between asked q (inr same) = ap (λ b. last_at b.lasts q) same
+
+abbrev Once : List ℕ → Book → List Asked → List Answer → Book → Type 0
+Once operator book asked replies after =
+    (acts : List Bool) × Acted operator book asked replies acts after
+    × ((caller : Caller) → RiseByOne (last_number book caller) (acted_numbers (caller_number caller) asked acts))
+
+once_more : (operator : List ℕ) (book between after : Book) (asked : Asked) (more : List Asked) (reply : Answer) (replies : List Answer) → Step operator book asked reply between → Once operator between more replies after → Once operator book (asked ∷ more) (reply ∷ replies) after
+once_more operator book between after asked more reply replies (inl acts) (others, acted, rise) =
+    (true ∷ others, (between, acts, acted), λ caller. rises operator book between asked reply acts (caller_number caller) (acted_numbers (caller_number caller) more others) (rise caller))
+once_more operator book between after asked more reply replies (inr rests) (others, acted, rise) =
+    (false ∷ others, (between, rests, acted), λ caller. subst (λ n. RiseByOne n (acted_numbers (caller_number caller) more others)) (stays_last book between asked (caller_number caller) rests.stays) (rise caller))
+
+pub commands_act_once : CommandsActOnce
+commands_act_once operator book after [] [] run = ([], run, λ caller. tt)
+commands_act_once operator book after [] (reply ∷ replies) run = absurd run
+commands_act_once operator book after (asked ∷ more) [] run = absurd run
+commands_act_once operator book after (asked ∷ more) (reply ∷ replies) (between, may, run) =
+    once_more operator book between after asked more reply replies (step operator book asked reply between may) (commands_act_once operator between after more replies run)

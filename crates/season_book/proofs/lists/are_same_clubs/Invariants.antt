@@ -1,0 +1,5 @@
+use Rattle.std.proofs.Common.{◌≡◌, take}
+use Rattle.season_book.proofs.lists.are_same_clubs.Given as goal
+
+abbrev pub invariant-clubs : goal.invariant-clubs
+invariant-clubs l = take l.place l.others ≡ take l.place l.clubs

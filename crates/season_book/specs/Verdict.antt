@@ -1,0 +1,145 @@
+-- The verdict on a request: the answer, and the book afterwards.
+use Rattle.std.specs.Prelude.{◌≡◌, ◌⊎◌, ◌+◌, ℕ, ◌==◌, List, Option, Some, None, Result, Ok, Err, is_some, nat_lt, if◌then◌else◌}
+use Rattle.std.specs.Option.{option_map}
+use Rattle.fpl_base.specs.Causes.{Rose}
+use Rattle.fpl_base.specs.declared.kinds.Caller.{Caller}
+use Rattle.fpl_base.specs.declared.rule.Rule.{Rule}
+use Rattle.fpl_base.specs.declared.rule.Rule.TheVariants as rule
+use Rattle.rule_book.specs.Calendar.{after_pass, deadlines_order}
+use Rattle.season_book.specs.Book.{Book, Facts, last_number, last_of, with_last}
+use Rattle.season_book.specs.declared.command.Command.{Command}
+use Rattle.season_book.specs.declared.made.Made.{Made}
+use Rattle.season_book.specs.declared.made.Made.TheVariants as made
+use Rattle.season_book.specs.Commands.{are_there, begun_by, changed_by, refusal_of}
+use Rattle.season_book.specs.Views.{shown_of}
+use Rattle.season_book.specs.declared.answer.Answer.{Answer}
+use Rattle.season_book.specs.declared.answer.Answer.TheVariants as answer
+use Rattle.season_book.specs.declared.request.Request.{Request}
+use Rattle.season_book.specs.declared.request.Request.TheVariants as request
+use Rattle.season_book.specs.declared.request.View.{View}
+use Rattle.season_book.specs.declared.shown.Shown.{Shown}
+
+-- the facts when a moment was told: the gameweeks whose deadlines have passed are locked
+abbrev pub locked_at : ℕ → Facts → Facts
+locked_at now facts = record facts { calendar = after_pass facts.calendar now }
+
+-- the book when a moment was told
+abbrev pub pass : Book → ℕ → Book
+pass book now = record book { facts = option_map (locked_at now) book.facts }
+
+-- an answer, and the book behind it
+pub record Verdict : Type 0 where
+  pub answer : Answer
+  pub book : Book
+
+-- what is wrong with a command's number behind the caller's last one, if it is no repeat
+abbrev pub number_refusal : ℕ → ℕ → Option Rule
+number_refusal last number =
+    if number == last + 1 then None
+    else if nat_lt number last then Some (rule.NumberOld last)
+    else if number == last then Some (rule.NumberUsed last)
+    else Some (rule.NumberGap last)
+
+-- the facts, unless a rule refuses
+abbrev pub unless_refused : Option Rule → Facts → Result Facts Answer
+unless_refused None facts = Ok facts
+unless_refused (Some broken) facts = Err (answer.Rule broken)
+
+-- the facts that a season command begins with, unless its deadlines do not rise; no other command goes without a season
+abbrev pub begun : Option Facts → Result Facts Answer
+begun None = Err (answer.Rule rule.NoSeason)
+begun (Some facts) = unless_refused (deadlines_order facts.calendar.deadlines) facts
+
+-- the facts behind a command, or the answer that refuses it: by the season, then by an id that is not there, then by
+-- the first rule that it breaks
+abbrev pub judged : Option Facts → ℕ → Command → Result Facts Answer
+judged None now command = begun (begun_by command)
+judged (Some facts) now command =
+    if is_some (begun_by command) then Err (answer.Rule rule.SeasonThere)
+    else if are_there facts command then unless_refused (refusal_of facts now command) (changed_by facts command)
+    else Err answer.Unknown
+
+-- what an accepted command makes, and the book behind it, in which it does not stand as the caller's last one yet
+pub record Outcome : Type 0 where
+  pub made : Made
+  pub book : Book
+
+-- what a command on the facts leads to: nothing is made, and the facts alone change
+abbrev pub ruled_by : Book → Result Facts Answer → Result Outcome Answer
+ruled_by book (Err refused) = Err refused
+ruled_by book (Ok facts) = Ok (record { made = made.Nothing; book = record book { facts = Some facts } })
+
+-- what a caller's command leads to at a moment, or the answer that refuses it, where this is the operator's key
+abbrev pub ruled : List ℕ → Book → Caller → ℕ → Command → Result Outcome Answer
+ruled operator book caller now command = ruled_by book (judged book.facts now command)
+
+-- the book behind an accepted command: it is the caller's last one
+abbrev pub accepted : Caller → ℕ → Command → Outcome → Book
+accepted caller number command outcome =
+    with_last outcome.book caller (record { number = number; command = command; made = outcome.made })
+
+-- what a ruled command gets
+abbrev pub settled : Book → Caller → ℕ → Command → Result Outcome Answer → Verdict
+settled book caller number command (Err refused) = record { answer = refused; book = book }
+settled book caller number command (Ok outcome) =
+    record { answer = answer.Done number outcome.made; book = accepted caller number command outcome }
+
+-- the verdict on a command whose number was judged
+abbrev pub unless_misnumbered : Option Rule → Book → Verdict → Verdict
+unless_misnumbered (Some broken) book verdict = record { answer = answer.Rule broken; book = book }
+unless_misnumbered None book verdict = verdict
+
+-- the verdict on a command that is no repeat: its number first, then the command itself
+abbrev pub fresh_verdict : List ℕ → Book → Caller → ℕ → ℕ → Command → Verdict
+fresh_verdict operator book caller now number command =
+    unless_misnumbered (number_refusal (last_number book caller) number) book
+    (settled book caller number command (ruled operator book caller now command))
+
+-- what a view of the facts gets
+abbrev pub shown_or_unknown : Option Shown → Answer
+shown_or_unknown None = answer.Unknown
+shown_or_unknown (Some shown) = answer.Shown shown
+
+abbrev pub fact_shown : Option Facts → View → Answer
+fact_shown None view = answer.Rule rule.NoSeason
+fact_shown (Some facts) view = shown_or_unknown (shown_of facts view)
+
+-- what a caller's view gets
+abbrev pub view_answer : Book → Caller → View → Answer
+view_answer book caller view = fact_shown book.facts view
+
+-- a command that the caller's last one repeats, which made this
+abbrev pub IsRepeat : Book → Caller → ℕ → Command → Made → Type 0
+IsRepeat book caller number command made = last_of book caller ≡ Some (record { number = number; command = command; made = made })
+
+-- the verdict on a request, in a book in which the moment's gameweeks are locked: a repeat gets the answer that was kept
+-- and changes nothing
+abbrev pub IsVerdictIn : List ℕ → Book → Caller → ℕ → Request → Verdict → Type 0
+IsVerdictIn operator book caller now (request.View view) verdict =
+    verdict ≡ record { answer = view_answer book caller view; book = book }
+IsVerdictIn operator book caller now (request.Command number command) verdict =
+    ((made : Made) × IsRepeat book caller number command made × (verdict ≡ record { answer = answer.Done number made; book = book }))
+    ⊎ (((made : Made) → IsRepeat book caller number command made → ⊥) × (verdict ≡ fresh_verdict operator book caller now number command))
+
+-- the verdict on a request of a caller at a moment
+abbrev pub IsVerdict : List ℕ → Book → Caller → ℕ → Request → Verdict → Type 0
+IsVerdict operator book caller now request verdict = IsVerdictIn operator (pass book now) caller now request verdict
+
+-- a book that may be left where memory ran out or the keeper failed: the one before, the same with the moment's locks,
+-- or the verdict's
+abbrev pub MayBeLeft : List ℕ → Book → Caller → ℕ → Request → Book → Type 0
+MayBeLeft operator book caller now request after =
+    (after ≡ book) ⊎ ((after ≡ pass book now) ⊎ ((refused : Answer) × IsVerdict operator book caller now request (record { answer = refused; book = after })))
+
+-- how often the keeper had failed before a request, and behind it
+pub record Failures : Type 0 where
+  pub before : ℕ
+  pub behind : ℕ
+
+-- what the host of an operator may answer, and the book afterwards: the verdict's; or want of memory; or that the keeper
+-- failed, only where its count rose meanwhile
+abbrev pub MayAnswer : List ℕ → Failures → Book → Caller → ℕ → Request → Answer → Book → Type 0
+MayAnswer operator failures book caller now request reply after =
+    IsVerdict operator book caller now request (record { answer = reply; book = after })
+    ⊎ (((reply ≡ answer.Memory) ⊎ ((reply ≡ answer.Keeper) × Rose failures.before failures.behind))
+    × MayBeLeft operator book caller now request after)

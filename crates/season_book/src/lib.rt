@@ -1,0 +1,24 @@
+//! The season as its definitions have it: what can be asked, what is answered and shown, the book, the verdict on each
+//! request, and that no command acts twice. No call of this crate changes a season.
+#![tactic(auto)]
+
+mod answer;
+mod clubs;
+mod command;
+mod copies;
+mod laws;
+mod lists;
+mod made;
+mod request;
+mod same;
+mod shown;
+
+pub use answer::Answer;
+pub use clubs::SharedClubs;
+pub use command::Command;
+pub use laws::commands_act_once;
+pub use lists::{Clubs, Lines, Moments, Order, Swaps};
+pub use made::Made;
+pub use request::{Request, View};
+pub use rule_book::{Coins, Slots};
+pub use shown::{Shown, ShownFixture, ShownLine, ShownLines, ShownSeason};

@@ -1,0 +1,24 @@
+use crate::Command;
+
+/// What a caller wants to see. An id is any number that can be spelled, since what is not there is only told when the
+/// view is judged.
+#[derive(Clone, Copy, Debug, PartialEq, Eq)]
+pub enum View {
+    /// The season: its clubs, its deadlines, and how many gameweeks are locked.
+    Season,
+    /// A player.
+    Player { player: u32 },
+    /// What a player did in a locked gameweek.
+    PlayerGameweek { player: u32, gameweek: u32 },
+    /// A fixture with its lines.
+    Fixture { fixture: u32 },
+}
+
+/// What a caller asks.
+#[derive(Drop)]
+pub enum Request {
+    /// To do a command, which is the caller's command of this number, from 1 to 2^63 - 1.
+    Command { number: u64, command: Command },
+    /// To show something.
+    View(View),
+}

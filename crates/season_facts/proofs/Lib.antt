@@ -1,0 +1,4 @@
+mod Absent
+mod ClubFacts
+mod Found
+mod KeptFacts

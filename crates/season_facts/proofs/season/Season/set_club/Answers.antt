@@ -1,0 +1,13 @@
+use Rattle.std.proofs.Common.{refl, subst, sym}
+use Rattle.std.specs.List.{All}
+use Rattle.season_facts.specs.Kept.{IsId}
+use Rattle.season_facts.proofs.KeptFacts.{ids_with_change}
+use Rattle.season_facts.proofs.season.Season.set_club.Goals as goal
+
+pub invariant_of-self : goal.invariant_of-self
+invariant_of-self c = record {
+  player_ids = subst (All (λ p. IsId p.id)) (sym c.set_club.ensures)
+      (ids_with_change (λ p. record p { club = c.args.club }) c.self.inside.players c.args.player (λ p. refl) c.self.invariant.player_ids);
+  fixture_ids = c.self.invariant.fixture_ids;
+  lines_in_range = c.self.invariant.lines_in_range;
+}

@@ -1,0 +1,20 @@
+use Rattle.rule_book.specs.MatchCalls.{not_locked, set_finished}
+use Rattle.rule_book.specs.MatchFacts.{lines_of}
+use Rattle.season_facts.proofs.KeptFacts.{AllRanged, kept_or_out, ranged_with_sheet}
+use Rattle.season_facts.proofs.season.Season.set_finished.Goals as goal
+
+pub invariant_of-self : goal.invariant_of-self
+invariant_of-self c =
+    let matches = c.self.inside.matches in
+    let fixture = c.in-Some.fixture in
+    let finished = c.args.finished in
+    let laws = c.facts_are_maps.ensures in
+    let ranged = c.self.invariant.lines_in_range in
+    record {
+      player_ids = c.self.invariant.player_ids;
+      fixture_ids = c.self.invariant.fixture_ids;
+      lines_in_range = kept_or_out AllRanged (not_locked fixture c.is_in_locked-locked.result) matches c.set_finished.new.self (set_finished matches fixture finished)
+          ranged
+          (λ none. ranged_with_sheet laws.sheets matches fixture (record { lines = lines_of matches fixture; finished = finished }) ranged (ranged fixture))
+          c.set_finished.result c.set_finished.ensures.judged c.set_finished.ensures.done c.set_finished.ensures.kept;
+    }

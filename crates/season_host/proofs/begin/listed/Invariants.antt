@@ -1,5 +1,0 @@
-use Rattle.std.proofs.Common.{◌≡◌}
-use Rattle.season_host.proofs.begin.listed.Given as goal
-
-abbrev pub invariant-clubs : goal.invariant-clubs
-invariant-clubs l = l.clubs ≡ l.yielded

@@ -1,5 +1,0 @@
-use Rattle.season_host.proofs.OnceFacts.{commands_act_once}
-use Rattle.season_host.proofs.laws.commands_act_once.Goals as goal
-
-pub returns : goal.returns
-returns c = commands_act_once

@@ -1,9 +1,0 @@
-use Rattle.std.proofs.Common.{sym, ap, ◌∙◌}
-use Rattle.rule_book.specs.MatchFacts.{line_in}
-use Rattle.season_host.proofs.Found.{all_in_range}
-use Rattle.season_host.proofs.sheets.rows_of.Goals as goal
-
-pub returns-clause-in_range : goal.returns-clause-in_range
-returns-clause-in_range g c =
-    all_in_range c.rows.result.0.now c.rows.result.1.now c.rows.ensures.ascending c.rows.ensures.paired
-    (λ p line at. c.season.invariant.lines_in_range c.args.fixture p line (ap (λ rows. line_in rows p) (sym c.rows.ensures.rows) ∙ at))

@@ -1,9 +1,0 @@
-pub mod Commands
-pub mod Doing
-pub mod Hosts
-pub mod Kept
-pub mod Once
-pub mod Runs
-pub mod Verdict
-pub mod Views
-pub mod Worth

@@ -1,0 +1,28 @@
+-- What is shown of a locked gameweek of a player who is there.
+use Rattle.std.proofs.Common.{◌≡◌, ◌&&◌, ℕ, Bool, true, Some, None, is_some, nat_le, sym, ap, ◌∙◌, if◌then◌else◌}
+use Rattle.std.proofs.lemmas.Option.{cond_some}
+use Rattle.rule_book.specs.declared.player.Player.{Player}
+use Rattle.rule_book.specs.declared.team_score.Figures.{Figures}
+use Rattle.rule_book.specs.Calendar.{is_locked}
+use Rattle.rule_book.specs.Players.{player_of}
+use Rattle.season_book.specs.Book.{Facts}
+use Rattle.season_book.specs.declared.request.View.TheVariants as view
+use Rattle.season_book.specs.declared.shown.Shown.TheVariants as shown
+use Rattle.season_book.specs.Views.{has_played_gameweek, shown_of}
+use Rattle.season_views.specs.Worth.{gameweek_figures}
+use Rattle.season_views.proofs.Found.{player_has_id}
+
+chosen : {X : Type 0} (b : Bool) (x y : X) → b ≡ true → x ≡ (if b then x else y)
+chosen b x y is = ap (λ c. if c then x else y) (sym is)
+
+pub gameweek_is_shown : (facts : Facts) (p g locked : ℕ) (player : Player) (figures : Figures)
+    → Some player ≡ player_of facts.players p
+    → Some locked ≡ (if nat_le 1 g && is_locked facts.calendar g then Some g else None)
+    → figures ≡ gameweek_figures facts player.id locked
+    → Some (shown.PlayerGameweek figures) ≡ shown_of facts (view.PlayerGameweek p g)
+gameweek_is_shown facts p g locked player figures there is_locked_there are =
+    let is = cond_some (nat_le 1 g && is_locked facts.calendar g) g locked (sym is_locked_there) in
+    let all : has_played_gameweek facts p g ≡ true = ap (λ o. is_some o && (nat_le 1 g && is_locked facts.calendar g)) (sym there) ∙ is.0 in
+    ap (λ f. Some (shown.PlayerGameweek f))
+    (are ∙ ap (λ n. gameweek_figures facts n locked) (player_has_id facts.players p player (sym there)) ∙ ap (gameweek_figures facts p) (sym is.1))
+    ∙ chosen (has_played_gameweek facts p g) (Some (shown.PlayerGameweek (gameweek_figures facts p g))) None all

@@ -1,0 +1,5 @@
+mod Found
+mod Gameweeks
+mod Lists
+mod Standing
+mod Sums

@@ -1,0 +1,133 @@
+// What views show.
+ghost use Rattle.std.specs.Prelude.{◌≡◌, ◌≤◌, ◌<◌, ◌&&◌, Some, None, IfOk, length, nat_le, slice_get, if◌then◌else◌};
+ghost use Rattle.std.specs.Option.{option_map};
+ghost use Rattle.rule_book.specs.Calendar.{is_locked};
+ghost use Rattle.season_book.specs.Views.{shown_of, season_shown, fixture_shown};
+ghost use Rattle.season_book.specs.declared.request.View.TheVariants as view;
+
+use crate::figures::gameweek_figures;
+use crate::sheets::lines_shown;
+use fpl_base::{Gw, Memory, Moment, Steps};
+use rule_book::Player;
+use season_book::{Moments, Shown, ShownFixture, ShownSeason, View};
+use season_calendar::Calendar;
+use season_facts::Season;
+use std::alloc::Global;
+use std::sync::ledger::Ledger;
+
+/// What a view shows; `None` exactly where an id is not there, or the gameweek is not locked. Each line of a match that
+/// it reads is a counted read.
+pub fn show<L: Ledger>(
+    alloc: Global,
+    season: &Season,
+    view: View,
+    steps: &mut Steps<L>,
+) -> Result<Option<Shown>, Memory>
+    ensures { IfOk result (λ shown. shown ≡ shown_of season.now view) }
+{
+    match view {
+        View::Season => Ok(Some(Shown::Season(season_shown(alloc, season)?))),
+        View::Player { player } => player_shown(season, player),
+        View::PlayerGameweek { player, gameweek } => {
+            Ok(gameweek_shown(season, player, gameweek, steps))
+        }
+        View::Fixture { fixture } => fixture_shown(alloc, season, fixture, steps),
+    }
+}
+
+fn season_shown(alloc: Global, season: &Season) -> Result<ShownSeason, Memory>
+    ensures { IfOk result (λ shown. shown ≡ season_shown season.now) }
+{
+    Ok(ShownSeason {
+        clubs: season.clubs()?,
+        deadlines: deadlines_of(alloc, season.calendar())?,
+        locked: season.calendar().locked(),
+        split: season.calendar().split(),
+    })
+}
+
+fn deadlines_of(alloc: Global, calendar: &Calendar) -> Result<Moments, Memory>
+    ensures { IfOk result (λ deadlines. deadlines ≡ calendar.now.deadlines) }
+{
+    let mut deadlines = Moments::new(alloc);
+    for place in 0..calendar.gameweeks() {
+        deadlines.push(deadline_at(calendar, place))?;
+    }
+    Ok(deadlines)
+}
+
+// The deadline at a place, from 0, of which there are at most 38.
+fn deadline_at(calendar: &Calendar, place: u8) -> Moment
+    requires there { place < length calendar.now.deadlines }
+    requires at_most_38 { length calendar.now.deadlines ≤ 38 }
+    ensures { slice_get calendar.now.deadlines place ≡ Some result }
+{
+    let gameweek = Gw::new(place + 1).unwrap();
+    calendar.deadline(gameweek).unwrap()
+}
+
+fn player_shown(season: &Season, player: u32) -> Result<Option<Shown>, Memory>
+    ensures { IfOk result (λ shown. shown ≡ shown_of season.now (view.Player player)) }
+{
+    match season.player(player) {
+        Some(there) => Ok(Some(Shown::Player(copy_of_player(there)?))),
+        None => Ok(None),
+    }
+}
+
+fn copy_of_player(player: &Player) -> Result<Player, Memory>
+    ensures { IfOk result (λ copy. copy ≡ player.now) }
+{
+    Ok(Player {
+        id: player.id,
+        name: player.name.copy()?,
+        position: player.position,
+        club: player.club,
+        price: player.price,
+        gone: player.gone,
+    })
+}
+
+fn gameweek_shown<L: Ledger>(
+    season: &Season,
+    player: u32,
+    gameweek: u32,
+    steps: &mut Steps<L>,
+) -> Option<Shown>
+    ensures { result ≡ shown_of season.now (view.PlayerGameweek player gameweek) }
+{
+    let there = season.player(player)?;
+    let id = there.id;
+    let locked = locked_gameweek(season, gameweek)?;
+    let figures = gameweek_figures(season, id, locked, steps);
+    Some(Shown::PlayerGameweek(figures))
+}
+
+// The gameweek of this number, if it is locked.
+fn locked_gameweek(season: &Season, number: u32) -> Option<Gw>
+    ensures { result ≡ (if nat_le 1 number && is_locked season.now.calendar number then Some number else None) }
+{
+    if number >= 1 && number <= u32::from(season.calendar().locked()) {
+        Gw::new(number as u8)
+    } else {
+        None
+    }
+}
+
+fn fixture_shown<L: Ledger>(
+    alloc: Global,
+    season: &Season,
+    fixture: u32,
+    steps: &mut Steps<L>,
+) -> Result<Option<Shown>, Memory>
+    ensures { IfOk result (λ shown. shown ≡ shown_of season.now (view.Fixture fixture)) }
+{
+    match season.fixture(fixture) {
+        Some(there) => Ok(Some(Shown::Fixture(ShownFixture {
+            fixture: there,
+            finished: season.is_finished(there.id),
+            lines: lines_shown(alloc, season, there.id, steps)?,
+        }))),
+        None => Ok(None),
+    }
+}
