@@ -4,27 +4,22 @@ use Rattle.std.specs.Prelude.{ℤ, max, position, slice_index, ◌==◌}
 use Rattle.std.specs.List.{range_with_len}
 use Rattle.std.specs.Option.{option_map_or}
 use Rattle.std.proofs.lemmas.Bool.Decides.{nat_tests}
-use Rattle.fpl_base.specs.declared.kinds.Profile.{Profile}
 use Rattle.rule_book.specs.declared.cup.Bracket.{Bracket}
 use Rattle.rule_book.specs.declared.cup.Side.{Side}
 use Rattle.rule_book.specs.declared.pairing.Opponent.{Opponent}
 use Rattle.rule_book.specs.declared.pairing.Opponent.TheVariants.{Place, Average}
-use Rattle.rule_book.specs.declared.player.Player.{Player}
-use Rattle.rule_book.specs.Calendar.{CalendarFacts}
 use Rattle.rule_book.specs.CupRounds.{winners_of}
 use Rattle.rule_book.specs.Cups.{coin_after, goes_through, winner}
-use Rattle.rule_book.specs.EntryScores.{score_at, score_in}
+use Rattle.rule_book.specs.EntryScores.{score_in}
 use Rattle.rule_book.specs.HeadToHead.{head_score, total_of}
-use Rattle.rule_book.specs.History.{Event}
 use Rattle.rule_book.specs.HistoryTransfers.{cost_at}
 use Rattle.rule_book.specs.LeagueRows.{classic_row, classic_rows, head_row, head_rows, match_in, matches_of, points_against}
 use Rattle.rule_book.specs.Leagues.{LeagueFacts}
-use Rattle.rule_book.specs.MatchFacts.{MatchFacts}
 use Rattle.rule_book.specs.Opponents.{mean_of, opponent_of}
 use Rattle.rule_book.specs.PlayerFigures.{position_in}
 use Rattle.rule_book.specs.ScoresAgree.{AllSameUpTo, RoundsAgree, RowsAgree, SameUpTo, ScoresAgree, TotalsAgree, WinnersAgree}
 use Rattle.rule_book.specs.TeamOfHistory.{team_of}
-use Rattle.rule_book.specs.Totals.{gameweeks, total_from}
+use Rattle.rule_book.specs.Totals.{gameweeks}
 use Rattle.rule_book.proofs.UpToFacts.{count_the_same, tell_the_same}
 
 pub scores_agree : ScoresAgree
