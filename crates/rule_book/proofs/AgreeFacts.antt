@@ -17,7 +17,7 @@ use Rattle.rule_book.specs.LeagueRows.{classic_row, classic_rows, head_row, head
 use Rattle.rule_book.specs.Leagues.{LeagueFacts}
 use Rattle.rule_book.specs.Opponents.{mean_of, opponent_of}
 use Rattle.rule_book.specs.PlayerFigures.{position_in}
-use Rattle.rule_book.specs.ScoresAgree.{AllSameUpTo, RoundsAgree, RowsAgree, SameUpTo, ScoresAgree, TotalsAgree, WinnersAgree}
+use Rattle.rule_book.specs.ScoresAgree.{AllSameUpTo, RoundsAgree, RowsOfLeaguesAgree, SameUpTo, ScoresAgree, TotalsAgree, WinnersAgree}
 use Rattle.rule_book.specs.TeamOfHistory.{team_of}
 use Rattle.rule_book.specs.Totals.{gameweeks}
 use Rattle.rule_book.proofs.UpToFacts.{count_the_same, tell_the_same}
@@ -72,7 +72,7 @@ classic_agree net other locked league same first counted =
     one : (entry : ℕ) → classic_row net first counted locked league entry ≡ classic_row other first counted locked league entry
     one entry = let t = totals_agree (net entry) (other entry) league.start locked (first entry) (same entry) in λ i. (entry, t i, counted entry)
 
-pub rows_agree : (net other : ℕ → ℕ → ℤ) (locked : ℕ) (league : LeagueFacts) → AllSameUpTo locked net other → RowsAgree net other locked league
+pub rows_agree : RowsOfLeaguesAgree
 rows_agree net other locked league same = record { classic = classic_agree net other locked league same; head = head_agree net other locked league same }
 
 through_agrees : (a b : ℕ) (side other : ℕ → Side) (coin : ℕ) → ((e : ℕ) → side e ≡ other e) → goes_through a b side coin ≡ goes_through a b other coin

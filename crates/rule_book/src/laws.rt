@@ -1,11 +1,9 @@
 // What follows from the definitions alone.
-ghost use Rattle.std.specs.Prelude.{ℕ, ℤ, List};
-ghost use Rattle.fpl_base.specs.declared.kinds.Position.{Position};
+ghost use Rattle.std.specs.Prelude.{ℕ, List};
 ghost use Rattle.rule_book.specs.History.{Event};
-ghost use Rattle.rule_book.specs.Leagues.{LeagueFacts};
-ghost use Rattle.rule_book.specs.ScoresAgree.{AllSameUpTo, RoundsAgree, RowsAgree, ScoresAgree, TotalsAgree, WinnersAgree};
+ghost use Rattle.rule_book.specs.ScoresAgree.{RoundsAgree, RowsOfLeaguesAgree, ScoresAgree, TotalsAgree, WinnersAgree};
 ghost use Rattle.rule_book.specs.Tables.{ClassicTableIsTheOne, HeadTableIsTheOne};
-ghost use Rattle.rule_book.specs.TeamOfHistory.{FirstIsTheStart, FreeIsTold, TeamIsTheOne, TeamIsTold};
+ghost use Rattle.rule_book.specs.TeamOfHistory.{FirstIsTheStart, FreeIsTold, TeamIsTheOne, TeamsAreTold};
 ghost use Rattle.rule_book.specs.UpTo.{AgreeUpTo};
 ghost use Rattle.rule_book.specs.UpToLaws.{LaterEventsAgree, OpenDeedsAgree, UpToTellsAll, UpToTellsTheFirst};
 
@@ -16,7 +14,7 @@ pub fn team_is_the_one()
 
 /// A law: what a history says of a team, of its first gameweek and of its free transfers are values.
 pub fn told_values()
-    ensures team { (position : ℕ → Position) (h : List Event) (g : ℕ) → TeamIsTold position h g }
+    ensures team { TeamsAreTold }
     ensures first { FirstIsTheStart }
     ensures free { FreeIsTold }
 {}
@@ -55,7 +53,7 @@ pub fn scores_agree()
 /// A law: totals and the rows of leagues hang on the points of the locked gameweeks alone.
 pub fn totals_and_rows_agree()
     ensures totals { TotalsAgree }
-    ensures rows { (net other : ℕ → ℕ → ℤ) (locked : ℕ) (league : LeagueFacts) → AllSameUpTo locked net other → RowsAgree net other locked league }
+    ensures rows { RowsOfLeaguesAgree }
 {}
 
 /// A law: the winners of locked rounds, and what is shown of any round, hang on the sides of locked gameweeks alone.
