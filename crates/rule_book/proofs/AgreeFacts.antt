@@ -13,7 +13,7 @@ use Rattle.rule_book.specs.Cups.{coin_after, goes_through, winner}
 use Rattle.rule_book.specs.EntryScores.{score_in}
 use Rattle.rule_book.specs.HeadToHead.{head_score, total_of}
 use Rattle.rule_book.specs.HistoryTransfers.{cost_at}
-use Rattle.rule_book.specs.LeagueRows.{classic_row, classic_rows, head_row, head_rows, match_in, matches_of, points_against}
+use Rattle.rule_book.specs.LeagueRows.{classic_row, classic_rows, head_row, head_rows, match_in, matches_of, place_of, points_against}
 use Rattle.rule_book.specs.Leagues.{LeagueFacts}
 use Rattle.rule_book.specs.Opponents.{mean_of, opponent_of}
 use Rattle.rule_book.specs.PlayerFigures.{position_in}
@@ -63,7 +63,7 @@ head_agree : (net other : ℕ → ℕ → ℤ) (locked : ℕ) (league : LeagueFa
 head_agree net other locked league same = each (head_row net locked league) (head_row other locked league) one league.members
   where
     one : (entry : ℕ) → head_row net locked league entry ≡ head_row other locked league entry
-    one entry = let t : matches_of net locked league entry ≡ matches_of other locked league entry = all_matches net other locked league entry same (position (λ member. member == entry) league.order) in λ i. (entry, head_score (t i))
+    one entry = let t : matches_of net locked league entry ≡ matches_of other locked league entry = all_matches net other locked league entry same (place_of league.order entry) in λ i. (entry, head_score (t i))
 
 classic_agree : (net other : ℕ → ℕ → ℤ) (locked : ℕ) (league : LeagueFacts) → AllSameUpTo locked net other → (first : ℕ → Option ℕ) (counted : ℕ → ℕ) → classic_rows net first counted locked league ≡ classic_rows other first counted locked league
 classic_agree net other locked league same first counted =
