@@ -1,6 +1,7 @@
 pub mod AgreeFacts
 pub mod Examples
 pub mod OrderFacts
+pub mod RangeFacts
 pub mod RankLemmas
 pub mod TableLemmas
 pub mod TableOrder

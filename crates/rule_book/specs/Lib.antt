@@ -12,6 +12,7 @@ pub mod Elevens
 pub mod Entries
 pub mod EntryRecords
 pub mod EntryScores
+pub mod FigureRange
 pub mod Figures
 pub mod FinalSlots
 pub mod FreeTransfers
@@ -38,6 +39,7 @@ pub mod Refusals
 pub mod Repeats
 pub mod RowsInOrder
 pub mod ScoreOfTeam
+pub mod ScoreRange
 pub mod ScoresAgree
 pub mod Scoring
 pub mod Squads

@@ -1,6 +1,8 @@
 // What follows from the definitions alone.
 ghost use Rattle.std.specs.Prelude.{ℕ, List};
 ghost use Rattle.rule_book.specs.History.{Event};
+ghost use Rattle.rule_book.specs.FigureRange.{FiguresAreInRange};
+ghost use Rattle.rule_book.specs.ScoreRange.{TeamFiguresAreInRange};
 ghost use Rattle.rule_book.specs.ScoresAgree.{RoundsAgree, RowsOfLeaguesAgree, ScoresAgree, TotalsAgree, WinnersAgree};
 ghost use Rattle.rule_book.specs.Tables.{ClassicTableIsTheOne, HeadTableIsTheOne};
 ghost use Rattle.rule_book.specs.TeamOfHistory.{FirstIsTheStart, FreeIsTold, TeamIsTheOne, TeamsAreTold};
@@ -60,4 +62,11 @@ pub fn totals_and_rows_agree()
 pub fn winners_agree()
     ensures winners { WinnersAgree }
     ensures rounds { RoundsAgree }
+{}
+
+/// A law: where the lines of the facts are in range and at most twenty fixtures stand in a gameweek, a player has at most
+/// 40,000 points in it, above or below 0, and at most 1,980 goals of either kind; so has each player of a team.
+pub fn figures_are_in_range()
+    ensures player { FiguresAreInRange }
+    ensures team { TeamFiguresAreInRange }
 {}

@@ -14,7 +14,7 @@ module _ (team : Team) (figures : List Figures) where
   abbrev upto : ℕ → List ℕ
   upto k = slots_through team figures k
 
-  long : (k : ℕ) → length (upto k) ≡ k + 1
+  pub long : (k : ℕ) → length (upto k) ≡ k + 1
   long zero = omega arith
   long (suc k) = length-append (upto k) (stand_for team figures (upto k) (k + 2) ∷ []) ∙ omega (arith, long k)
 
