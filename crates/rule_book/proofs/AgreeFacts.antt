@@ -1,6 +1,6 @@
 -- What hangs on the gameweeks up to one alone.
 use Rattle.std.proofs.Common.{◌≡◌, ◌∙◌, ◌≤◌, ◌<◌, ◌+◌, ◌-◌, ◌*◌, ◌/◌, ◌^◌, ℕ, zero, Bool, true, false, nat_le, if◌then◌else◌, suc, List, [], ◌∷◌, Option, Some, None, length, map, arith, refl, ap}
-use Rattle.std.specs.Prelude.{ℤ, max, position, slice_index, ◌==◌}
+use Rattle.std.specs.Prelude.{ℤ, max, slice_index}
 use Rattle.std.specs.List.{range_with_len}
 use Rattle.std.specs.Option.{option_map_or}
 use Rattle.std.proofs.lemmas.Bool.Decides.{nat_tests}

@@ -1,6 +1,6 @@
 -- How far from 0 a player's gameweek can be.
-use Rattle.std.proofs.Common.{◌≡◌, ◌∙◌, ◌≤◌, ◌+◌, ◌-◌, ◌*◌, ◌/◌, ℕ, zero, suc, Bool, true, false, cond, List, [], ◌∷◌, ◌++◌, Option, Some, None, length, map, get_or, arith, refl, sym, ap, subst, pos, neg_ℤ, if◌then◌else◌, nat_le, nat_eq}
-use Rattle.std.specs.Prelude.{ℤ, ◌+ℤ◌, ◌-ℤ◌, ◌≤ℤ◌, fold, sum_by}
+use Rattle.std.proofs.Common.{◌≡◌, ◌≤◌, ◌+◌, ◌-◌, ◌*◌, ℕ, suc, Bool, true, false, List, [], ◌∷◌, ◌++◌, Option, Some, None, length, map, get_or, arith, refl, pos, neg_ℤ, if◌then◌else◌, nat_le, nat_eq}
+use Rattle.std.specs.Prelude.{ℤ, ◌+ℤ◌, ◌≤ℤ◌, fold, sum_by}
 use Rattle.std.specs.List.{flat_map}
 use Rattle.std.specs.Option.{option_map_or}
 use Rattle.std.proofs.lemmas.Int.{ints}
@@ -13,9 +13,9 @@ use Rattle.fpl_base.specs.declared.kinds.Profile.TheVariants as profile
 use Rattle.rule_book.specs.declared.line.Line.{Line}
 use Rattle.rule_book.specs.declared.player.Player.{Player}
 use Rattle.rule_book.specs.declared.team.Pick.{Pick}
-use Rattle.rule_book.specs.Bonus.{bonus_in, bonus_of, standing, takes_part, number_above}
+use Rattle.rule_book.specs.Bonus.{bonus_in, standing, takes_part, number_above}
 use Rattle.rule_book.specs.BonusPoints.{bps_of}
-use Rattle.rule_book.specs.Calendar.{CalendarFacts, standing as standing_in}
+use Rattle.rule_book.specs.Calendar.{standing as standing_in}
 use Rattle.rule_book.specs.FigureRange.{AreFiguresOfTwenty, AreLinesInRange, FiguresAreInRange, IsWithin}
 use Rattle.rule_book.specs.Figures.{IsLine, figure}
 use Rattle.rule_book.specs.MatchFacts.{MatchFacts, is_finished, line_of, lines_of}

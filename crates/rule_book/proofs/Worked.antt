@@ -1,5 +1,5 @@
 -- Worked rows of a season, computed by the definitions.
-use Rattle.std.proofs.Common.{◌≡◌, refl, ℕ, pos, negsuc, true, false, Bool, List, [], ◌∷◌, None, Some, map}
+use Rattle.std.proofs.Common.{◌≡◌, ◌≤◌, ◌+◌, refl, arith, ℕ, pos, negsuc, true, false, Bool, List, [], ◌∷◌, None, Some, map}
 use Rattle.std.specs.Prelude.{ℤ, ◌==◌, if◌then◌else◌}
 use Rattle.fpl_base.specs.declared.kinds.Chip.{Chip}
 use Rattle.fpl_base.specs.declared.kinds.Chip.TheVariants as chip
@@ -19,13 +19,14 @@ use Rattle.rule_book.specs.FinalSlots.{final_slots}
 use Rattle.rule_book.specs.Entries.{entry_in}
 use Rattle.rule_book.specs.History.{Event, chip_at}
 use Rattle.rule_book.specs.History.Deed.{First, Swap, Play}
+use Rattle.rule_book.specs.HistoryRules.{IsHistory}
 use Rattle.rule_book.specs.HistoryTransfers.{cost_at, counted_through, free_at}
 use Rattle.rule_book.specs.LeagueRows.{classic_rows, head_rows}
 use Rattle.rule_book.specs.Leagues.{LeagueFacts}
 use Rattle.rule_book.specs.Opponents.{mean_of, opponent_of}
 use Rattle.rule_book.specs.ScoreOfTeam.{score_of, side_of, sides}
 use Rattle.rule_book.specs.Tables.{classic_table_of, head_table_of}
-use Rattle.rule_book.specs.TeamOfHistory.{team_of}
+use Rattle.rule_book.specs.TeamOfHistory.{CanPay, team_of}
 use Rattle.rule_book.specs.Teams.{starters}
 use Rattle.rule_book.specs.Totals.{total_from}
 use Rattle.rule_book.specs.UpTo.{up_to}
@@ -64,6 +65,20 @@ team_comes_back = refl
 
 free_after_hit : free_at profile.A hit 5 ≡ 1
 free_after_hit = refl
+
+-- a history may pay more than it can: that it can pay is no rule of a history
+abbrev too_dear : List Event
+too_dear = record { gw = 1; deed = First (record { player = 1; bought = 1500 } ∷ []) 1 2 } ∷ []
+
+once_at_most : (b : Bool) → (if b then 1 else 0) + 0 ≤ 1
+once_at_most true = omega arith
+once_at_most false = omega arith
+
+dear_history : IsHistory too_dear
+dear_history = ((tt, (refl, λ p. once_at_most (1 == p)), tt, refl), tt)
+
+cannot_pay : CanPay too_dear 1 → ⊥
+cannot_pay pays = omega (arith, pays)
 
 -- a chip that is played in gameweek 2 is nothing to gameweek 1
 same_before : up_to 1 (begun ∷ record { gw = 2; deed = Play chip.TripleCaptain } ∷ []) ≡ up_to 1 (begun ∷ [])
