@@ -1,11 +1,11 @@
 -- The mean of the definition is the one of the rules.
-use Rattle.std.proofs.Common.{zero, suc, ℕ, ◌≡◌, ◌∙◌, sym, refl, ap, subst, ◌<◌, ◌≤◌, ◌+◌, ◌*◌, ◌/◌, List, length, arith, pos, negsuc}
+use Rattle.std.proofs.Common.{zero, suc, ℕ, ◌≡◌, sym, ap, subst, ◌<◌, ◌≤◌, ◌*◌, ◌/◌, length, arith, pos, negsuc}
 use Rattle.std.specs.Prelude.{ℤ, ◌+ℤ◌, ◌*ℤ◌, ◌≤ℤ◌, ◌<ℤ◌}
 use Rattle.std.specs.Int.{int_div_euclid}
 use Rattle.std.proofs.Math.Nat.{le-div_iff_mul-le, div-lt_iff_lt-mul, mul_comm}
 use Rattle.std.proofs.lemmas.Int.{ints}
 use Rattle.rule_book.specs.HeadToHead.{IsFloorOfMean, total_of}
-use Rattle.rule_book.specs.Opponents.{MeanIsTheOne, mean_of}
+use Rattle.rule_book.specs.Opponents.{MeanIsTheOne}
 
 quotient_low : (n a : ℕ) → 0 < n → n * (a / n) ≤ a
 quotient_low n a some = let h : a / n * n ≤ a = (le-div_iff_mul-le some).0 (omega arith) in subst (λ m. m ≤ a) (mul_comm (a / n) n) h

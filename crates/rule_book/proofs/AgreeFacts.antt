@@ -1,30 +1,25 @@
 -- What hangs on the gameweeks up to one alone.
 use Rattle.std.proofs.Common.{◌≡◌, ◌∙◌, ◌≤◌, ◌<◌, ◌+◌, ◌-◌, ◌*◌, ◌/◌, ◌^◌, ℕ, zero, Bool, true, false, nat_le, if◌then◌else◌, suc, List, [], ◌∷◌, Option, Some, None, length, map, arith, refl, ap}
-use Rattle.std.specs.Prelude.{ℤ, max, position, slice_index, ◌==◌}
+use Rattle.std.specs.Prelude.{ℤ, max, slice_index}
 use Rattle.std.specs.List.{range_with_len}
 use Rattle.std.specs.Option.{option_map_or}
 use Rattle.std.proofs.lemmas.Bool.Decides.{nat_tests}
-use Rattle.fpl_base.specs.declared.kinds.Profile.{Profile}
 use Rattle.rule_book.specs.declared.cup.Bracket.{Bracket}
 use Rattle.rule_book.specs.declared.cup.Side.{Side}
 use Rattle.rule_book.specs.declared.pairing.Opponent.{Opponent}
 use Rattle.rule_book.specs.declared.pairing.Opponent.TheVariants.{Place, Average}
-use Rattle.rule_book.specs.declared.player.Player.{Player}
-use Rattle.rule_book.specs.Calendar.{CalendarFacts}
 use Rattle.rule_book.specs.CupRounds.{winners_of}
 use Rattle.rule_book.specs.Cups.{coin_after, goes_through, winner}
-use Rattle.rule_book.specs.EntryScores.{score_at, score_in}
+use Rattle.rule_book.specs.EntryScores.{score_in}
 use Rattle.rule_book.specs.HeadToHead.{head_score, total_of}
-use Rattle.rule_book.specs.History.{Event}
 use Rattle.rule_book.specs.HistoryTransfers.{cost_at}
-use Rattle.rule_book.specs.LeagueRows.{classic_row, classic_rows, head_row, head_rows, match_in, matches_of, points_against}
+use Rattle.rule_book.specs.LeagueRows.{classic_row, classic_rows, head_row, head_rows, match_in, matches_of, place_of, points_against}
 use Rattle.rule_book.specs.Leagues.{LeagueFacts}
-use Rattle.rule_book.specs.MatchFacts.{MatchFacts}
 use Rattle.rule_book.specs.Opponents.{mean_of, opponent_of}
 use Rattle.rule_book.specs.PlayerFigures.{position_in}
-use Rattle.rule_book.specs.ScoresAgree.{AllSameUpTo, RoundsAgree, RowsAgree, SameUpTo, ScoresAgree, TotalsAgree, WinnersAgree}
+use Rattle.rule_book.specs.ScoresAgree.{AllSameUpTo, RoundsAgree, RowsOfLeaguesAgree, SameUpTo, ScoresAgree, TotalsAgree, WinnersAgree}
 use Rattle.rule_book.specs.TeamOfHistory.{team_of}
-use Rattle.rule_book.specs.Totals.{gameweeks, total_from}
+use Rattle.rule_book.specs.Totals.{gameweeks}
 use Rattle.rule_book.proofs.UpToFacts.{count_the_same, tell_the_same}
 
 pub scores_agree : ScoresAgree
@@ -68,7 +63,7 @@ head_agree : (net other : ℕ → ℕ → ℤ) (locked : ℕ) (league : LeagueFa
 head_agree net other locked league same = each (head_row net locked league) (head_row other locked league) one league.members
   where
     one : (entry : ℕ) → head_row net locked league entry ≡ head_row other locked league entry
-    one entry = let t : matches_of net locked league entry ≡ matches_of other locked league entry = all_matches net other locked league entry same (position (λ member. member == entry) league.order) in λ i. (entry, head_score (t i))
+    one entry = let t : matches_of net locked league entry ≡ matches_of other locked league entry = all_matches net other locked league entry same (place_of league.order entry) in λ i. (entry, head_score (t i))
 
 classic_agree : (net other : ℕ → ℕ → ℤ) (locked : ℕ) (league : LeagueFacts) → AllSameUpTo locked net other → (first : ℕ → Option ℕ) (counted : ℕ → ℕ) → classic_rows net first counted locked league ≡ classic_rows other first counted locked league
 classic_agree net other locked league same first counted =
@@ -77,7 +72,7 @@ classic_agree net other locked league same first counted =
     one : (entry : ℕ) → classic_row net first counted locked league entry ≡ classic_row other first counted locked league entry
     one entry = let t = totals_agree (net entry) (other entry) league.start locked (first entry) (same entry) in λ i. (entry, t i, counted entry)
 
-pub rows_agree : (net other : ℕ → ℕ → ℤ) (locked : ℕ) (league : LeagueFacts) → AllSameUpTo locked net other → RowsAgree net other locked league
+pub rows_agree : RowsOfLeaguesAgree
 rows_agree net other locked league same = record { classic = classic_agree net other locked league same; head = head_agree net other locked league same }
 
 through_agrees : (a b : ℕ) (side other : ℕ → Side) (coin : ℕ) → ((e : ℕ) → side e ≡ other e) → goes_through a b side coin ≡ goes_through a b other coin

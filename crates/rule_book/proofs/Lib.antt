@@ -3,6 +3,7 @@ pub mod AtId
 pub mod Examples
 pub mod OrderFacts
 pub mod Placed
+pub mod RangeFacts
 pub mod RankLemmas
 pub mod TableLemmas
 pub mod TableOrder

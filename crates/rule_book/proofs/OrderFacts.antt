@@ -1,10 +1,10 @@
 -- Rows in order of their places are the only ones that are in order.
-use Rattle.std.proofs.Common.{zero, suc, ℕ, ◌≡◌, ◌≢◌, ◌∙◌, sym, refl, ap, subst, ◌<◌, ◌≤◌, ◌+◌, ◌⊎◌, inl, inr, ⊎_elim, List, [], ◌∷◌, Bool, true, false, length, map, get_or, arith, count_by, cond, Contains, IsPermutation, nat_eq, if◌then◌else◌}
-use Rattle.std.specs.Prelude.{⊤, ◌&&◌}
-use Rattle.std.specs.Cmp.{IsTotalOrder, IsStrictWeakOrder, tied_then}
+use Rattle.std.proofs.Common.{zero, suc, ℕ, ◌≡◌, ◌∙◌, sym, refl, ap, ◌<◌, ◌≤◌, ◌+◌, List, [], ◌∷◌, Bool, true, false, length, map, get_or, arith, count_by, cond, IsPermutation, nat_eq, if◌then◌else◌}
+use Rattle.std.specs.Prelude.{⊤}
+use Rattle.std.specs.Cmp.{IsTotalOrder, IsStrictWeakOrder}
 use Rattle.std.specs.List.{IsDistinct}
-use Rattle.std.specs.List.Sorted.{IsSortedBy, IsSortedByKey}
-use Rattle.std.specs.Ordering.{is_lt, is_eq, nat_cmp, ordering_then, ordering_reverse}
+use Rattle.std.specs.List.Sorted.{IsSortedByKey}
+use Rattle.std.specs.Ordering.{is_lt, nat_cmp, ordering_then, ordering_reverse}
 use Rattle.std.specs.declared.cmp.Ordering.{Ordering}
 use Rattle.std.specs.declared.cmp.Ordering.TheVariants.{Less, Equal, Greater}
 use Rattle.std.proofs.lemmas.Bool.Decides.{nat_tests}

@@ -1,12 +1,11 @@
 -- The tables of the definitions are the ones of the rules.
-use Rattle.std.proofs.Common.{ℕ, ◌≡◌, refl, sym, subst, List, map, IsPermutation, nat_eq}
+use Rattle.std.proofs.Common.{ℕ, ◌≡◌, refl, sym, subst, List, map, nat_eq}
 use Rattle.std.specs.Prelude.{ℤ}
 use Rattle.std.specs.Cmp.{unsigned_Decides}
 use Rattle.std.specs.List.{IsDistinct}
-use Rattle.std.specs.List.Sorted.{IsSortedByKey}
 use Rattle.std.proofs.lemmas.Map.Made.{IsDistinct-from_AllPairs}
 use Rattle.std.proofs.lemmas.Simd.{map-map}
-use Rattle.rule_book.specs.Ranks.{AllDiffer, by_rank}
+use Rattle.rule_book.specs.Ranks.{AllDiffer}
 use Rattle.rule_book.specs.ClassicTable.{IsClassicTable, ranked}
 use Rattle.rule_book.specs.HeadToHead.{IsHeadTable, head_ranked}
 use Rattle.rule_book.specs.Tables.{ClassicTableIsTheOne, HeadTableIsTheOne, classic_table_of, head_table_of}

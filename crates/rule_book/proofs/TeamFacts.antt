@@ -1,5 +1,5 @@
 -- The values that a history tells are the ones that its rules allow.
-use Rattle.std.proofs.Common.{◌≡◌, ◌≤◌, ◌+◌, ◌-◌, ℕ, Bool, true, false, List, [], ◌∷◌, Option, Some, None, arith, refl, sym, ap, subst, ◌∙◌, if◌then◌else◌}
+use Rattle.std.proofs.Common.{◌≡◌, ◌+◌, ◌-◌, ℕ, Bool, true, false, List, [], ◌∷◌, Option, Some, None, arith, refl, sym, ap, subst, ◌∙◌, if◌then◌else◌}
 use Rattle.fpl_base.specs.declared.kinds.Position.{Position}
 use Rattle.fpl_base.specs.declared.kinds.Profile.{Profile}
 use Rattle.rule_book.specs.declared.team.Team.{Team}
@@ -8,7 +8,7 @@ use Rattle.rule_book.specs.HistoryRules.{FirstTold}
 use Rattle.rule_book.specs.HistorySquad.{earned, spent}
 use Rattle.rule_book.specs.HistoryTeam.{IsTeam, TeamTold, is_begun}
 use Rattle.rule_book.specs.HistoryTransfers.{FreeTold, free_at, is_past_first}
-use Rattle.rule_book.specs.TeamOfHistory.{CanPay, FirstIsTheStart, FreeIsTold, TeamIsTheOne, TeamIsTold, team_of, told_free, told_team}
+use Rattle.rule_book.specs.TeamOfHistory.{CanPay, FirstIsTheStart, FreeIsTold, TeamIsTheOne, TeamsAreTold, team_of, told_free, told_team}
 use Rattle.rule_book.specs.UpTo.{start_of}
 
 can_pay : (position : ℕ → Position) (h : List Event) (g : ℕ) (t : Team) → IsTeam position h g t → CanPay h g
@@ -34,7 +34,7 @@ said_by : (position : ℕ → Position) (h : List Event) (g : ℕ) (begun : Bool
 said_by position h g true e pays = (e, is_a_team position h g pays)
 said_by position h g false e pays = e
 
-pub team_is_told : (position : ℕ → Position) (h : List Event) (g : ℕ) → TeamIsTold position h g
+pub team_is_told : TeamsAreTold
 team_is_told position h g = record { says = told_by position h g; said = said_by position h g (is_begun h g) refl }
 
 first_of : (h : List Event) (told : Option ℕ) → FirstTold h told → told ≡ start_of h

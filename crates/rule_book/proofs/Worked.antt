@@ -1,29 +1,35 @@
 -- Worked rows of a season, computed by the definitions.
-use Rattle.std.proofs.Common.{◌≡◌, refl, ℕ, pos, negsuc, true, false, Bool, List, [], ◌∷◌, None, Some, map}
+use Rattle.std.proofs.Common.{◌≡◌, ◌≤◌, ◌+◌, refl, arith, ℕ, pos, negsuc, true, false, Bool, List, [], ◌∷◌, None, Some, map}
 use Rattle.std.specs.Prelude.{ℤ, ◌==◌, if◌then◌else◌}
 use Rattle.fpl_base.specs.declared.kinds.Chip.{Chip}
 use Rattle.fpl_base.specs.declared.kinds.Chip.TheVariants as chip
 use Rattle.fpl_base.specs.declared.kinds.Position.{Position}
 use Rattle.fpl_base.specs.declared.kinds.Position.TheVariants.{Keeper, Defender, Midfielder, Forward}
 use Rattle.fpl_base.specs.declared.kinds.Profile.TheVariants as profile
+use Rattle.rule_book.specs.declared.cup.Bracket.{Bracket}
 use Rattle.rule_book.specs.declared.league.LeagueKind.TheVariants.{Head}
 use Rattle.rule_book.specs.declared.pairing.Opponent.TheVariants.{Place, Average}
 use Rattle.rule_book.specs.declared.team.Pick.{Pick}
 use Rattle.rule_book.specs.declared.team.Team.{Team}
 use Rattle.rule_book.specs.declared.team_score.Figures.{Figures}
+use Rattle.rule_book.specs.declared.team_score.TeamScore.{TeamScore}
 use Rattle.rule_book.specs.Armbands.{armband_of}
+use Rattle.rule_book.specs.CupRounds.{locked_winners}
 use Rattle.rule_book.specs.FinalSlots.{final_slots}
-use Rattle.rule_book.specs.History.{Event}
+use Rattle.rule_book.specs.Entries.{entry_in}
+use Rattle.rule_book.specs.History.{Event, chip_at}
 use Rattle.rule_book.specs.History.Deed.{First, Swap, Play}
+use Rattle.rule_book.specs.HistoryRules.{IsHistory}
 use Rattle.rule_book.specs.HistoryTransfers.{cost_at, counted_through, free_at}
 use Rattle.rule_book.specs.LeagueRows.{classic_rows, head_rows}
 use Rattle.rule_book.specs.Leagues.{LeagueFacts}
 use Rattle.rule_book.specs.Opponents.{mean_of, opponent_of}
-use Rattle.rule_book.specs.ScoreOfTeam.{score_of, side_of}
+use Rattle.rule_book.specs.ScoreOfTeam.{score_of, side_of, sides}
 use Rattle.rule_book.specs.Tables.{classic_table_of, head_table_of}
-use Rattle.rule_book.specs.TeamOfHistory.{team_of}
+use Rattle.rule_book.specs.TeamOfHistory.{CanPay, team_of}
 use Rattle.rule_book.specs.Teams.{starters}
 use Rattle.rule_book.specs.Totals.{total_from}
+use Rattle.rule_book.specs.UpTo.{up_to}
 
 -- three transfers in gameweek 4, nothing in 2, 3 and 5, and nine under a wildcard in 6
 abbrev begun : Event
@@ -59,6 +65,34 @@ team_comes_back = refl
 
 free_after_hit : free_at profile.A hit 5 ≡ 1
 free_after_hit = refl
+
+-- a history may pay more than it can: that it can pay is no rule of a history
+abbrev too_dear : List Event
+too_dear = record { gw = 1; deed = First (record { player = 1; bought = 1500 } ∷ []) 1 2 } ∷ []
+
+once_at_most : (b : Bool) → (if b then 1 else 0) + 0 ≤ 1
+once_at_most true = omega arith
+once_at_most false = omega arith
+
+dear_history : IsHistory too_dear
+dear_history = ((tt, (refl, λ p. once_at_most (1 == p)), tt, refl), tt)
+
+cannot_pay : CanPay too_dear 1 → ⊥
+cannot_pay pays = omega (arith, pays)
+
+-- a chip that is played in gameweek 2 is nothing to gameweek 1
+same_before : up_to 1 (begun ∷ record { gw = 2; deed = Play chip.TripleCaptain } ∷ []) ≡ up_to 1 (begun ∷ [])
+same_before = refl
+
+other_after : chip_at (begun ∷ record { gw = 2; deed = Play chip.TripleCaptain } ∷ []) 2 ≡ chip.TripleCaptain
+other_after = refl
+
+-- there is no entry 0
+nobody_is_zero : entry_in {X = ℕ} (7 ∷ 8 ∷ []) 0 ≡ None
+nobody_is_zero = refl
+
+the_first_is_one : entry_in {X = ℕ} (7 ∷ 8 ∷ []) 1 ≡ Some 7
+the_first_is_one = refl
 
 -- 3-4-3: a goalkeeper, three defenders, four midfielders and three forwards start
 abbrev at : Position → Pick
@@ -174,3 +208,16 @@ total_of_nothing = refl
 
 classic_league : classic_rows points (λ e. Some e) (λ e. 2) 4 (of_three []) ≡ (1, pos 100, 2) ∷ (2, pos 82, 2) ∷ (3, pos 80, 2) ∷ []
 classic_league = refl
+
+-- a cup of four with one bye, whose entries are level: the bye lets entry 1 through, and a coin of 1 sends entry 3 on
+abbrev cup : Bracket
+cup = record { start = 2; slots = 1 ∷ 0 ∷ 2 ∷ 3 ∷ []; coins = 0 ∷ 1 ∷ 0 ∷ [] }
+
+abbrev level : ℕ → ℕ → TeamScore
+level e g = score_of (team chip.None) two_away true 4
+
+first_round : locked_winners cup (sides level) 2 1 ≡ Some (1 ∷ 3 ∷ [])
+first_round = refl
+
+not_played : locked_winners cup (sides level) 2 2 ≡ None
+not_played = refl

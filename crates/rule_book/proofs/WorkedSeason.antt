@@ -1,5 +1,5 @@
 -- A fixture that moves to a later gameweek ends the one that it leaves, computed by the definitions.
-use Rattle.std.proofs.Common.{◌≡◌, refl, ℕ, pos, true, false, Bool, List, [], ◌∷◌, ◌++◌, Some, map}
+use Rattle.std.proofs.Common.{◌≡◌, refl, ℕ, pos, true, false, List, [], ◌∷◌, ◌++◌, Some, map}
 use Rattle.std.specs.Prelude.{ℤ}
 use Rattle.fpl_base.specs.declared.kinds.Position.{Position}
 use Rattle.fpl_base.specs.declared.kinds.Position.TheVariants.{Keeper, Defender, Midfielder, Forward}

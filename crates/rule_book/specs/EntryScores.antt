@@ -1,5 +1,5 @@
 -- What an entry scores in a gameweek, from its history and the facts of the season.
-use Rattle.std.specs.Prelude.{ℕ, ℤ, List, map}
+use Rattle.std.specs.Prelude.{ℕ, List, map}
 use Rattle.fpl_base.specs.declared.kinds.Profile.{Profile}
 use Rattle.rule_book.specs.declared.player.Player.{Player}
 use Rattle.rule_book.specs.declared.team.Team.{Team}

@@ -13,6 +13,7 @@ pub mod Elevens
 pub mod Entries
 pub mod EntryRecords
 pub mod EntryScores
+pub mod FigureRange
 pub mod Figures
 pub mod FinalSlots
 pub mod FreeTransfers
@@ -39,6 +40,7 @@ pub mod Refusals
 pub mod Repeats
 pub mod RowsInOrder
 pub mod ScoreOfTeam
+pub mod ScoreRange
 pub mod ScoresAgree
 pub mod Scoring
 pub mod Squads

@@ -31,10 +31,13 @@ ScoresAgree = (profile : Profile) (calendar : CalendarFacts) (players : List Pla
 abbrev pub TotalsAgree : Type 0
 TotalsAgree = (net other : ℕ → ℤ) (from locked : ℕ) (first : Option ℕ) → SameUpTo locked net other → total_from net from first locked ≡ total_from other from first locked
 
--- so do the rows of a league
+-- so do the rows of a league of either kind
 pub record RowsAgree (net other : ℕ → ℕ → ℤ) (locked : ℕ) (league : LeagueFacts) : Type 0 where
   pub classic : (first : ℕ → Option ℕ) (counted : ℕ → ℕ) → classic_rows net first counted locked league ≡ classic_rows other first counted locked league
   pub head : head_rows net locked league ≡ head_rows other locked league
+
+abbrev pub RowsOfLeaguesAgree : Type 0
+RowsOfLeaguesAgree = (net other : ℕ → ℕ → ℤ) (locked : ℕ) (league : LeagueFacts) → AllSameUpTo locked net other → RowsAgree net other locked league
 
 -- the winners of a round that is played by gameweek k hang on the sides up to k
 abbrev pub WinnersAgree : Type 0

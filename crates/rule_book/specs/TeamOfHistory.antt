@@ -41,6 +41,9 @@ pub record TeamIsTold (position : ℕ → Position) (h : List Event) (g : ℕ) :
   pub says : (told : Option Team) → TeamTold position h g told → told ≡ told_team position h g
   pub said : CanPay h g → TeamTold position h g (told_team position h g)
 
+abbrev pub TeamsAreTold : Type 0
+TeamsAreTold = (position : ℕ → Position) (h : List Event) (g : ℕ) → TeamIsTold position h g
+
 -- what it says of the first gameweek is its start
 abbrev pub FirstIsTheStart : Type 0
 FirstIsTheStart = (h : List Event) (told : Option ℕ) → FirstTold h told ↔ (told ≡ start_of h)

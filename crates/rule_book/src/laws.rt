@@ -1,11 +1,11 @@
 // What follows from the definitions alone.
-ghost use Rattle.std.specs.Prelude.{ℕ, ℤ, List};
-ghost use Rattle.fpl_base.specs.declared.kinds.Position.{Position};
+ghost use Rattle.std.specs.Prelude.{ℕ, List};
 ghost use Rattle.rule_book.specs.History.{Event};
-ghost use Rattle.rule_book.specs.Leagues.{LeagueFacts};
-ghost use Rattle.rule_book.specs.ScoresAgree.{AllSameUpTo, RoundsAgree, RowsAgree, ScoresAgree, TotalsAgree, WinnersAgree};
+ghost use Rattle.rule_book.specs.FigureRange.{FiguresAreInRange};
+ghost use Rattle.rule_book.specs.ScoreRange.{TeamFiguresAreInRange};
+ghost use Rattle.rule_book.specs.ScoresAgree.{RoundsAgree, RowsOfLeaguesAgree, ScoresAgree, TotalsAgree, WinnersAgree};
 ghost use Rattle.rule_book.specs.Tables.{ClassicTableIsTheOne, HeadTableIsTheOne};
-ghost use Rattle.rule_book.specs.TeamOfHistory.{FirstIsTheStart, FreeIsTold, TeamIsTheOne, TeamIsTold};
+ghost use Rattle.rule_book.specs.TeamOfHistory.{FirstIsTheStart, FreeIsTold, TeamIsTheOne, TeamsAreTold};
 ghost use Rattle.rule_book.specs.UpTo.{AgreeUpTo};
 ghost use Rattle.rule_book.specs.UpToLaws.{LaterEventsAgree, OpenDeedsAgree, UpToTellsAll, UpToTellsTheFirst};
 
@@ -16,7 +16,7 @@ pub fn team_is_the_one()
 
 /// A law: what a history says of a team, of its first gameweek and of its free transfers are values.
 pub fn told_values()
-    ensures team { (position : ℕ → Position) (h : List Event) (g : ℕ) → TeamIsTold position h g }
+    ensures team { TeamsAreTold }
     ensures first { FirstIsTheStart }
     ensures free { FreeIsTold }
 {}
@@ -55,11 +55,18 @@ pub fn scores_agree()
 /// A law: totals and the rows of leagues hang on the points of the locked gameweeks alone.
 pub fn totals_and_rows_agree()
     ensures totals { TotalsAgree }
-    ensures rows { (net other : ℕ → ℕ → ℤ) (locked : ℕ) (league : LeagueFacts) → AllSameUpTo locked net other → RowsAgree net other locked league }
+    ensures rows { RowsOfLeaguesAgree }
 {}
 
 /// A law: the winners of locked rounds, and what is shown of any round, hang on the sides of locked gameweeks alone.
 pub fn winners_agree()
     ensures winners { WinnersAgree }
     ensures rounds { RoundsAgree }
+{}
+
+/// A law: where the lines of the facts are in range and at most twenty fixtures stand in a gameweek, a player has at most
+/// 40,000 points in it, above or below 0, and at most 1,980 goals of either kind; so has each player of a team.
+pub fn figures_are_in_range()
+    ensures player { FiguresAreInRange }
+    ensures team { TeamFiguresAreInRange }
 {}

@@ -18,8 +18,9 @@ mod transfers;
 
 pub use cup::{Bracket, Coins, Side, Slots};
 pub use laws::{
-    later_events_agree, open_deeds_agree, scores_agree, tables_are_the_one, team_is_the_one,
-    told_values, totals_and_rows_agree, up_to_tells_all, up_to_tells_the_first, winners_agree,
+    figures_are_in_range, later_events_agree, open_deeds_agree, scores_agree, tables_are_the_one,
+    team_is_the_one, told_values, totals_and_rows_agree, up_to_tells_all, up_to_tells_the_first,
+    winners_agree,
 };
 pub use league::LeagueKind;
 pub use line::{Appearance, Line};

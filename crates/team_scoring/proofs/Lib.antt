@@ -6,3 +6,4 @@ pub mod Legal
 pub mod Enough
 pub mod SlotFacts
 pub mod ScoreFacts
+pub mod RangeFacts

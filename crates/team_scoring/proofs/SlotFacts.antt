@@ -1,20 +1,20 @@
 -- The final eleven of the definition is the one of the rules.
-use Rattle.std.proofs.Common.{◌≡◌, ℕ, zero, suc, ◌+◌, ◌-◌, ◌<◌, ◌≤◌, Bool, true, false, cond, ◌⊎◌, inl, inr, ⊎_elim, List, [], ◌∷◌, ◌++◌, length, take, get_or, refl, sym, ◌∙◌, ap, subst, arith, find, if◌then◌else◌}
+use Rattle.std.proofs.Common.{◌≡◌, ℕ, zero, suc, ◌+◌, ◌-◌, ◌<◌, ◌≤◌, Bool, ⊎_elim, List, [], ◌∷◌, length, take, get_or, refl, sym, ◌∙◌, ap, subst, arith, find, if◌then◌else◌}
 use Rattle.std.specs.Prelude.{unwrap_or}
 use Rattle.std.proofs.lemmas.Bool.Decides.{leb_tells}
 use Rattle.std.proofs.lemmas.List.{length-append, take-append-le, take_all, get_or_append_left}
 use Rattle.std.proofs.Math.Seq.{get_or-append_seam}
 use Rattle.rule_book.specs.declared.team.Team.{Team}
 use Rattle.rule_book.specs.declared.team_score.Figures.{Figures}
-use Rattle.rule_book.specs.Elevens.{IsFinal, IsSubstituted, Settles, can_stand, keeper_for, slot_of}
-use Rattle.rule_book.specs.Teams.{bench, did_play, is_still, starters}
+use Rattle.rule_book.specs.Elevens.{IsFinal, IsSubstituted, Settles, can_stand, keeper_for}
+use Rattle.rule_book.specs.Teams.{bench, starters}
 use Rattle.rule_book.specs.FinalSlots.{stand_for, slots_through, final_slots}
 
 module _ (team : Team) (figures : List Figures) where
   abbrev upto : ℕ → List ℕ
   upto k = slots_through team figures k
 
-  long : (k : ℕ) → length (upto k) ≡ k + 1
+  pub long : (k : ℕ) → length (upto k) ≡ k + 1
   long zero = omega arith
   long (suc k) = length-append (upto k) (stand_for team figures (upto k) (k + 2) ∷ []) ∙ omega (arith, long k)
 

@@ -12,7 +12,7 @@ mod substitutions;
 
 pub use bands::armband;
 pub use eleven::{elevens_are_legal, enough_for_elevens, final_eleven, has_one_eleven, one_eleven};
-pub use laws::{final_eleven_is_the_one, score_is_the_one};
+pub use laws::{final_eleven_is_the_one, score_is_the_one, scores_are_in_range};
 pub use rule_book::{Armband, Eleven, Figures, TeamScore};
 pub use score::team_score;
 
