@@ -97,6 +97,7 @@ impl Books<'_> {
 /// The rules by which the nodes of a season have values.
 #[derive(Drop)]
 pub struct SeasonRules<'a> {
+    /// Of these books.
     pub books: Books<'a>,
 }
 
