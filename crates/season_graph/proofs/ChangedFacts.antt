@@ -171,7 +171,8 @@ module _ (b d : SeasonFacts) (is_b : IsSeason b) (is_d : IsSeason d) (ns : List 
   pub change_exact : ((n : Node) → Among ns n → is_live d n ≡ true → IsTouched b d n) → ((n : Node) → is_dirty (s n) ≡ false) → (n : Node) → IsDirty t n ↔ IsTouched b d n
   change_exact touched calm n = (
     (λ y. ⊎_elim (λ a. touched n a.0 a.1) (λ a. absurd (clash (sym a.1 ∙ calm n))) ((refreshed_exact (is_live d) (Among ns) s t r n).0 y)),
-    (λ y. ⊎_elim (λ k. absurd (y.1 k)) (λ a. (refreshed_exact (is_live d) (Among ns) s t r n).1 (inl (a, y.0))) (kept n)))
+    (λ y. ⊎_elim (λ k. absurd (y.1 k)) (λ a. (refreshed_exact (is_live d) (Among ns) s t r n).1 (inl (a, y.0))) (kept n)),
+  )
 
   pub had_cell : (n : Node) → is_some (s n) ≡ is_live b n
   had_cell n = iff_same (is_some (s n)) (is_live b n) (sound.cells n).0 (sound.cells n).1
@@ -191,7 +192,8 @@ module _ (b d : SeasonFacts) (is : IsSeason b) (is_d : IsSeason d) (f p : ℕ) (
   gameweek_kept : (q g : ℕ) → ((k : ℕ) → Among (standing b.calendar g) k → has_line b q k ≡ has_line d q k) → IsKept b d (node.PlayerGw q g)
   gameweek_kept q g e = (
     (λ i. is_some (player_of (c.players i) q) && (nat_le 1 g && nat_le g (c.calendar i).locked)),
-    λ l. filter_local (has_line b q) (has_line d q) (standing b.calendar g) e ∙ ap (λ x. filter (has_line d q) (standing x g)) c.calendar)
+    λ l. filter_local (has_line b q) (has_line d q) (standing b.calendar g) e ∙ ap (λ x. filter (has_line d q) (standing x g)) c.calendar,
+  )
 
   same_there : has_line b p f ≡ has_line d p f → (k q : ℕ) → has_line b q k ≡ has_line d q k
   same_there e k q = ⊎_elim (λ i. subst (λ x. has_line b q x ≡ has_line d q x) (sym i.0) (subst (λ x. has_line b x f ≡ has_line d x f) (sym i.1) e)) (λ o. ap is_some (c.others k q o)) (both_or_other k q f p)
@@ -205,13 +207,13 @@ module _ (b d : SeasonFacts) (is : IsSeason b) (is_d : IsSeason d) (f p : ℕ) (
   line_listed (node.PlayerGw q g) = ⊎_elim
       (λ e. inl (gameweek_kept q g (λ k a. same_there e k q)))
       (λ o. ⊎_elim
-          (λ i. ⊎_elim
-              (λ e. inr (inr (to_rest (is_other (has_line b p f) (has_line d p f)) (node.Bonus f ∷ gameweek_beside p (stands_in d.calendar f)) (node.PlayerGw q g) o
-                  (inr (subst (λ x. Among (gameweek_beside p (stands_in d.calendar f)) (node.PlayerGw x g)) (sym i) (beside_at p g (stands_in d.calendar f) e))))))
-              (λ n. inl (gameweek_kept q g (λ k a. ap is_some (c.others k q (inl (λ j. n (ap (λ x. stands_in x f) (sym c.calendar) ∙ stands_there b.calendar.fixtures f g is.calendar.ids_rise (subst (λ x. Among (standing b.calendar g) x) j a))))))))
-              (place_or_not (stands_in d.calendar f) g))
-          (λ n. inl (gameweek_kept q g (λ k a. ap is_some (c.others k q (inr n)))))
-          (same_or_not q p))
+      (λ i. ⊎_elim
+      (λ e. inr (inr (to_rest (is_other (has_line b p f) (has_line d p f)) (node.Bonus f ∷ gameweek_beside p (stands_in d.calendar f)) (node.PlayerGw q g) o
+      (inr (subst (λ x. Among (gameweek_beside p (stands_in d.calendar f)) (node.PlayerGw x g)) (sym i) (beside_at p g (stands_in d.calendar f) e))))))
+      (λ n. inl (gameweek_kept q g (λ k a. ap is_some (c.others k q (inl (λ j. n (ap (λ x. stands_in x f) (sym c.calendar) ∙ stands_there b.calendar.fixtures f g is.calendar.ids_rise (subst (λ x. Among (standing b.calendar g) x) j a))))))))
+      (place_or_not (stands_in d.calendar f) g))
+      (λ n. inl (gameweek_kept q g (λ k a. ap is_some (c.others k q (inr n)))))
+      (same_or_not q p))
       (bool_case (has_line b p f) (has_line d p f))
 
   listed_same : players_of b f ≡ players_of d f → has_line b p f ≡ has_line d p f
@@ -233,7 +235,7 @@ module _ (b d : SeasonFacts) (is : IsSeason b) (is_d : IsSeason d) (f p : ℕ) (
       rest r = ⊎_elim
           (λ e. at_node b d (node.Bonus f) n e l (λ k live. other_same (has_line b p f) (has_line d p f) (listed_same (k live).0) r.0))
           (λ x. let y = from_beside p (stands_in d.calendar f) n x in
-              at_node b d (node.PlayerGw p y.0) n y.1.1 l (λ k live. other_same (has_line b p f) (has_line d p f) (counted_same y.0 y.1.0 (k live)) r.0))
+          at_node b d (node.PlayerGw p y.0) n y.1.1 l (λ k live. other_same (has_line b p f) (has_line d p f) (counted_same y.0 y.1.0 (k live)) r.0))
           r.1
 
 -- a mark
@@ -241,7 +243,8 @@ module _ (b d : SeasonFacts) (is_b : IsSeason b) (is_d : IsSeason d) (f : ℕ) (
   mark_gameweek : (q g : ℕ) → IsKept b d (node.PlayerGw q g)
   mark_gameweek q g = (
     (λ i. is_some (player_of (c.players i) q) && (nat_le 1 g && nat_le g (c.calendar i).locked)),
-    λ l. filter_local (has_line b q) (has_line d q) (standing b.calendar g) (λ k a. ap is_some (c.lines k q)) ∙ ap (λ x. filter (has_line d q) (standing x g)) c.calendar)
+    λ l. filter_local (has_line b q) (has_line d q) (standing b.calendar g) (λ k a. ap is_some (c.lines k q)) ∙ ap (λ x. filter (has_line d q) (standing x g)) c.calendar,
+  )
 
   pub mark_listed : (n : Node) → IsKept b d n ⊎ Among (node.Bonus f ∷ []) n
   mark_listed (node.Line k q) = inl (ap is_some (c.lines k q), λ l. (c.lines k q, c.profile, ap (λ ps. position_in ps q) c.players))
@@ -251,7 +254,6 @@ module _ (b d : SeasonFacts) (is_b : IsSeason b) (is_d : IsSeason d) (f : ℕ) (
   pub mark_touched : is_finished b.matches f ≢ is_finished d.matches f → (n : Node) → Among (node.Bonus f ∷ []) n → is_live d n ≡ true → IsTouched b d n
   mark_touched differs n (inl e) l = (l, subst (λ x. ¬ IsKept b d x) e (λ k. differs (k.1 (subst (λ x. is_live d x ≡ true) (sym e) l)).1))
   mark_touched differs n (inr a) l = absurd a
-
 
 -- the cells follow a change of one line, of one mark
 module _ (b d : SeasonFacts) (is_b : IsSeason b) (is_d : IsSeason d) (s t : State Node Value) where

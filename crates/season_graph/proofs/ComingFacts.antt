@@ -61,10 +61,10 @@ module _ (b d : SeasonFacts) (is_b : IsSeason b) (p : ℕ) (c : DifferInPlayer b
   coming_listed (node.Bonus f) = inl (ap (λ m. is_live (record b { matches = m }) (node.Bonus f)) c.matches, λ l. (ap (λ m. players_of (record b { matches = m }) f) c.matches, ap (λ m. is_finished m f) c.matches))
   coming_listed (node.PlayerGw q g) = ⊎_elim
       (λ i. ⊎_elim
-          (λ l. inl (subst (λ x. is_live b (node.PlayerGw x g) ≡ is_live d (node.PlayerGw x g)) (sym i) (and_false (is_some (player_of b.players p)) (nat_le 1 g && nat_le g b.calendar.locked) c.absent ∙ sym l), λ x. fixtures_same q g))
-          (λ l. let there = second_true (is_some (player_of d.players p)) (nat_le 1 g && nat_le g d.calendar.locked) l in
-              inr (subst (λ x. Among nodes (node.PlayerGw x g)) (sym i) (gameweek_among p 0 g d.calendar.locked (at_least g (first_true (nat_le 1 g) (nat_le g d.calendar.locked) there)) (at_most g d.calendar.locked (second_true (nat_le 1 g) (nat_le g d.calendar.locked) there)))))
-          (false_or_true (is_live d (node.PlayerGw p g))))
+      (λ l. inl (subst (λ x. is_live b (node.PlayerGw x g) ≡ is_live d (node.PlayerGw x g)) (sym i) (and_false (is_some (player_of b.players p)) (nat_le 1 g && nat_le g b.calendar.locked) c.absent ∙ sym l), λ x. fixtures_same q g))
+      (λ l. let there = second_true (is_some (player_of d.players p)) (nat_le 1 g && nat_le g d.calendar.locked) l in
+      inr (subst (λ x. Among nodes (node.PlayerGw x g)) (sym i) (gameweek_among p 0 g d.calendar.locked (at_least g (first_true (nat_le 1 g) (nat_le g d.calendar.locked) there)) (at_most g d.calendar.locked (second_true (nat_le 1 g) (nat_le g d.calendar.locked) there)))))
+      (false_or_true (is_live d (node.PlayerGw p g))))
       (λ n. inl ((λ i. is_some (c.others q n i) && (nat_le 1 g && nat_le g (c.calendar i).locked)), λ x. fixtures_same q g))
       (same_or_not q p)
 

@@ -151,7 +151,7 @@ module _ (b : SeasonFacts) (is : IsSeason b) where
       pick : (k : ℕ) × (Among (fixtures_of b q g) k × Among (node.Line k q ∷ node.Bonus k ∷ []) (node.Line f p)) → Among (line_dependents b f p) (node.PlayerGw q g)
       pick r = ⊎_elim
           (λ e. subst (λ x. Among (line_dependents b f x) (node.PlayerGw q g)) (ap second_of e)
-              (inr (to_counting f q g (subst (λ x. stands_in b.calendar x ≡ Some g) (ap first_of e) (counted q g r.0 r.1.0).0) a.0)))
+          (inr (to_counting f q g (subst (λ x. stands_in b.calendar x ≡ Some g) (ap first_of e) (counted q g r.0 r.1.0).0) a.0)))
           (⊎_elim (λ e. absurd (back_kind 1 0 (omega arith) (ap kind_of e))) (λ x. absurd x))
           r.1.1
 
@@ -171,11 +171,11 @@ module _ (b : SeasonFacts) (is : IsSeason b) where
       pick r = ⊎_elim
           (λ e. absurd (other_kind 0 1 (omega arith) (ap kind_of e)))
           (⊎_elim
-              (λ e. let c = counted q g r.0 r.1.0 in
-                  let h : has_line b q f ≡ true = subst (λ x. has_line b q x ≡ true) (ap first_of e) c.1 in
-                  to_flat (counting b f) (players_of b f) q (node.PlayerGw q g) (has_listed (lines_of b.matches f) q h)
-                  (to_counting f q g (subst (λ x. stands_in b.calendar x ≡ Some g) (ap first_of e) c.0) a.0))
-              (λ x. absurd x))
+          (λ e. let c = counted q g r.0 r.1.0 in
+          let h : has_line b q f ≡ true = subst (λ x. has_line b q x ≡ true) (ap first_of e) c.1 in
+          to_flat (counting b f) (players_of b f) q (node.PlayerGw q g) (has_listed (lines_of b.matches f) q h)
+          (to_counting f q g (subst (λ x. stands_in b.calendar x ≡ Some g) (ap first_of e) c.0) a.0))
+          (λ x. absurd x))
           r.1.1
 
   -- a player's gameweek is no input

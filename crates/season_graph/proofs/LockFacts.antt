@@ -60,7 +60,7 @@ locked_among d first q h rises behind l =
     let high = at_most h d.calendar.locked (second_true (nat_le 1 h) (nat_le h d.calendar.locked) there) in
     to_flat (λ x. player_nodes x.id first (d.calendar.locked - first)) d.players r.0 (node.PlayerGw q h) r.1.0
     (subst (λ n. Among (player_nodes n first (d.calendar.locked - first)) (node.PlayerGw q h)) (sym r.1.1)
-        (gameweek_among q first h (d.calendar.locked - first) behind (upto h first d.calendar.locked rises high)))
+    (gameweek_among q first h (d.calendar.locked - first) behind (upto h first d.calendar.locked rises high)))
 
 and_false : (u v w : Bool) → w ≡ false → (u && (v && w)) ≡ false
 and_false true true w e = e
@@ -86,9 +86,9 @@ module _ (b d : SeasonFacts) (first : ℕ) (c : DifferInLocks b d first) where
   lock_listed (node.PlayerGw q h) = ⊎_elim
       (λ a. inl ((λ i. is_some (player_of (c.players i) q) && (nat_le 1 h && before h a.1 i)), λ x. fixtures_same q h))
       (λ a. ⊎_elim
-          (λ l. inl (not_yet q h a.1 ∙ sym l, λ x. fixtures_same q h))
-          (λ l. inr (locked_among d first q h c.rises a.1 l))
-          (false_or_true (is_live d (node.PlayerGw q h))))
+      (λ l. inl (not_yet q h a.1 ∙ sym l, λ x. fixtures_same q h))
+      (λ l. inr (locked_among d first q h c.rises a.1 l))
+      (false_or_true (is_live d (node.PlayerGw q h))))
       (leb_tells h first)
 
   pub lock_touched : (n : Node) → Among (locked_nodes d first) n → is_live d n ≡ true → IsTouched b d n

@@ -44,7 +44,7 @@ players_placed : (rows own : Lines) (p : ℕ)
 players_placed rows own p =
     map-append (λ row. row.0) (filter (λ row. nat_lt row.0 p) rows) (own ++ filter (λ row. nat_lt p row.0) rows)
     ∙ ap₂ (λ ns ms. ns ++ ms) (players_filter (λ n. nat_lt n p) rows)
-        (map-append (λ row. row.0) own (filter (λ row. nat_lt p row.0) rows) ∙ ap (λ ms. players_in own ++ ms) (players_filter (λ n. nat_lt p n) rows))
+    (map-append (λ row. row.0) own (filter (λ row. nat_lt p row.0) rows) ∙ ap (λ ms. players_in own ++ ms) (players_filter (λ n. nat_lt p n) rows))
 
 -- rows with others in the place of one rise
 placed_rises : (rows own : Lines) (p : ℕ) → Rising (players_in rows) → Rising (players_in own) → ((q : ℕ) → Among (players_in own) q → q ≡ p) → Rising (players_in (placed_at rows p own))
@@ -55,8 +55,8 @@ placed_rises rows own p up mid only =
     let above : (n : ℕ) → Among upper n → p < n = λ n a. is_below p n (from_filter (λ n. nat_lt p n) (players_in rows) n a).1 in
     subst Rising (sym (players_placed rows own p))
     (rising_append lower (players_in own ++ upper) (rising_filter (λ n. nat_lt n p) (players_in rows) up)
-        (rising_append (players_in own) upper mid (rising_filter (λ n. nat_lt p n) (players_in rows) up) (λ n m a b. subst (λ x. x < m) (sym (only n a)) (above m b)))
-        (λ n m a b. ⊎_elim (λ c. subst (λ x. n < x) (sym (only m c)) (below n a)) (λ c. less_chain n p m (below n a) (above m c)) (among_either (players_in own) upper m b)))
+    (rising_append (players_in own) upper mid (rising_filter (λ n. nat_lt p n) (players_in rows) up) (λ n m a b. subst (λ x. x < m) (sym (only n a)) (above m b)))
+    (λ n m a b. ⊎_elim (λ c. subst (λ x. n < x) (sym (only m c)) (below n a)) (λ c. less_chain n p m (below n a) (above m c)) (among_either (players_in own) upper m b)))
 
 with_rises : (lines : Lines) (p : ℕ) (line : Line) → Rising (players_in lines) → Rising (players_in (with_line lines p line))
 with_rises lines p line up = placed_rises lines ((p, line) ∷ []) p up ((λ m a. absurd a), tt) (λ q a. ⊎_elim (λ e. sym e) (λ x. absurd x) a)
@@ -126,7 +126,7 @@ module _ (maps : SheetsAreAMap) (b : SeasonFacts) (is : IsSeason b) (f p : ℕ) 
         (same_or_not k f);
     others = λ k q o. ⊎_elim
         (λ e. subst (λ x. line_of b.matches x q ≡ line_of (after maps b f one_sheet).matches x q) (sym e)
-            (sym (lines_here maps b f one_sheet q ∙ others q (⊎_elim (λ n. absurd (n e)) (λ n. n) o))))
+        (sym (lines_here maps b f one_sheet q ∙ others q (⊎_elim (λ n. absurd (n e)) (λ n. n) o))))
         (λ n. lines_away maps b f one_sheet k q n)
         (same_or_not k f);
   }
@@ -136,22 +136,24 @@ line_is_put sheets rows b f p line is good there =
     let ls = lines_of b.matches f in
     let at : (q : ℕ) → q ≡ p → line_in (with_line ls p line) q ≡ Some line = λ q e. rows ls p line q ∙ here p q (Some line) (line_in ls q) e in
     let at_other : (q : ℕ) → q ≢ p → line_in (with_line ls p line) q ≡ line_in ls q = λ q n. rows ls p line q ∙ away p q (Some line) (line_in ls q) n in
-    let sheet : Sheet = record { lines = with_line ls p line; finished = is_finished b.matches f } in
-    (sheet_keeps sheets b f sheet is (with_rises ls p line (is.ascending f))
-        (λ q l e. ⊎_elim (λ i. subst IsLine (same_Some line l (sym (at q i) ∙ e)) good) (λ n. is.ranges f q l (sym (at_other q n) ∙ e)) (same_or_not q p))
-        (λ q h. ⊎_elim (λ i. subst (λ x. is_some (player_of b.players x) ≡ true) (sym i) there) (λ n. is.there f q (sym (ap is_some (at_other q n)) ∙ h)) (same_or_not q p)),
-    one_differs sheets b is f p (with_line ls p line) at_other)
+    let sheet : Sheet = record { lines = with_line ls p line; finished = is_finished b.matches f } in (
+      sheet_keeps sheets b f sheet is (with_rises ls p line (is.ascending f))
+          (λ q l e. ⊎_elim (λ i. subst IsLine (same_Some line l (sym (at q i) ∙ e)) good) (λ n. is.ranges f q l (sym (at_other q n) ∙ e)) (same_or_not q p))
+          (λ q h. ⊎_elim (λ i. subst (λ x. is_some (player_of b.players x) ≡ true) (sym i) there) (λ n. is.there f q (sym (ap is_some (at_other q n)) ∙ h)) (same_or_not q p)),
+      one_differs sheets b is f p (with_line ls p line) at_other,
+    )
 
 pub line_is_dropped : SheetsAreAMap → LinesGo → LineIsDropped
 line_is_dropped sheets rows b f p is =
     let ls = lines_of b.matches f in
     let at : (q : ℕ) → q ≡ p → line_in (without_line ls p) q ≡ None = λ q e. rows ls p q ∙ here p q None (line_in ls q) e in
     let at_other : (q : ℕ) → q ≢ p → line_in (without_line ls p) q ≡ line_in ls q = λ q n. rows ls p q ∙ away p q None (line_in ls q) n in
-    let sheet : Sheet = record { lines = without_line ls p; finished = is_finished b.matches f } in
-    (sheet_keeps sheets b f sheet is (without_rises ls p (is.ascending f))
-        (λ q l e. ⊎_elim (λ i. absurd (no_line l (sym (at q i) ∙ e))) (λ n. is.ranges f q l (sym (at_other q n) ∙ e)) (same_or_not q p))
-        (λ q h. ⊎_elim (λ i. absurd (nobody (sym (ap is_some (at q i)) ∙ h))) (λ n. is.there f q (sym (ap is_some (at_other q n)) ∙ h)) (same_or_not q p)),
-    one_differs sheets b is f p (without_line ls p) at_other)
+    let sheet : Sheet = record { lines = without_line ls p; finished = is_finished b.matches f } in (
+      sheet_keeps sheets b f sheet is (without_rises ls p (is.ascending f))
+          (λ q l e. ⊎_elim (λ i. absurd (no_line l (sym (at q i) ∙ e))) (λ n. is.ranges f q l (sym (at_other q n) ∙ e)) (same_or_not q p))
+          (λ q h. ⊎_elim (λ i. absurd (nobody (sym (ap is_some (at q i)) ∙ h))) (λ n. is.there f q (sym (ap is_some (at_other q n)) ∙ h)) (same_or_not q p)),
+      one_differs sheets b is f p (without_line ls p) at_other,
+    )
   where
     no_line : (l : Line) → None ≡ Some l → ⊥
     no_line l e = cc
@@ -161,35 +163,37 @@ line_is_dropped sheets rows b f p is =
 
 pub mark_is_set : SheetsAreAMap → MarkIsSet
 mark_is_set sheets b f finished is =
-    let sheet : Sheet = record { lines = lines_of b.matches f; finished = finished } in
-    (sheet_keeps sheets b f sheet is (is.ascending f) (is.ranges f) (is.there f),
-    record {
-      profile = refl;
-      calendar = refl;
-      players = refl;
-      marks = mark_away sheets b f sheet;
-      lines = λ k q. ⊎_elim
-          (λ e. subst (λ x. line_of b.matches x q ≡ line_of (after sheets b f sheet).matches x q) (sym e) (sym (lines_here sheets b f sheet q)))
-          (lines_away sheets b f sheet k q)
-          (same_or_not k f);
-    })
+    let sheet : Sheet = record { lines = lines_of b.matches f; finished = finished } in (
+      sheet_keeps sheets b f sheet is (is.ascending f) (is.ranges f) (is.there f),
+      record {
+        profile = refl;
+        calendar = refl;
+        players = refl;
+        marks = mark_away sheets b f sheet;
+        lines = λ k q. ⊎_elim
+            (λ e. subst (λ x. line_of b.matches x q ≡ line_of (after sheets b f sheet).matches x q) (sym e) (sym (lines_here sheets b f sheet q)))
+            (lines_away sheets b f sheet k q)
+            (same_or_not k f);
+      },
+    )
 
 pub sheet_is_put : SheetsAreAMap → SheetsHaveTheirLines → SheetIsPut
 sheet_is_put sheets own b f lines finished ps marked is are others =
     let sheet : Sheet = record { lines = by_player lines; finished = finished } in
-    let at : (q : ℕ) → line_in (by_player lines) q ≡ line_in lines q = λ q. own lines q are.once in
-    (sheet_keeps sheets b f sheet is (put_in_rise lines [] tt) (λ p l e. are.ranges p l (sym (at p) ∙ e)) (λ p h. are.there p (sym (ap is_some (at p)) ∙ h)),
-    record {
-      profile = refl;
-      calendar = refl;
-      players = refl;
-      marks = λ k o. ⊎_elim
-          (λ e. subst (λ x. is_finished b.matches x ≡ is_finished (after sheets b f sheet).matches x) (sym e) (others.mark_stays (⊎_elim (λ n. absurd (n e)) (λ m. m) o) ∙ sym (mark_here sheets b f sheet)))
-          (mark_away sheets b f sheet k)
-          (same_or_not k f);
-      others = λ k q o. ⊎_elim
-          (λ e. subst (λ x. line_of b.matches x q ≡ line_of (after sheets b f sheet).matches x q) (sym e)
-              (others.lines_stay q (⊎_elim (λ n. absurd (n e)) (λ n. n) o) ∙ sym (at q) ∙ sym (lines_here sheets b f sheet q)))
-          (λ n. lines_away sheets b f sheet k q n)
-          (same_or_not k f);
-    })
+    let at : (q : ℕ) → line_in (by_player lines) q ≡ line_in lines q = λ q. own lines q are.once in (
+      sheet_keeps sheets b f sheet is (put_in_rise lines [] tt) (λ p l e. are.ranges p l (sym (at p) ∙ e)) (λ p h. are.there p (sym (ap is_some (at p)) ∙ h)),
+      record {
+        profile = refl;
+        calendar = refl;
+        players = refl;
+        marks = λ k o. ⊎_elim
+            (λ e. subst (λ x. is_finished b.matches x ≡ is_finished (after sheets b f sheet).matches x) (sym e) (others.mark_stays (⊎_elim (λ n. absurd (n e)) (λ m. m) o) ∙ sym (mark_here sheets b f sheet)))
+            (mark_away sheets b f sheet k)
+            (same_or_not k f);
+        others = λ k q o. ⊎_elim
+            (λ e. subst (λ x. line_of b.matches x q ≡ line_of (after sheets b f sheet).matches x q) (sym e)
+            (others.lines_stay q (⊎_elim (λ n. absurd (n e)) (λ n. n) o) ∙ sym (at q) ∙ sym (lines_here sheets b f sheet q)))
+            (λ n. lines_away sheets b f sheet k q n)
+            (same_or_not k f);
+      },
+    )

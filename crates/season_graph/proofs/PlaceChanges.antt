@@ -105,12 +105,14 @@ found_moved (x ∷ xs) f k to kickoff n = moved_case f k to kickoff x (find (λ 
 pub fixture_moves : FixtureMoves
 fixture_moves b f to kickoff is lawful = (
   record { calendar = lawful; ascending = is.ascending; ranges = is.ranges; there = is.there },
-  record { profile = refl; locked = refl; players = refl; matches = refl; others = λ k n. ap (option_and_then (λ x. x.gw)) (sym (found_moved b.calendar.fixtures f k to kickoff n)) })
+  record { profile = refl; locked = refl; players = refl; matches = refl; others = λ k n. ap (option_and_then (λ x. x.gw)) (sym (found_moved b.calendar.fixtures f k to kickoff n)) },
+)
 
 pub fixture_comes : FixtureComes
 fixture_comes b x is lawful = (
   record { calendar = lawful; ascending = is.ascending; ranges = is.ranges; there = is.there },
-  record { profile = refl; locked = refl; players = refl; matches = refl; others = λ k n. ap (option_and_then (λ y. y.gw)) (sym (found_placed (λ y. y.id) b.calendar.fixtures x k n)) })
+  record { profile = refl; locked = refl; players = refl; matches = refl; others = λ k n. ap (option_and_then (λ y. y.gw)) (sym (found_placed (λ y. y.id) b.calendar.fixtures x k n)) },
+)
 
 not_less : (n m : ℕ) → n ≤ max n m
 not_less n m = omega arith
@@ -118,27 +120,30 @@ not_less n m = omega arith
 pub moment_passes : MomentPasses
 moment_passes b now is lawful = (
   record { calendar = lawful; ascending = is.ascending; ranges = is.ranges; there = is.there },
-  record { profile = refl; players = refl; matches = refl; fixtures = refl; before = refl; rises = not_less b.calendar.locked (passed_deadlines b.calendar.deadlines now) })
+  record { profile = refl; players = refl; matches = refl; fixtures = refl; before = refl; rises = not_less b.calendar.locked (passed_deadlines b.calendar.deadlines now) },
+)
 
 pub deadline_moves : DeadlineMoves
 deadline_moves b g t is lawful = (
   record { calendar = lawful; ascending = is.ascending; ranges = is.ranges; there = is.there },
-  record { profile = refl; locked = refl; fixtures = refl; matches = refl; positions = λ q. refl })
+  record { profile = refl; locked = refl; fixtures = refl; matches = refl; positions = λ q. refl },
+)
 
 -- so does a new player
 pub player_comes : PlayerComes
 player_comes b x is new =
-    let others : (q : ℕ) → q ≢ x.id → player_of b.players q ≡ player_of (with_player b.players x) q = λ q n. sym (found_placed (λ y. y.id) b.players x q n) in
-    (record {
-      calendar = is.calendar;
-      ascending = is.ascending;
-      ranges = is.ranges;
-      there = λ f p h. ⊎_elim
-          (λ e. absurd (clash (sym (is.there f x.id (subst (λ q. has_line b q f ≡ true) e h)) ∙ new)))
-          (λ n. ap is_some (sym (others p n)) ∙ is.there f p h)
-          (same_or_not p x.id);
-    },
-    record { profile = refl; calendar = refl; matches = refl; absent = new; others = others })
+    let others : (q : ℕ) → q ≢ x.id → player_of b.players q ≡ player_of (with_player b.players x) q = λ q n. sym (found_placed (λ y. y.id) b.players x q n) in (
+      record {
+        calendar = is.calendar;
+        ascending = is.ascending;
+        ranges = is.ranges;
+        there = λ f p h. ⊎_elim
+            (λ e. absurd (clash (sym (is.there f x.id (subst (λ q. has_line b q f ≡ true) e h)) ∙ new)))
+            (λ n. ap is_some (sym (others p n)) ∙ is.there f p h)
+            (same_or_not p x.id);
+      },
+      record { profile = refl; calendar = refl; matches = refl; absent = new; others = others },
+    )
 
 abbrev place : Option Player → Option Position
 place o = option_map (λ x. x.position) o
@@ -179,7 +184,8 @@ module _ (change : Player → Player) (same_id : (x : Player) → (change x).id 
       ranges = is.ranges;
       there = λ f q h. there_still (player_of (with_change change b.players p) q) (player_of b.players q) (places_stay b.players p q) ∙ is.there f q h;
     },
-    record { profile = refl; locked = refl; fixtures = refl; matches = refl; positions = λ q. sym (places_stay b.players p q) })
+    record { profile = refl; locked = refl; fixtures = refl; matches = refl; positions = λ q. sym (places_stay b.players p q) },
+  )
 
 pub price_changes : PriceChanges
 price_changes b p price is = player_changes (λ x. record x { price = price }) (λ x. refl) (λ x. refl) b p is

@@ -94,12 +94,12 @@ module _ (b d : SeasonFacts) (is_b : IsSeason b) (is_d : IsSeason d) (f : ℕ) (
   place_listed (node.PlayerGw q g) = ⊎_elim
       (λ e. inl (live_same q g, λ l. absent q g e))
       (λ e. ⊎_elim
-          (λ i. inr (listed q g e (among_left (gameweek_beside q (stands_in b.calendar f)) (gameweek_beside q (stands_in d.calendar f)) (node.PlayerGw q g) (beside_at q g (stands_in b.calendar f) i))))
-          (λ n. ⊎_elim
-              (λ i. inr (listed q g e (among_right (gameweek_beside q (stands_in b.calendar f)) (gameweek_beside q (stands_in d.calendar f)) (node.PlayerGw q g) (beside_at q g (stands_in d.calendar f) i))))
-              (λ m. inl (live_same q g, λ l. neither q g n m))
-              (place_or_not (stands_in d.calendar f) g))
-          (place_or_not (stands_in b.calendar f) g))
+      (λ i. inr (listed q g e (among_left (gameweek_beside q (stands_in b.calendar f)) (gameweek_beside q (stands_in d.calendar f)) (node.PlayerGw q g) (beside_at q g (stands_in b.calendar f) i))))
+      (λ n. ⊎_elim
+      (λ i. inr (listed q g e (among_right (gameweek_beside q (stands_in b.calendar f)) (gameweek_beside q (stands_in d.calendar f)) (node.PlayerGw q g) (beside_at q g (stands_in d.calendar f) i))))
+      (λ m. inl (live_same q g, λ l. neither q g n m))
+      (place_or_not (stands_in d.calendar f) g))
+      (place_or_not (stands_in b.calendar f) g))
       (false_or_true (has_line b q f))
 
   stays_there : (q g : ℕ) → has_line d q f ≡ true → fixtures_of b q g ≡ fixtures_of d q g → stands_in b.calendar f ≡ Some g → stands_in d.calendar f ≡ Some g
@@ -115,15 +115,17 @@ module _ (b d : SeasonFacts) (is_b : IsSeason b) (is_d : IsSeason d) (f : ℕ) (
     where
       pick : (q : ℕ) × (Among (players_of d f) q × Among (beside q) n) → IsTouched b d n
       pick r =
-          let h : has_line d r.0 f ≡ true = listed_has (lines_of d.matches f) r.0 r.1.0 in
-          (l, λ k. ⊎_elim
-              (λ x. let y = from_beside r.0 (stands_in b.calendar f) n x in
-                  let i : fixtures_of b r.0 y.0 ≡ fixtures_of d r.0 y.0 = (subst (λ z. IsKept b d z) (sym y.1.1) k).1 (subst (λ z. is_live d z ≡ true) (sym y.1.1) l) in
-                  differs (y.1.0 ∙ sym (stays_there r.0 y.0 h i y.1.0)))
-              (λ x. let y = from_beside r.0 (stands_in d.calendar f) n x in
-                  let i : fixtures_of b r.0 y.0 ≡ fixtures_of d r.0 y.0 = (subst (λ z. IsKept b d z) (sym y.1.1) k).1 (subst (λ z. is_live d z ≡ true) (sym y.1.1) l) in
-                  differs (stood_there r.0 y.0 h i y.1.0 ∙ sym y.1.0))
-              (among_either (gameweek_beside r.0 (stands_in b.calendar f)) (gameweek_beside r.0 (stands_in d.calendar f)) n r.1.1))
+          let h : has_line d r.0 f ≡ true = listed_has (lines_of d.matches f) r.0 r.1.0 in (
+            l,
+            λ k. ⊎_elim
+                (λ x. let y = from_beside r.0 (stands_in b.calendar f) n x in
+                let i : fixtures_of b r.0 y.0 ≡ fixtures_of d r.0 y.0 = (subst (λ z. IsKept b d z) (sym y.1.1) k).1 (subst (λ z. is_live d z ≡ true) (sym y.1.1) l) in
+                differs (y.1.0 ∙ sym (stays_there r.0 y.0 h i y.1.0)))
+                (λ x. let y = from_beside r.0 (stands_in d.calendar f) n x in
+                let i : fixtures_of b r.0 y.0 ≡ fixtures_of d r.0 y.0 = (subst (λ z. IsKept b d z) (sym y.1.1) k).1 (subst (λ z. is_live d z ≡ true) (sym y.1.1) l) in
+                differs (stood_there r.0 y.0 h i y.1.0 ∙ sym y.1.0))
+                (among_either (gameweek_beside r.0 (stands_in b.calendar f)) (gameweek_beside r.0 (stands_in d.calendar f)) n r.1.1),
+          )
 
   -- the cells follow
   module _ (s t : State Node Value) (from to : Option ℕ) (i : from ≡ stands_in b.calendar f) (j : to ≡ stands_in d.calendar f) (r : Refreshed (is_live d) (Among (moved_nodes d f from to)) s t) where
@@ -135,4 +137,3 @@ module _ (b d : SeasonFacts) (is_b : IsSeason b) (is_d : IsSeason d) (f : ℕ) (
 
     pub place_marks : from ≢ to → MarksTouched b d s t
     place_marks differs sound = change_exact b d is_b is_d moved place_listed s t sound placed (place_touched (λ e. differs (i ∙ e ∙ sym j)))
-

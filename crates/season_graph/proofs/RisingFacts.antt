@@ -27,8 +27,8 @@ rising_same (n ∷ ns) [] up on there back = absurd (there n (inl refl))
 rising_same (n ∷ ns) (m ∷ ms) up on there back =
     let e : n ≡ m = same_first n m ns ms up on (there n (inl refl)) (back m (inl refl)) in
     ap₂ (λ k ks. k ∷ ks) e (rising_same ns ms up.1 on.1
-        (λ k a. ⊎_elim (λ i. absurd (not_below n (subst (λ x. n < x) (sym i ∙ sym e) (up.0 k a)))) (λ b. b) (there k (inr a)))
-        (λ k a. ⊎_elim (λ i. absurd (not_below m (subst (λ x. m < x) (sym i ∙ e) (on.0 k a)))) (λ b. b) (back k (inr a))))
+    (λ k a. ⊎_elim (λ i. absurd (not_below n (subst (λ x. n < x) (sym i ∙ sym e) (up.0 k a)))) (λ b. b) (there k (inr a)))
+    (λ k a. ⊎_elim (λ i. absurd (not_below m (subst (λ x. m < x) (sym i ∙ e) (on.0 k a)))) (λ b. b) (back k (inr a))))
 
 filter_case : (t : Bool) (n : ℕ) (ns : List ℕ) → ((m : ℕ) → Among ns m → n < m) → Rising ns → Rising (cond t (n ∷ ns) ns)
 filter_case true n ns low up = (low, up)
@@ -42,9 +42,10 @@ rising_filter test (n ∷ ns) up = filter_case (test n) n (filter test ns) (λ m
 -- and some behind others that are smaller
 pub rising_append : (ns ms : List ℕ) → Rising ns → Rising ms → ((n m : ℕ) → Among ns n → Among ms m → n < m) → Rising (ns ++ ms)
 rising_append [] ms up on low = on
-rising_append (n ∷ ns) ms up on low =
-    ((λ m a. ⊎_elim (up.0 m) (λ b. low n m (inl refl) b) (among_either ns ms m a)),
-    rising_append ns ms up.1 on (λ k m a b. low k m (inr a) b))
+rising_append (n ∷ ns) ms up on low = (
+  (λ m a. ⊎_elim (up.0 m) (λ b. low n m (inl refl) b) (among_either ns ms m a)),
+  rising_append ns ms up.1 on (λ k m a b. low k m (inr a) b),
+)
 
 -- players who have a line in a fixture are told by who has one
 pub players_same : (b d : SeasonFacts) → IsSeason b → IsSeason d → (f : ℕ) → ((q : ℕ) → has_line b q f ≡ has_line d q f) → players_of b f ≡ players_of d f

@@ -62,7 +62,8 @@ module _ (b d : SeasonFacts) (is_b : IsSeason b) (is_d : IsSeason d) (f : ℕ) (
   gameweek_kept : (q g : ℕ) → ((k : ℕ) → Among (standing b.calendar g) k → has_line b q k ≡ has_line d q k) → IsKept b d (node.PlayerGw q g)
   gameweek_kept q g e = (
     (λ i. is_some (player_of (c.players i) q) && (nat_le 1 g && nat_le g (c.calendar i).locked)),
-    λ l. filter_local (has_line b q) (has_line d q) (standing b.calendar g) e ∙ ap (λ x. filter (has_line d q) (standing x g)) c.calendar)
+    λ l. filter_local (has_line b q) (has_line d q) (standing b.calendar g) e ∙ ap (λ x. filter (has_line d q) (standing x g)) c.calendar,
+  )
 
   bonus_listed : (t : Bool) → marked ≡ t → IsKept b d (node.Bonus f) ⊎ Among nodes (node.Bonus f)
   bonus_listed true e = inr (among_right (lines_nodes d was f ps) (cond marked (node.Bonus f ∷ []) []) (node.Bonus f) (subst (λ t. Among (cond t (node.Bonus f ∷ []) []) (node.Bonus f)) (sym e) (inl refl)))
@@ -74,9 +75,9 @@ module _ (b d : SeasonFacts) (is_b : IsSeason b) (is_d : IsSeason d) (f : ℕ) (
   pub sheet_listed : (n : Node) → IsKept b d n ⊎ Among nodes n
   sheet_listed (node.Line k q) = ⊎_elim
       (λ i. ⊎_elim
-          (λ a. inr (in_lines q (node.Line k q) a (inl (ap (λ x. node.Line x q) (sym i)))))
-          (λ m. inl (line_same k q (inr m), λ l. (c.others k q (inr m), c.profile, ap (λ x. position_in x q) c.players)))
-          (among_or_not ps q))
+      (λ a. inr (in_lines q (node.Line k q) a (inl (ap (λ x. node.Line x q) (sym i)))))
+      (λ m. inl (line_same k q (inr m), λ l. (c.others k q (inr m), c.profile, ap (λ x. position_in x q) c.players)))
+      (among_or_not ps q))
       (λ n. inl (line_same k q (inl n), λ l. (c.others k q (inl n), c.profile, ap (λ x. position_in x q) c.players)))
       (same_or_not k f)
   sheet_listed (node.Bonus k) = ⊎_elim
@@ -85,12 +86,12 @@ module _ (b d : SeasonFacts) (is_b : IsSeason b) (is_d : IsSeason d) (f : ℕ) (
       (same_or_not k f)
   sheet_listed (node.PlayerGw q g) = ⊎_elim
       (λ a. ⊎_elim
-          (λ e. inl (gameweek_kept q g (λ k x. ⊎_elim (λ i. subst (λ y. has_line b q y ≡ has_line d q y) (sym i) e) (λ n. line_same k q (inl n)) (same_or_not k f))))
-          (λ o. ⊎_elim
-              (λ e. inr (in_rest q (node.PlayerGw q g) a o (inr (beside_at q g (stands_in d.calendar f) e))))
-              (λ n. inl (gameweek_kept q g (λ k x. line_same k q (inl (λ j. n (ap (λ y. stands_in y f) (sym c.calendar) ∙ stands_there b.calendar.fixtures f g is_b.calendar.ids_rise (subst (λ y. Among (standing b.calendar g) y) j x)))))))
-              (place_or_not (stands_in d.calendar f) g))
-          (bool_case (was q) (has_line d q f)))
+      (λ e. inl (gameweek_kept q g (λ k x. ⊎_elim (λ i. subst (λ y. has_line b q y ≡ has_line d q y) (sym i) e) (λ n. line_same k q (inl n)) (same_or_not k f))))
+      (λ o. ⊎_elim
+      (λ e. inr (in_rest q (node.PlayerGw q g) a o (inr (beside_at q g (stands_in d.calendar f) e))))
+      (λ n. inl (gameweek_kept q g (λ k x. line_same k q (inl (λ j. n (ap (λ y. stands_in y f) (sym c.calendar) ∙ stands_there b.calendar.fixtures f g is_b.calendar.ids_rise (subst (λ y. Among (standing b.calendar g) y) j x)))))))
+      (place_or_not (stands_in d.calendar f) g))
+      (bool_case (was q) (has_line d q f)))
       (λ m. inl (gameweek_kept q g (λ k x. line_same k q (inr m))))
       (among_or_not ps q)
 
@@ -114,7 +115,7 @@ module _ (b d : SeasonFacts) (is_b : IsSeason b) (is_d : IsSeason d) (f : ℕ) (
         rest r = ⊎_elim
             (λ e. at_node b d (node.Bonus f) n e l (λ k live. other_same (was p) (has_line d p f) (listed_same p (k live).0) r.0))
             (λ y. let z = from_beside p (stands_in d.calendar f) n y in
-                at_node b d (node.PlayerGw p z.0) n z.1.1 l (λ k live. other_same (was p) (has_line d p f) (counted_same p z.0 z.1.0 (k live)) r.0))
+            at_node b d (node.PlayerGw p z.0) n z.1.1 l (λ k live. other_same (was p) (has_line d p f) (counted_same p z.0 z.1.0 (k live)) r.0))
             r.1
 
     by_mark : (n : Node) → Among (cond marked (node.Bonus f ∷ []) []) n → is_live d n ≡ true → IsTouched b d n
@@ -157,16 +158,17 @@ pub line_more : (d : SeasonFacts) (w : ℕ → Bool) (f p : ℕ) (qs : List ℕ)
     → Refreshed (is_live d) (Among (lines_nodes d w f qs ++ line_nodes d f p (w p))) s u
 line_more d w f p qs s t u had so_far one = ⊎_elim
     (λ x.
-        let r = from_flat (λ q. line_nodes d f q (w q)) qs (node.Line f p) x.0 in
-        let i : r.0 ≡ p = line_in_nodes d f p r.0 (w r.0) r.1.1 in
-        let again : is_some (t (node.Line f p)) ≡ has_line d p f = ap is_some x.1 ∙ refreshed_some (is_live d (node.Line f p)) (s (node.Line f p)) in
-        refreshed_same (is_live d) (λ n. Among (lines_nodes d w f qs) n ⊎ Among (line_nodes d f p (is_some (t (node.Line f p)))) n) (Among (lines_nodes d w f qs ++ line_nodes d f p (w p))) s u
-        (λ n. (
-            (λ o. among_left (lines_nodes d w f qs) (line_nodes d f p (w p)) n (⊎_elim (λ a. a) (λ a. subst (λ m. Among (lines_nodes d w f qs) m) (alone n again a) x.0) o)),
-            (λ o. inl (⊎_elim (λ a. a) (λ a. to_flat (λ q. line_nodes d f q (w q)) qs p n (subst (λ y. Among qs y) i r.1.0) a) (among_either (lines_nodes d w f qs) (line_nodes d f p (w p)) n o)))))
-        (refreshed_both (is_live d) (Among (lines_nodes d w f qs)) (Among (line_nodes d f p (is_some (t (node.Line f p))))) s t u so_far one))
+    let r = from_flat (λ q. line_nodes d f q (w q)) qs (node.Line f p) x.0 in
+    let i : r.0 ≡ p = line_in_nodes d f p r.0 (w r.0) r.1.1 in
+    let again : is_some (t (node.Line f p)) ≡ has_line d p f = ap is_some x.1 ∙ refreshed_some (is_live d (node.Line f p)) (s (node.Line f p)) in
+    refreshed_same (is_live d) (λ n. Among (lines_nodes d w f qs) n ⊎ Among (line_nodes d f p (is_some (t (node.Line f p)))) n) (Among (lines_nodes d w f qs ++ line_nodes d f p (w p))) s u
+    (λ n. (
+      (λ o. among_left (lines_nodes d w f qs) (line_nodes d f p (w p)) n (⊎_elim (λ a. a) (λ a. subst (λ m. Among (lines_nodes d w f qs) m) (alone n again a) x.0) o)),
+      (λ o. inl (⊎_elim (λ a. a) (λ a. to_flat (λ q. line_nodes d f q (w q)) qs p n (subst (λ y. Among qs y) i r.1.0) a) (among_either (lines_nodes d w f qs) (line_nodes d f p (w p)) n o))),
+    ))
+    (refreshed_both (is_live d) (Among (lines_nodes d w f qs)) (Among (line_nodes d f p (is_some (t (node.Line f p))))) s t u so_far one))
     (λ x. refreshed_append (is_live d) (lines_nodes d w f qs) (line_nodes d f p (w p)) s t u so_far
-        (subst (λ v. Refreshed (is_live d) (Among (line_nodes d f p v)) t u) (ap is_some x.1 ∙ had) one))
+    (subst (λ v. Refreshed (is_live d) (Among (line_nodes d f p v)) t u) (ap is_some x.1 ∙ had) one))
     (so_far (node.Line f p))
   where
     same_none : (x y : Bool) → x ≡ y → is_other x y ≡ true → ⊥
@@ -188,7 +190,7 @@ pub sheet_sound : (b d : SeasonFacts) → IsSeason b → IsSeason d → (f : ℕ
     → Refreshed (is_live d) (Among (sheet_nodes d (λ p. is_some (s (node.Line f p))) f ps marked)) s t → Follows b d s t
 sheet_sound b d is_b is_d f ps marked c s t r sound = sheet_follows b d is_b is_d f ps marked c s t
     (subst (λ ns. Refreshed (is_live d) (Among ns) s t)
-        (nodes_same d (λ p. is_some (s (node.Line f p))) (λ p. has_line b p f) f ps marked (λ p. iff_same (is_some (s (node.Line f p))) (has_line b p f) (sound.cells (node.Line f p)).0 (sound.cells (node.Line f p)).1)) r)
+    (nodes_same d (λ p. is_some (s (node.Line f p))) (λ p. has_line b p f) f ps marked (λ p. iff_same (is_some (s (node.Line f p))) (has_line b p f) (sound.cells (node.Line f p)).0 (sound.cells (node.Line f p)).1)) r)
     sound
 
 -- and dirty are exactly the nodes that it touches
@@ -197,5 +199,5 @@ pub sheet_exact : (b d : SeasonFacts) → IsSeason b → IsSeason d → (f : ℕ
     → Refreshed (is_live d) (Among (sheet_nodes d (λ p. is_some (s (node.Line f p))) f ps marked)) s t → MarksTouched b d s t
 sheet_exact b d is_b is_d f ps marked c differ mark s t r sound = sheet_marks b d is_b is_d f ps marked c differ mark s t
     (subst (λ ns. Refreshed (is_live d) (Among ns) s t)
-        (nodes_same d (λ p. is_some (s (node.Line f p))) (λ p. has_line b p f) f ps marked (λ p. iff_same (is_some (s (node.Line f p))) (has_line b p f) (sound.cells (node.Line f p)).0 (sound.cells (node.Line f p)).1)) r)
+    (nodes_same d (λ p. is_some (s (node.Line f p))) (λ p. has_line b p f) f ps marked (λ p. iff_same (is_some (s (node.Line f p))) (has_line b p f) (sound.cells (node.Line f p)).0 (sound.cells (node.Line f p)).1)) r)
     sound

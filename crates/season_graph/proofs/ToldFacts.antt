@@ -98,7 +98,7 @@ module _ (b : SeasonFacts) where
   rows_none table (row ∷ lines) p n =
       head_case table p (appearance b.players row) (filter (λ a. takes_part a.line) (map (appearance b.players) lines)) (takes_part row.1)
       ∙ both_none (takes_part row.1) (row.0 == p) (bonus_of table (bps_of (position_in b.players row.0) row.1)) (at_id (rows_of table lines) p)
-          (below_or_above row.0 p (λ e. n (inl e))) (rows_none table lines p (λ a. n (inr a)))
+      (below_or_above row.0 p (λ e. n (inl e))) (rows_none table lines p (λ a. n (inr a)))
 
   some_case : (t u : Bool) (row : ℕ × Line) (p : ℕ) (line : Line) (lines : Lines) (table : List (ℕ × ℤ)) → (row.0 == p) ≡ u → takes_part row.1 ≡ t
       → cond u (Some row.1) (line_in lines p) ≡ Some line → (u ≡ true → row.0 ≡ p) → (u ≡ true → at_id (rows_of table lines) p ≡ None)
@@ -120,8 +120,8 @@ module _ (b : SeasonFacts) where
   rows_some table (row ∷ lines) p line d e =
       head_case table p (appearance b.players row) (filter (λ a. takes_part a.line) (map (appearance b.players) lines)) (takes_part row.1)
       ∙ some_case (takes_part row.1) (row.0 == p) row p line lines table refl refl e (same_number row.0 p)
-          (λ i. rows_none table lines p (subst (λ x. ¬ Among (players_in lines) x) (same_number row.0 p i) d.0))
-          (rows_some table lines p line d.1)
+      (λ i. rows_none table lines p (subst (λ x. ¬ Among (players_in lines) x) (same_number row.0 p i) d.0))
+      (rows_some table lines p line d.1)
 
   rows_are : (table : List (ℕ × ℤ)) (match : List Appearance) → with_bonus_rows table match ≡ map (row_of table) (filter (λ a. takes_part a.line) match)
   rows_are table match = map_twice (λ (row : ℕ × ℤ). (row.0, bonus_of table row.1)) (λ a. (a.player, bps_of a.position a.line)) (filter (λ a. takes_part a.line) match)
@@ -210,7 +210,7 @@ module _ (b : SeasonFacts) where
             let next = step so_far f in
             rest next.points next.played next.goals next.conceded
             ∙ ap (λ figures. figures_and p figures (beside_lines p fs))
-                (ap₂ (with_worth so_far) (ap (λ o. option_map_or (worth_of b.profile (position_in b.players p)) o no_worth) e) (bonus_told f p line (distinct f) e))
+            (ap₂ (with_worth so_far) (ap (λ o. option_map_or (worth_of b.profile (position_in b.players p)) o no_worth) e) (bonus_told f p line (distinct f) e))
             ∙ one_line p f so_far line (beside_lines p fs)
 
     -- what a player did in a gameweek
@@ -238,5 +238,5 @@ module _ (b : SeasonFacts) where
   own_told distinct (node.Line f p) = refl
   own_told distinct (node.Bonus f) = ap (λ table. Some (value.Bonus (if is_finished b.matches f then with_bonus table else [])))
       (sym (took_part_is (λ p. worth_in (Some (told b (node.Line f p)))) (lines_of b.matches f)
-          (λ row a. ap (λ o. option_map_or (worth_of b.profile (position_in b.players row.0)) o no_worth) (row_found (lines_of b.matches f) row (distinct f) a))))
+      (λ row a. ap (λ o. option_map_or (worth_of b.profile (position_in b.players row.0)) o no_worth) (row_found (lines_of b.matches f) row (distinct f) a))))
   own_told distinct (node.PlayerGw p g) = ap (λ figures. Some (value.PlayerGw figures)) (sym (gameweek_told p distinct g))

@@ -56,7 +56,7 @@ module _ (b : SeasonFacts) where
   live_among (node.Bonus f) l = in_fixture f (node.Bonus f) l (inl refl)
   live_among (node.PlayerGw p g) l = among_right (fixtures_nodes b) (locked_nodes b 0) (node.PlayerGw p g)
       (locked_among b 0 p g (from_0 b.calendar.locked)
-          (from_1 g (first_true (nat_le 1 g) (nat_le g b.calendar.locked) (second_true (is_some (player_of b.players p)) (nat_le 1 g && nat_le g b.calendar.locked) l))) l)
+      (from_1 g (first_true (nat_le 1 g) (nat_le g b.calendar.locked) (second_true (is_some (player_of b.players p)) (nat_le 1 g && nat_le g b.calendar.locked) l))) l)
 
 -- a cell that was planted where its node is live
 planted_some : (l : Bool) (o : Option (Slot Value)) → o ≡ refreshed l None → is_some o ≡ l

@@ -1,6 +1,6 @@
 -- What the calls that change the books do to the facts: each leaves a season, which differs from the one before as the
 -- cells can follow it.
-use Rattle.std.specs.Prelude.{◌≡◌, ℕ, Bool, true, false, List, Option, Some, None, is_some}
+use Rattle.std.specs.Prelude.{◌≡◌, ℕ, Bool, true, false, List, [], Option, Some, None, is_some}
 use Rattle.rule_book.specs.declared.line.Line.{Line}
 use Rattle.rule_book.specs.declared.player.Player.{Player}
 use Rattle.rule_book.specs.declared.season.Fixture.{Fixture}
@@ -23,6 +23,10 @@ with_calendar b calendar = record b { calendar = calendar }
 
 abbrev pub with_players : SeasonFacts → List Player → SeasonFacts
 with_players b players = record b { players = players }
+
+-- a season begins with no facts of its matches
+abbrev pub SeasonBegins : Type 0
+SeasonBegins = (b : SeasonFacts) → IsCalendar b.calendar → b.matches ≡ [] → IsSeason b
 
 -- a line is put in: it is in its ranges, and the player is there
 abbrev pub LineIsPut : Type 0

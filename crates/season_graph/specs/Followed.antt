@@ -6,7 +6,7 @@ use Rattle.rule_book.specs.Calendar.{stands_in}
 use Rattle.rule_book.specs.MatchFacts.{is_finished, line_of}
 use Rattle.rescore_graph.specs.declared.cells.Slot.{Slot}
 use Rattle.rescore_graph.specs.Graph.{Among}
-use Rattle.rescore_graph.specs.States.{State, look, values_in}
+use Rattle.rescore_graph.specs.States.{Puts, State, look, values_in}
 use Rattle.rescore_graph.specs.Settling.{Remains, Settles, Sound}
 use Rattle.season_graph.specs.declared.books.Books.{Books}
 use Rattle.season_graph.specs.declared.nodes.Node.{Node}
@@ -16,9 +16,9 @@ use Rattle.season_graph.specs.BookFacts.{facts_of}
 use Rattle.season_graph.specs.Changes.{AreAlike, DifferInLine, DifferInLocks, DifferInMark, DifferInPlace, DifferInPlayer, DifferInSheet, Follows, MarksTouched}
 use Rattle.season_graph.specs.Evaluated.{IsEvaluated}
 use Rattle.season_graph.specs.NodeOrder.{node_cmp}
-use Rattle.season_graph.specs.Refreshed.{Refreshed}
+use Rattle.season_graph.specs.Refreshed.{Refreshed, refreshed}
 use Rattle.season_graph.specs.Season.{SeasonFacts, IsSeason, is_live, season_graph}
-use Rattle.season_graph.specs.Touched.{gameweek_beside, line_nodes, lines_nodes, locked_nodes, moved_nodes, player_nodes, sheet_nodes}
+use Rattle.season_graph.specs.Touched.{gameweek_beside, line_nodes, lines_nodes, locked_nodes, moved_nodes, player_nodes, presence_nodes, sheet_nodes}
 
 -- the cells of a season, as contracts see them
 abbrev pub SeasonRows : Type 0
@@ -56,6 +56,14 @@ module _ (b : Books) where
   abbrev pub Refreshes : List Node → SeasonRows → SeasonRows → Type 0
   Refreshes ns old new = Refreshed (is_live (facts_of b)) (Among ns) (held old) (held new)
 
+  -- this node was
+  abbrev pub RefreshesOne : Node → SeasonRows → SeasonRows → Type 0
+  RefreshesOne n old new = Puts node_cmp (held old) (held new) n (refreshed (is_live (facts_of b) n) (held old n))
+
+  -- the locked gameweeks of a player were, behind the first ones
+  abbrev pub GameweeksRefreshed : ℕ → ℕ → SeasonRows → SeasonRows → Type 0
+  GameweeksRefreshed p first old new = Refreshes (player_nodes p first (b.calendar.now.locked - first)) old new
+
   -- cells that were sound for facts of before, from which the books differ in this way, are sound for the books
   abbrev pub FollowsFrom : (SeasonFacts → Type 0) → SeasonRows → SeasonRows → Type 0
   FollowsFrom differ old new =
@@ -67,6 +75,9 @@ module _ (b : Books) where
       (before : SeasonFacts) → IsSeason before → IsSeason (facts_of b) → differ before → MarksTouched before (facts_of b) (held old) (held new)
 
   -- a player's line in a fixture
+  abbrev pub PresenceRefreshed : ℕ → ℕ → SeasonRows → SeasonRows → Type 0
+  PresenceRefreshed f p old new = Refreshes (presence_nodes (facts_of b) f p) old new
+
   abbrev pub LineRefreshed : ℕ → ℕ → SeasonRows → SeasonRows → Type 0
   LineRefreshed f p old new = Refreshes (line_nodes (facts_of b) f p (had_line old f p)) old new
 

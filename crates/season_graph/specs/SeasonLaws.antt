@@ -73,7 +73,7 @@ module _ (b : SeasonFacts) (is : IsSeason b) where
       pick r =
           let has : has_line b p r.0 ≡ true = (from_filter (has_line b p) (standing b.calendar g) r.0 r.1.0).1 in
           ⊎_elim (λ e. subst (λ q. is_live b q ≡ true) e has)
-              (⊎_elim (λ e. subst (λ q. is_live b q ≡ true) e (has_some (lines_of b.matches r.0) p has)) (λ x. absurd x)) r.1.1
+          (⊎_elim (λ e. subst (λ q. is_live b q ≡ true) e (has_some (lines_of b.matches r.0) p has)) (λ x. absurd x)) r.1.1
 
   lower : (n m : Node) → is_live b n ≡ true → Among (inputs_of b n) m → level_of m < level_of n
   lower (node.Line f p) m l a = absurd a
@@ -86,7 +86,7 @@ module _ (b : SeasonFacts) (is : IsSeason b) where
   took_part_local w x ps e =
       ap (map (λ p. (p, (w p).bps))) (filter_local (λ p. nat_le 1 (w p).minutes) (λ p. nat_le 1 (x p).minutes) ps (λ p a. ap (λ k. nat_le 1 k.minutes) (e p a)))
       ∙ map_local (λ p. (p, (w p).bps)) (λ p. (p, (x p).bps)) (filter (λ p. nat_le 1 (x p).minutes) ps)
-          (λ p a. ap (λ k. (p, k.bps)) (e p (from_filter (λ p. nat_le 1 (x p).minutes) ps p a).0))
+      (λ p a. ap (λ k. (p, k.bps)) (e p (from_filter (λ p. nat_le 1 (x p).minutes) ps p a).0))
 
   gathered_local : (w x : ℕ → LineWorth) (u v : ℕ → ℕ) (fs : List ℕ) → ((f : ℕ) → Among fs f → w f ≡ x f) → ((f : ℕ) → Among fs f → u f ≡ v f) → gathered w u fs ≡ gathered x v fs
   gathered_local w x u v fs e d = fold_local (λ figures f. with_worth figures (w f) (u f)) (λ figures f. with_worth figures (x f) (v f)) no_figures fs
@@ -96,15 +96,15 @@ module _ (b : SeasonFacts) (is : IsSeason b) where
   local (node.Line f p) l v u e = refl
   local (node.Bonus f) l v u e = ap (λ t. value.Bonus (if is_finished b.matches f then with_bonus t else []))
       (took_part_local (λ p. worth_in (v (node.Line f p))) (λ p. worth_in (u (node.Line f p))) (players_of b f)
-          (λ p a. ap worth_in (e (node.Line f p) (to_map (node.Line f) (players_of b f) p a))))
+      (λ p a. ap worth_in (e (node.Line f p) (to_map (node.Line f) (players_of b f) p a))))
   local (node.PlayerGw p g) l v u e =
       let both : ℕ → List Node = λ f. node.Line f p ∷ node.Bonus f ∷ [] in
       ap value.PlayerGw (gathered_local
-          (λ f. worth_in (v (node.Line f p))) (λ f. worth_in (u (node.Line f p)))
-          (λ f. unwrap_or (at_id (bonuses_in (v (node.Bonus f))) p) 0) (λ f. unwrap_or (at_id (bonuses_in (u (node.Bonus f))) p) 0)
-          (fixtures_of b p g)
-          (λ f a. ap worth_in (e (node.Line f p) (to_flat both (fixtures_of b p g) f (node.Line f p) a (inl refl))))
-          (λ f a. ap (λ o. unwrap_or (at_id (bonuses_in o) p) 0) (e (node.Bonus f) (to_flat both (fixtures_of b p g) f (node.Bonus f) a (inr (inl refl))))))
+      (λ f. worth_in (v (node.Line f p))) (λ f. worth_in (u (node.Line f p)))
+      (λ f. unwrap_or (at_id (bonuses_in (v (node.Bonus f))) p) 0) (λ f. unwrap_or (at_id (bonuses_in (u (node.Bonus f))) p) 0)
+      (fixtures_of b p g)
+      (λ f a. ap worth_in (e (node.Line f p) (to_flat both (fixtures_of b p g) f (node.Line f p) a (inl refl))))
+      (λ f a. ap (λ o. unwrap_or (at_id (bonuses_in o) p) 0) (e (node.Bonus f) (to_flat both (fixtures_of b p g) f (node.Bonus f) a (inr (inl refl))))))
 
   pub season_lawful : IsGraph (season_graph b)
   season_lawful = record { inputs_live = live; inputs_lower = lower; local = local }

@@ -18,6 +18,7 @@ pub struct Books<'a> {
     pub profile: Profile,
     /// Which gameweeks are locked, and where the fixtures stand.
     pub calendar: &'a Calendar,
+    /// Who is there, and where each plays.
     pub players: &'a Players,
     /// The lines of the players in the fixtures, and which fixtures are finished.
     pub matches: &'a MatchFacts,

@@ -1,13 +1,7 @@
 // What changes of the books do to the cells.
-ghost use Rattle.std.specs.Prelude.{◌≡◌, ◌<◌, ◌+◌, ◌-◌, ℕ, [], ◌∷◌, OnOk, IfSome, slice_get, if◌then◌else◌};
-ghost use Rattle.rule_book.specs.Calendar.{stands_in};
-ghost use Rattle.rescore_graph.specs.States.{Puts};
-ghost use Rattle.season_graph.specs.BookFacts.{facts_of};
-ghost use Rattle.season_graph.specs.Followed.{held, Refreshes, LineRefreshed, LineFollowed, LineMarked, LinesRefreshed, SheetRefreshed, SheetFollowed, SheetMarked, MarkFollowed, MarkMarked, MoveRefreshed, MoveFollowed, MoveMarked, PlayerRefreshed, PlayerFollowed, PlayerMarked, LocksRefreshed, LocksFollowed, LocksMarked};
-ghost use Rattle.season_graph.specs.NodeOrder.{node_cmp};
-ghost use Rattle.season_graph.specs.Refreshed.{refreshed};
-ghost use Rattle.season_graph.specs.Season.{is_live};
-ghost use Rattle.season_graph.specs.Touched.{gameweek_beside, player_nodes, presence_nodes};
+ghost use Rattle.std.specs.Prelude.{◌≡◌, ◌<◌, ◌+◌, [], ◌∷◌, OnOk, IfSome, slice_get, if◌then◌else◌};
+ghost use Rattle.season_graph.specs.Followed.{Refreshes, RefreshesOne, GameweeksRefreshed, PresenceRefreshed, LineRefreshed, LineFollowed, LineMarked, LinesRefreshed, SheetRefreshed, SheetFollowed, SheetMarked, MarkFollowed, MarkMarked, MoveRefreshed, MoveFollowed, MoveMarked, PlayerRefreshed, PlayerFollowed, PlayerMarked, LocksRefreshed, LocksFollowed, LocksMarked};
+ghost use Rattle.season_graph.specs.Touched.{gameweek_beside};
 ghost use Rattle.season_graph.specs.declared.nodes.Node.{Node};
 
 use crate::books::Books;
@@ -41,9 +35,12 @@ pub fn sheet_changed(
     players: &[PlayerId],
     marked: bool,
 ) -> Result<(), Memory>
-    ensures nodes { OnOk result (SheetRefreshed books.now fixture players.now marked cells.old cells.new) }
-    ensures sound { OnOk result (SheetFollowed books.now fixture players.now marked cells.old cells.new) }
-    ensures exact { OnOk result (SheetMarked books.now fixture players.now marked cells.old cells.new) }
+    ensures nodes { OnOk result
+        (SheetRefreshed books.now fixture players.now marked cells.old cells.new) }
+    ensures sound { OnOk result
+        (SheetFollowed books.now fixture players.now marked cells.old cells.new) }
+    ensures exact { OnOk result
+        (SheetMarked books.now fixture players.now marked cells.old cells.new) }
 {
     refresh_sheet(cells, books, fixture, players, marked)?;
     Ok(())
@@ -55,7 +52,8 @@ pub fn mark_changed(
     books: &Books,
     fixture: FixtureId,
 ) -> Result<(), Memory>
-    ensures nodes { OnOk result (Refreshes books.now (Node.Bonus fixture ∷ []) cells.old cells.new) }
+    ensures nodes { OnOk result
+        (Refreshes books.now (Node.Bonus fixture ∷ []) cells.old cells.new) }
     ensures sound { OnOk result (MarkFollowed books.now fixture cells.old cells.new) }
     ensures exact { OnOk result (MarkMarked books.now fixture cells.old cells.new) }
 {
@@ -81,11 +79,7 @@ pub fn fixture_moved(
 }
 
 /// A player came, who was not there before. Want of memory is as for one line.
-pub fn player_added(
-    cells: &mut SeasonCells,
-    books: &Books,
-    player: PlayerId,
-) -> Result<(), Memory>
+pub fn player_added(cells: &mut SeasonCells, books: &Books, player: PlayerId) -> Result<(), Memory>
     ensures nodes { OnOk result (PlayerRefreshed books.now player cells.old cells.new) }
     ensures sound { OnOk result (PlayerFollowed books.now player cells.old cells.new) }
     ensures exact { OnOk result (PlayerMarked books.now player cells.old cells.new) }
@@ -107,7 +101,7 @@ pub fn gameweeks_locked(cells: &mut SeasonCells, books: &Books, first: u8) -> Re
 // Brings one node up to date: it is made dirty where it is live, planted if it has no cell, and taken out where it is
 // not live.
 fn refresh(cells: &mut SeasonCells, books: &Books, n: &Node) -> Result<(), Memory>
-    ensures { OnOk result (Puts node_cmp (held cells.old) (held cells.new) n.now (refreshed (is_live (facts_of books.now) n.now) (held cells.old n.now))) }
+    ensures { OnOk result (RefreshesOne books.now n.now cells.old cells.new) }
 {
     let has_cell = cells.evaluations(*n).is_some();
     if !books.is_live(n) {
@@ -139,7 +133,8 @@ pub(crate) fn refresh_line(
     fixture: FixtureId,
     player: PlayerId,
 ) -> Result<(), Memory>
-    ensures { OnOk result (Refreshes books.now (Node.Line fixture player ∷ []) cells.old cells.new) }
+    ensures { OnOk result
+        (Refreshes books.now (Node.Line fixture player ∷ []) cells.old cells.new) }
 {
     refresh_one(cells, books, &Node::Line(fixture, player))?;
     Ok(())
@@ -164,7 +159,8 @@ fn refresh_gameweek(
     player: PlayerId,
     place: &Option<Gw>,
 ) -> Result<(), Memory>
-    ensures { OnOk result (Refreshes books.now (gameweek_beside player place.now) cells.old cells.new) }
+    ensures { OnOk result
+        (Refreshes books.now (gameweek_beside player place.now) cells.old cells.new) }
 {
     if let Some(gameweek) = place {
         refresh_one(cells, books, &Node::PlayerGw(player, *gameweek))?;
@@ -179,7 +175,7 @@ fn refresh_presence(
     fixture: FixtureId,
     player: PlayerId,
 ) -> Result<(), Memory>
-    ensures { OnOk result (Refreshes books.now (presence_nodes (facts_of books.now) fixture player) cells.old cells.new) }
+    ensures { OnOk result (PresenceRefreshed books.now fixture player cells.old cells.new) }
 {
     refresh_bonus(cells, books, fixture)?;
     refresh_gameweek(cells, books, player, &books.calendar.stands_in(fixture))?;
@@ -211,7 +207,8 @@ fn refresh_sheet(
     players: &[PlayerId],
     marked: bool,
 ) -> Result<(), Memory>
-    ensures { OnOk result (SheetRefreshed books.now fixture players.now marked cells.old cells.new) }
+    ensures { OnOk result
+        (SheetRefreshed books.now fixture players.now marked cells.old cells.new) }
 {
     refresh_lines(cells, books, fixture, players)?;
     refresh_bonus_if(cells, books, fixture, marked)?;
@@ -240,7 +237,8 @@ fn refresh_bonus_if(
     fixture: FixtureId,
     marked: bool,
 ) -> Result<(), Memory>
-    ensures { OnOk result (Refreshes books.now (if marked then Node.Bonus fixture ∷ [] else []) cells.old cells.new) }
+    ensures { OnOk result
+        (Refreshes books.now (if marked then Node.Bonus fixture ∷ [] else []) cells.old cells.new) }
 {
     if marked {
         refresh_bonus(cells, books, fixture)?;
@@ -286,7 +284,9 @@ fn refresh_player(
     place: usize,
     first: u8,
 ) -> Result<(), Memory>
-    ensures { OnOk result (IfSome (slice_get books.now.players.now place) (λ player. Refreshes books.now (player_nodes player.id first (books.now.calendar.now.locked - first)) cells.old cells.new)) }
+    ensures { OnOk result
+        (IfSome (slice_get books.now.players.now place)
+        (λ player. GameweeksRefreshed books.now player.id first cells.old cells.new)) }
 {
     if let Some(player) = books.players.at(place) {
         refresh_gameweeks(cells, books, player.id, first)?;
@@ -301,7 +301,7 @@ fn refresh_gameweeks(
     player: PlayerId,
     first: u8,
 ) -> Result<(), Memory>
-    ensures { OnOk result (Refreshes books.now (player_nodes player first (books.now.calendar.now.locked - first)) cells.old cells.new) }
+    ensures { OnOk result (GameweeksRefreshed books.now player first cells.old cells.new) }
 {
     for number in 0..books.calendar.locked().saturating_sub(first) {
         refresh_numbered(cells, books, player, first + number)?;
@@ -317,7 +317,8 @@ fn refresh_numbered(
     number: u8,
 ) -> Result<(), Memory>
     requires { number < 38 }
-    ensures { OnOk result (Refreshes books.now (Node.PlayerGw player (number + 1) ∷ []) cells.old cells.new) }
+    ensures { OnOk result
+        (Refreshes books.now (Node.PlayerGw player (number + 1) ∷ []) cells.old cells.new) }
 {
     let Some(gameweek) = Gw::new(number + 1) else {
         unreachable!()

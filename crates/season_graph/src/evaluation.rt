@@ -26,8 +26,10 @@ pub fn settle_season<L: Ledger>(
     requires season { IsSeason (facts_of rules.now.books) }
     requires sound { AreSound (facts_of rules.now.books) cells.old }
     ensures evaluated { OnOk result (AreEvaluated (facts_of rules.now.books) cells.new) }
-    ensures settled { IfOk result (λ report. HasSettled (facts_of rules.now.books) cells.old cells.new report.evaluated) }
-    ensures cost { IfOk result (λ report. steps.new ≤ steps.old + sum_by weight_of report.evaluated) }
+    ensures settled { IfOk result
+        (λ report. HasSettled (facts_of rules.now.books) cells.old cells.new report.evaluated) }
+    ensures cost { IfOk result
+        (λ report. steps.new ≤ steps.old + sum_by weight_of report.evaluated) }
     ensures remains { HasRemained (facts_of rules.now.books) cells.old cells.new }
 {
     let report = cells.settle(rules, steps)?;
@@ -60,7 +62,8 @@ pub fn evaluate_all<L: Ledger>(
 
 // Brings all nodes up to date.
 fn refresh_all(cells: &mut SeasonCells, books: &Books) -> Result<(), Memory>
-    ensures { OnOk result (Refreshes books.now (season_nodes (facts_of books.now)) cells.old cells.new) }
+    ensures { OnOk result
+        (Refreshes books.now (season_nodes (facts_of books.now)) cells.old cells.new) }
 {
     refresh_fixtures(cells, books)?;
     refresh_players(cells, books, 0)?;
@@ -69,7 +72,8 @@ fn refresh_all(cells: &mut SeasonCells, books: &Books) -> Result<(), Memory>
 
 // Brings the nodes of all fixtures up to date.
 fn refresh_fixtures(cells: &mut SeasonCells, books: &Books) -> Result<(), Memory>
-    ensures { OnOk result (Refreshes books.now (fixtures_nodes (facts_of books.now)) cells.old cells.new) }
+    ensures { OnOk result
+        (Refreshes books.now (fixtures_nodes (facts_of books.now)) cells.old cells.new) }
 {
     for fixture in books.matches.fixtures() {
         refresh_fixture(cells, books, *fixture)?;
@@ -78,12 +82,9 @@ fn refresh_fixtures(cells: &mut SeasonCells, books: &Books) -> Result<(), Memory
 }
 
 // Brings the nodes of a fixture up to date.
-fn refresh_fixture(
-    cells: &mut SeasonCells,
-    books: &Books,
-    fixture: FixtureId,
-) -> Result<(), Memory>
-    ensures { OnOk result (Refreshes books.now (fixture_nodes (facts_of books.now) fixture) cells.old cells.new) }
+fn refresh_fixture(cells: &mut SeasonCells, books: &Books, fixture: FixtureId) -> Result<(), Memory>
+    ensures { OnOk result
+        (Refreshes books.now (fixture_nodes (facts_of books.now) fixture) cells.old cells.new) }
 {
     refresh_bonus(cells, books, fixture)?;
     for player in books.matches.players_of(fixture) {

@@ -1,5 +1,5 @@
 ghost use Rattle.rescore_graph.specs.Graph.{replay};
-ghost use Rattle.season_graph.specs.BookChanges.{LineIsPut, LineIsDropped, MarkIsSet, SheetIsPut, FixtureMoves, FixtureComes, MomentPasses, PlayerComes, DeadlineMoves, PriceChanges, ClubChanges, GoneChanges};
+ghost use Rattle.season_graph.specs.BookChanges.{SeasonBegins, LineIsPut, LineIsDropped, MarkIsSet, SheetIsPut, FixtureMoves, FixtureComes, MomentPasses, PlayerComes, DeadlineMoves, PriceChanges, ClubChanges, GoneChanges};
 ghost use Rattle.season_graph.specs.BookFacts.{facts_of};
 ghost use Rattle.season_graph.specs.Followed.{AlikeFollowed};
 ghost use Rattle.season_graph.specs.Season.{IsSeason, season_graph};
@@ -18,6 +18,11 @@ pub fn replay_is_told(rules: &SeasonRules)
 {
     replay_is_one(rules);
 }
+
+/// A law: a lawful calendar, any players and no facts of the matches are a season.
+pub fn season_begins()
+    ensures { SeasonBegins }
+{}
 
 /// A law: what the calls of the matches' facts leave is a season, which differs in the line, the sheet or the mark that
 /// they name.

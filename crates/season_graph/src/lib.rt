@@ -16,6 +16,8 @@ mod evaluation;
 mod laws;
 mod nodes;
 mod rules;
+#[cfg(test)]
+mod tests;
 mod worth;
 
 pub use books::Books;
@@ -23,6 +25,8 @@ pub use changes::{
     fact_changed, fixture_moved, gameweeks_locked, mark_changed, player_added, sheet_changed,
 };
 pub use evaluation::{evaluate_all, settle_season};
-pub use laws::{books_alike, calendar_changes, matches_change, players_change, replay_is_told};
+pub use laws::{
+    books_alike, calendar_changes, matches_change, players_change, replay_is_told, season_begins,
+};
 pub use nodes::{Bonuses, LineWorth, Node, Value, is_same};
 pub use rules::{SeasonCells, SeasonRules};

@@ -115,9 +115,11 @@ pub struct LineWorth {
     pub points: i16,
     /// The number in the bonus points system.
     pub bps: i16,
+    /// Minutes played.
     pub minutes: u16,
     /// Whether the player had a yellow or a red card.
     pub carded: bool,
+    /// Goals that he scored.
     pub goals: u8,
     /// Goals that his side conceded while he played.
     pub conceded: u8,

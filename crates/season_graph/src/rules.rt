@@ -23,12 +23,22 @@ impl Books<'_> {
         ensures { result ≡ live_gameweek (facts_of self.now) player fixture }
     {
         let gameweek = self.calendar.stands_in(fixture)?;
-        if self.has_gameweek(player, gameweek) { Some(gameweek) } else { None }
+        if self.has_gameweek(player, gameweek) {
+            Some(gameweek)
+        } else {
+            None
+        }
     }
 
     // The nodes of which a line is an input.
-    fn line_dependents(&self, alloc: Global, fixture: FixtureId, player: PlayerId) -> Result<Vec<Node>, Memory>
-        ensures { IfOk result (λ ns. ns.items ≡ line_dependents (facts_of self.now) fixture player) }
+    fn line_dependents(
+        &self,
+        alloc: Global,
+        fixture: FixtureId,
+        player: PlayerId,
+    ) -> Result<Vec<Node>, Memory>
+        ensures { IfOk result
+            (λ ns. ns.items ≡ line_dependents (facts_of self.now) fixture player) }
     {
         let mut found = Vec::new(alloc);
         found.push(Node::Bonus(fixture))?;
@@ -53,7 +63,8 @@ impl Books<'_> {
 
     // The inputs of the bonus of a fixture: its lines.
     fn bonus_inputs(&self, alloc: Global, fixture: FixtureId) -> Result<Vec<Node>, Memory>
-        ensures { IfOk result (λ ns. ns.items ≡ inputs_of (facts_of self.now) (Node.Bonus fixture)) }
+        ensures { IfOk result
+            (λ ns. ns.items ≡ inputs_of (facts_of self.now) (Node.Bonus fixture)) }
     {
         let mut found = Vec::new(alloc);
         for player in self.matches.players_of(fixture) {
@@ -63,8 +74,14 @@ impl Books<'_> {
     }
 
     // The inputs of a player's gameweek: his lines in it, and the bonuses of their fixtures.
-    fn gameweek_inputs(&self, alloc: Global, player: PlayerId, gameweek: Gw) -> Result<Vec<Node>, Memory>
-        ensures { IfOk result (λ ns. ns.items ≡ inputs_of (facts_of self.now) (Node.PlayerGw player gameweek)) }
+    fn gameweek_inputs(
+        &self,
+        alloc: Global,
+        player: PlayerId,
+        gameweek: Gw,
+    ) -> Result<Vec<Node>, Memory>
+        ensures { IfOk result
+            (λ ns. ns.items ≡ inputs_of (facts_of self.now) (Node.PlayerGw player gameweek)) }
     {
         let mut found = Vec::new(alloc);
         for fixture in self.calendar.standing(gameweek) {
@@ -80,6 +97,7 @@ impl Books<'_> {
 /// The rules by which the nodes of a season have values.
 #[derive(Drop)]
 pub struct SeasonRules<'a> {
+    /// Of these books.
     pub books: Books<'a>,
 }
 

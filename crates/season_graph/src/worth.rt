@@ -111,7 +111,8 @@ fn with_bonus(alloc: Global, table: &[(PlayerId, i32)]) -> Result<Bonuses, Memor
 
 fn bonus_row(table: &[(PlayerId, i32)], place: usize) -> (PlayerId, u8)
     requires { place < length table.now }
-    ensures { IfSome (slice_get table.now place) (λ row. result ≡ (row.0, bonus_of table.now row.1)) }
+    ensures { IfSome (slice_get table.now place)
+        (λ row. result ≡ (row.0, bonus_of table.now row.1)) }
 {
     (table[place].0, bonus(table, place))
 }
@@ -148,7 +149,12 @@ fn with_line(figures: &Figures, worth: &LineWorth, bonus: u8) -> Figures
 
 impl Books<'_> {
     // What a player's line in a fixture is worth.
-    pub(crate) fn line_worth<L: Ledger>(&self, fixture: FixtureId, player: PlayerId, steps: &mut Steps<L>) -> LineWorth
+    pub(crate) fn line_worth<L: Ledger>(
+        &self,
+        fixture: FixtureId,
+        player: PlayerId,
+        steps: &mut Steps<L>,
+    ) -> LineWorth
         requires { IsSeason (facts_of self.now) }
         ensures value { result ≡ line_worth (facts_of self.now) fixture player }
         ensures cost { steps.new ≡ steps.old + 1 }
@@ -168,7 +174,8 @@ impl Books<'_> {
         cells: &SeasonCells,
         steps: &mut Steps<L>,
     ) -> Result<Vec<(PlayerId, i32)>, Memory>
-        ensures table { IfOk result (λ table. table.items ≡ took_part_by (facts_of self.now) (held_values cells.now) fixture) }
+        ensures table { IfOk result (λ table.
+            table.items ≡ took_part_by (facts_of self.now) (held_values cells.now) fixture) }
         ensures cost { steps.new ≤ steps.old + 64 }
     {
         let mut table = Vec::new(alloc);
@@ -189,7 +196,8 @@ impl Books<'_> {
         cells: &SeasonCells,
         steps: &mut Steps<L>,
     ) -> Result<Bonuses, Memory>
-        ensures value { IfOk result (λ rows. rows ≡ bonuses_by (facts_of self.now) (held_values cells.now) fixture) }
+        ensures value { IfOk result
+            (λ rows. rows ≡ bonuses_by (facts_of self.now) (held_values cells.now) fixture) }
         ensures cost { steps.new ≤ steps.old + 64 }
     {
         if !self.matches.finished(fixture) {
@@ -209,7 +217,8 @@ impl Books<'_> {
         steps: &mut Steps<L>,
     ) -> Figures
         requires modest { AreModest 19 figures.now }
-        ensures value { result ≡ with_fixture (facts_of self.now) (held_values cells.now) player figures.now fixture }
+        ensures value { result ≡
+            with_fixture (facts_of self.now) (held_values cells.now) player figures.now fixture }
         ensures modest { (n : ℕ) → AreModest n figures.now → AreModest (n + 1) result }
         ensures cost { steps.new ≤ steps.old + 2 }
     {
@@ -229,7 +238,8 @@ impl Books<'_> {
         cells: &SeasonCells,
         steps: &mut Steps<L>,
     ) -> Figures
-        ensures value { result ≡ figures_by (facts_of self.now) (held_values cells.now) player gameweek }
+        ensures value { result ≡
+            figures_by (facts_of self.now) (held_values cells.now) player gameweek }
         ensures cost { steps.new ≤ steps.old + 40 }
     {
         let mut figures = no_figures();

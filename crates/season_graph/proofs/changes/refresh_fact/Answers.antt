@@ -18,8 +18,8 @@ returns-in_ok-refresh_presence c =
     let rest = node.Bonus c.args.fixture ∷ gameweek_beside c.args.player (stands_in b.calendar c.args.fixture) in
     let s = look node_cmp c.args.cells.now in
     line_chosen live line rest s (look node_cmp c.refresh_presence.new.cells) true c.is_some-had_line.result c.has_line.result (has_line b c.args.player c.args.fixture)
-        (c.is_some-had_line.ensures ∙ counted_some c.evaluations.result (s line) c.evaluations.ensures) c.has_line.ensures c.if-had_line-has_line.true
-        (refreshed_append live (line ∷ []) rest s (look node_cmp c.refresh_line.new.cells) (look node_cmp c.refresh_presence.new.cells) c.in_ok-refresh_line.ensures c.in_ok-refresh_presence.ensures)
+    (c.is_some-had_line.ensures ∙ counted_some c.evaluations.result (s line) c.evaluations.ensures) c.has_line.ensures c.if-had_line-has_line.true
+    (refreshed_append live (line ∷ []) rest s (look node_cmp c.refresh_line.new.cells) (look node_cmp c.refresh_presence.new.cells) c.in_ok-refresh_line.ensures c.in_ok-refresh_presence.ensures)
 
 pub returns-else-had_line-has_line : goal.returns-else-had_line-has_line
 returns-else-had_line-has_line c =
@@ -28,4 +28,4 @@ returns-else-had_line-has_line c =
     let rest = node.Bonus c.args.fixture ∷ gameweek_beside c.args.player (stands_in b.calendar c.args.fixture) in
     let s = look node_cmp c.args.cells.now in
     line_chosen (is_live b) line rest s (look node_cmp c.refresh_line.new.cells) false c.is_some-had_line.result c.has_line.result (has_line b c.args.player c.args.fixture)
-        (c.is_some-had_line.ensures ∙ counted_some c.evaluations.result (s line) c.evaluations.ensures) c.has_line.ensures c.if-had_line-has_line.false c.in_ok-refresh_line.ensures
+    (c.is_some-had_line.ensures ∙ counted_some c.evaluations.result (s line) c.evaluations.ensures) c.has_line.ensures c.if-had_line-has_line.false c.in_ok-refresh_line.ensures

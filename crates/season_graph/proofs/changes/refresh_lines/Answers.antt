@@ -25,5 +25,5 @@ loop-player-preserved c =
     let i = c.loop-player.player-index in
     let p = c.player-item.result in
     refreshed_listed (is_live d) (flat_map each (take i ps) ++ each p) (flat_map each (take (i + 1) ps)) s u
-        (subst (λ q. flat_map each (take i ps) ++ each q ≡ flat_map each (take (i + 1) ps)) (sym c.player-item.is) (flat_more each ps i p c.loop-player-test.true))
-        (line_more d w f p (take i ps) s t u refl c.loop-player.invariant c.in_ok-refresh_fact.ensures)
+    (subst (λ q. flat_map each (take i ps) ++ each q ≡ flat_map each (take (i + 1) ps)) (sym c.player-item.is) (flat_more each ps i p c.loop-player-test.true))
+    (line_more d w f p (take i ps) s t u refl c.loop-player.invariant c.in_ok-refresh_fact.ensures)

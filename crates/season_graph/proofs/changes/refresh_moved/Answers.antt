@@ -22,6 +22,6 @@ loop-player-preserved c =
     let u = look node_cmp c.refresh_gameweek.new.cells in
     let v = look node_cmp c.refresh_gameweek-in-loop-player.new.cells in
     refreshed_listed live (flat_map both (take i ps) ++ both p) (flat_map both (take (i + 1) ps)) s v
-        (subst (λ q. flat_map both (take i ps) ++ both q ≡ flat_map both (take (i + 1) ps)) (sym c.player-item.is) (flat_more both ps i p c.loop-player-test.true))
-        (refreshed_append live (flat_map both (take i ps)) (both p) s t v c.loop-player.invariant
-        (refreshed_append live (gameweek_beside p c.args.from.now) (gameweek_beside p c.args.to.now) t u v c.in_ok-refresh_gameweek.ensures c.in_ok-refresh_gameweek-2.ensures))
+    (subst (λ q. flat_map both (take i ps) ++ both q ≡ flat_map both (take (i + 1) ps)) (sym c.player-item.is) (flat_more both ps i p c.loop-player-test.true))
+    (refreshed_append live (flat_map both (take i ps)) (both p) s t v c.loop-player.invariant
+    (refreshed_append live (gameweek_beside p c.args.from.now) (gameweek_beside p c.args.to.now) t u v c.in_ok-refresh_gameweek.ensures c.in_ok-refresh_gameweek-2.ensures))

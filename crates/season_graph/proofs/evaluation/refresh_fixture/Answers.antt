@@ -18,5 +18,5 @@ loop-player-preserved c =
     let t = held c.loop-player.cells in
     let u = held c.refresh_line.new.cells in
     refreshed_listed live (node.Bonus f ∷ map (node.Line f) (take i ps) ++ node.Line f p ∷ []) (node.Bonus f ∷ map (node.Line f) (take (i + 1) ps)) s u
-        (ap (λ ns. node.Bonus f ∷ ns) (subst (λ q. map (node.Line f) (take i ps) ++ node.Line f q ∷ [] ≡ map (node.Line f) (take (i + 1) ps)) (sym c.player-item.is) (mapped_more (node.Line f) ps i p c.loop-player-test.true)))
-        (refreshed_append live (node.Bonus f ∷ map (node.Line f) (take i ps)) (node.Line f p ∷ []) s t u c.loop-player.invariant c.in_ok-refresh_line.ensures)
+    (ap (λ ns. node.Bonus f ∷ ns) (subst (λ q. map (node.Line f) (take i ps) ++ node.Line f q ∷ [] ≡ map (node.Line f) (take (i + 1) ps)) (sym c.player-item.is) (mapped_more (node.Line f) ps i p c.loop-player-test.true)))
+    (refreshed_append live (node.Bonus f ∷ map (node.Line f) (take i ps)) (node.Line f p ∷ []) s t u c.loop-player.invariant c.in_ok-refresh_line.ensures)

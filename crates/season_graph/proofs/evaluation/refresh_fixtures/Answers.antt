@@ -17,5 +17,5 @@ loop-fixture-preserved c =
     let s = held c.args.cells.now in
     let u = held c.refresh_fixture.new.cells in
     refreshed_listed (is_live b) (flat_map (fixture_nodes b) (take i fs) ++ fixture_nodes b f) (flat_map (fixture_nodes b) (take (i + 1) fs)) s u
-        (subst (λ q. flat_map (fixture_nodes b) (take i fs) ++ fixture_nodes b q ≡ flat_map (fixture_nodes b) (take (i + 1) fs)) (sym c.fixture-item.is) (flat_more (fixture_nodes b) fs i f c.loop-fixture-test.true))
-        (refreshed_append (is_live b) (flat_map (fixture_nodes b) (take i fs)) (fixture_nodes b f) s (held c.loop-fixture.cells) u c.loop-fixture.invariant c.in_ok-refresh_fixture.ensures)
+    (subst (λ q. flat_map (fixture_nodes b) (take i fs) ++ fixture_nodes b q ≡ flat_map (fixture_nodes b) (take (i + 1) fs)) (sym c.fixture-item.is) (flat_more (fixture_nodes b) fs i f c.loop-fixture-test.true))
+    (refreshed_append (is_live b) (flat_map (fixture_nodes b) (take i fs)) (fixture_nodes b f) s (held c.loop-fixture.cells) u c.loop-fixture.invariant c.in_ok-refresh_fixture.ensures)
