@@ -161,6 +161,11 @@ abbrev pub GivesItems : {X : Type 0} → Result (Vec X Global) ReadFault → Res
 GivesItems (Ok v) given = given ≡ Ok v.items
 GivesItems (Err e) given = FailsWith e given
 
+-- the same of a text
+abbrev pub GivesText : Result (Bor (List ℕ)) ReadFault → Result (List ℕ) FieldName → Type 0
+GivesText (Ok bytes) given = given ≡ Ok bytes.now
+GivesText (Err e) given = FailsWith e given
+
 -- the same of items, seen as their data
 abbrev pub GivesTrees : Result (Bor (List Tree)) ReadFault → Result Items FieldName → Type 0
 GivesTrees (Ok trees) given = given ≡ Ok (items_view trees.now)

@@ -1,7 +1,7 @@
 // Readers of members, each by its name. A fault names the member.
-ghost use Rattle.std.specs.Prelude.{◌≡◌, ◌≤◌, IfOk, Ok, Err, MatchResult};
+ghost use Rattle.std.specs.Prelude.{◌≡◌, ◌≤◌, IfOk};
 ghost use Rattle.fpl_bodies.specs.declared.field.ReadFault.TheVariants as fault;
-ghost use Rattle.fpl_bodies.specs.Members.{Gives, GivesTrees, club_id, entry, fixture_id, gameweek, items, last_moment, moment, number_in, place, place_in, player_id, position_in, position_of, price, text, title, truth, whole};
+ghost use Rattle.fpl_bodies.specs.Members.{Gives, GivesText, GivesTrees, club_id, entry, fixture_id, gameweek, items, last_moment, moment, number_in, place, place_in, player_id, position_in, position_of, price, text, title, truth, whole};
 ghost use Rattle.json_tree.specs.Trees.{view};
 
 use crate::{FieldName, ReadFault};
@@ -137,7 +137,7 @@ pub(crate) fn truth(value: &Tree<'_>, which: FieldName) -> Result<bool, ReadFaul
 }
 
 fn text<'a>(value: &Tree<'a>, which: FieldName) -> Result<&'a str, ReadFault>
-    ensures { MatchResult result (λ s. text which (view value.now) ≡ Ok s.now) (λ e. (e ≡ fault.Malformed which) × (text which (view value.now) ≡ Err which)) }
+    ensures { GivesText result (text which (view value.now)) }
 {
     match value.get(which.name()) {
         Some(one) => one.as_str().ok_or(wrong(which)),
