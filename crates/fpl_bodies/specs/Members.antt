@@ -52,9 +52,31 @@ number_in low high d = option_and_then (in_range low high) (option_and_then as_u
 abbrev pub whole : FieldName → ℕ → ℕ → Data → Result ℕ FieldName
 whole which low high d = or_wrong which (option_and_then (number_in low high) (member which d))
 
+-- ids, from 1: of clubs up to 255, of players and of fixtures up to 999,999
+abbrev pub club_id : FieldName → Data → Result ℕ FieldName
+club_id which d = whole which 1 255 d
+
+abbrev pub player_id : FieldName → Data → Result ℕ FieldName
+player_id which d = whole which 1 999999 d
+
+abbrev pub fixture_id : FieldName → Data → Result ℕ FieldName
+fixture_id which d = whole which 1 999999 d
+
+-- a gameweek
+abbrev pub gameweek : FieldName → Data → Result ℕ FieldName
+gameweek which d = whole which 1 38 d
+
+-- a price in tenths of a million
+abbrev pub price : FieldName → Data → Result ℕ FieldName
+price which d = whole which 0 65535 d
+
+-- the last second of the year 9999, since 1970
+abbrev pub last_moment : ℕ
+last_moment = 253402300799
+
 -- a moment
 abbrev pub moment : FieldName → Data → Result ℕ FieldName
-moment which d = whole which 0 253402300799 d
+moment which d = whole which 0 last_moment d
 
 -- a gameweek, or null for none
 abbrev pub place_in : Data → Option (Option ℕ)
@@ -138,6 +160,11 @@ Gives (Err e) given = FailsWith e given
 abbrev pub GivesItems : {X : Type 0} → Result (Vec X Global) ReadFault → Result (List X) FieldName → Type 0
 GivesItems (Ok v) given = given ≡ Ok v.items
 GivesItems (Err e) given = FailsWith e given
+
+-- the same of a text
+abbrev pub GivesText : Result (Bor (List ℕ)) ReadFault → Result (List ℕ) FieldName → Type 0
+GivesText (Ok bytes) given = given ≡ Ok bytes.now
+GivesText (Err e) given = FailsWith e given
 
 -- the same of items, seen as their data
 abbrev pub GivesTrees : Result (Bor (List Tree)) ReadFault → Result Items FieldName → Type 0

@@ -19,13 +19,13 @@ use Rattle.fpl_routes.specs.declared.route.CommandRoute.TheVariants as route
 use Rattle.fpl_routes.specs.declared.route.Route.{Route}
 use Rattle.fpl_routes.specs.declared.route.ViewRoute.{ViewRoute}
 use Rattle.fpl_routes.specs.declared.route.ViewRoute.TheVariants as seen
-use Rattle.fpl_bodies.specs.Members.{◌>>=◌, each, entry, if_long, items, list, moment, object_of, place, position_in, title, truth, under, whole}
+use Rattle.fpl_bodies.specs.Members.{◌>>=◌, club_id, entry, fixture_id, gameweek, last_moment, list, moment, object_of, place, player_id, position_in, price, title, truth, whole}
 
 -- The parts of commands.
 
 -- a club with its name
 abbrev pub club : Data → Result (ℕ × List ℕ) FieldName
-club d = whole field.Id 1 255 d >>= λ id. title field.Name d >>= λ name. Ok (id, name)
+club d = club_id field.Id d >>= λ id. title field.Name d >>= λ name. Ok (id, name)
 
 -- no number stands twice
 abbrev pub differ : List ℕ → Bool
@@ -41,7 +41,7 @@ clubs d = list field.Clubs 1 20 club d >>= if_differ
 
 -- 1 to 38 moments
 abbrev pub deadlines : Data → Result (List ℕ) FieldName
-deadlines d = list field.Deadlines 1 38 (entry field.Deadlines 0 253402300799) d
+deadlines d = list field.Deadlines 1 38 (entry field.Deadlines 0 last_moment) d
 
 -- 28 figures
 abbrev pub line : Data → Result Line FieldName
@@ -49,7 +49,7 @@ line d = list field.Figures 28 28 (entry field.Figures 0 65535) d >>= λ figures
 
 -- a player with his figures
 abbrev pub player_line : Data → Result (ℕ × Line) FieldName
-player_line d = whole field.Player 1 999999 d >>= λ player. line d >>= λ figures. Ok (player, figures)
+player_line d = player_id field.Player d >>= λ player. line d >>= λ figures. Ok (player, figures)
 
 -- at most 100 lines
 abbrev pub lines : Data → Result (List (ℕ × Line)) FieldName
@@ -60,7 +60,7 @@ abbrev pub if_guest : ℕ → ℕ → Result ℕ FieldName
 if_guest home away = if away == home then Err field.Away else Ok away
 
 abbrev pub guest : ℕ → Data → Result ℕ FieldName
-guest home d = whole field.Away 1 255 d >>= if_guest home
+guest home d = club_id field.Away d >>= if_guest home
 
 -- The commands, each by its members in their order.
 
@@ -70,26 +70,26 @@ season d =
     Ok (command.Season ms split cs)
 
 abbrev pub deadline : Data → Result Command FieldName
-deadline d = whole field.Gameweek 1 38 d >>= λ g. moment field.Deadline d >>= λ m. Ok (command.Deadline g m)
+deadline d = gameweek field.Gameweek d >>= λ g. moment field.Deadline d >>= λ m. Ok (command.Deadline g m)
 
 abbrev pub player : Data → Result Command FieldName
 player d =
-    whole field.Id 1 999999 d >>= λ id. title field.Name d >>= λ name. position_in field.Position d >>= λ pos.
-    whole field.Club 1 255 d >>= λ c. whole field.Price 0 65535 d >>= λ price.
-    Ok (command.Player id name pos c price)
+    player_id field.Id d >>= λ id. title field.Name d >>= λ name. position_in field.Position d >>= λ pos.
+    club_id field.Club d >>= λ c. price field.Price d >>= λ cost.
+    Ok (command.Player id name pos c cost)
 
-abbrev pub price : Data → Result Command FieldName
-price d = whole field.Player 1 999999 d >>= λ p. whole field.Price 0 65535 d >>= λ n. Ok (command.Price p n)
+abbrev pub new_price : Data → Result Command FieldName
+new_price d = player_id field.Player d >>= λ p. price field.Price d >>= λ n. Ok (command.Price p n)
 
-abbrev pub player_club : Data → Result Command FieldName
-player_club d = whole field.Player 1 999999 d >>= λ p. whole field.Club 1 255 d >>= λ c. Ok (command.Club p c)
+abbrev pub new_club : Data → Result Command FieldName
+new_club d = player_id field.Player d >>= λ p. club_id field.Club d >>= λ c. Ok (command.Club p c)
 
 abbrev pub gone : Data → Result Command FieldName
-gone d = whole field.Player 1 999999 d >>= λ p. truth field.Gone d >>= λ is_gone. Ok (command.Gone p is_gone)
+gone d = player_id field.Player d >>= λ p. truth field.Gone d >>= λ is_gone. Ok (command.Gone p is_gone)
 
 abbrev pub fixture : Data → Result Command FieldName
 fixture d =
-    whole field.Id 1 999999 d >>= λ id. whole field.Home 1 255 d >>= λ home. guest home d >>= λ away.
+    fixture_id field.Id d >>= λ id. club_id field.Home d >>= λ home. guest home d >>= λ away.
     place field.Gameweek d >>= λ g. moment field.Kickoff d >>= λ kickoff.
     Ok (command.Fixture id home away g kickoff)
 
@@ -103,7 +103,7 @@ abbrev pub put : ℕ → Data → Result Command FieldName
 put f d = player_line d >>= λ one. Ok (command.Line f one.0 one.1)
 
 abbrev pub drop : ℕ → Data → Result Command FieldName
-drop f d = whole field.Player 1 999999 d >>= λ p. Ok (command.Drop f p)
+drop f d = player_id field.Player d >>= λ p. Ok (command.Drop f p)
 
 abbrev pub finish : ℕ → Data → Result Command FieldName
 finish f d = truth field.Finished d >>= λ finished. Ok (command.Finished f finished)
@@ -113,8 +113,8 @@ abbrev pub command_of : CommandRoute → ℕ → Data → Result Command FieldNa
 command_of route.Season f d = season d
 command_of route.Deadlines f d = deadline d
 command_of route.Players f d = player d
-command_of route.Prices f d = price d
-command_of route.Clubs f d = player_club d
+command_of route.Prices f d = new_price d
+command_of route.Clubs f d = new_club d
 command_of route.Gone f d = gone d
 command_of route.Fixtures f d = fixture d
 command_of route.Move f d = move f d

@@ -2,7 +2,7 @@
 ghost use Rattle.std.specs.Prelude.{◌≢◌, IfOk};
 ghost use Rattle.season_book.specs.Commands.{IsCommand};
 ghost use Rattle.fpl_bodies.specs.Members.{Gives};
-ghost use Rattle.fpl_bodies.specs.Requests.{command_of, deadline, drop, finish, fixture, gone, guest, move, player, player_club, price, put, season, sheet};
+ghost use Rattle.fpl_bodies.specs.Requests.{command_of, deadline, drop, finish, fixture, gone, guest, move, new_club, new_price, player, put, season, sheet};
 ghost use Rattle.json_tree.specs.Trees.{view};
 
 use crate::lists::{clubs, deadlines, lines, player_line};
@@ -86,7 +86,7 @@ fn player(alloc: Global, value: &Tree<'_>) -> Result<Command, ReadFault>
 }
 
 fn new_price(value: &Tree<'_>) -> Result<Command, ReadFault>
-    ensures gives { Gives result (price (view value.now)) }
+    ensures gives { Gives result (new_price (view value.now)) }
     ensures readable { IfOk result IsCommand }
 {
     let player = player_id(value, FieldName::Player)?;
@@ -95,7 +95,7 @@ fn new_price(value: &Tree<'_>) -> Result<Command, ReadFault>
 }
 
 fn new_club(value: &Tree<'_>) -> Result<Command, ReadFault>
-    ensures gives { Gives result (player_club (view value.now)) }
+    ensures gives { Gives result (new_club (view value.now)) }
     ensures readable { IfOk result IsCommand }
 {
     let player = player_id(value, FieldName::Player)?;

@@ -5,7 +5,7 @@ ghost use Rattle.season_book.specs.Commands.{club_ids};
 ghost use Rattle.rule_book.specs.Ranks.{AllDiffer};
 ghost use Rattle.fpl_bodies.specs.declared.field.FieldName.{FieldName};
 ghost use Rattle.fpl_bodies.specs.declared.field.FieldName.TheVariants as field;
-ghost use Rattle.fpl_bodies.specs.Members.{Gives, GivesItems, each, entry, under};
+ghost use Rattle.fpl_bodies.specs.Members.{Gives, GivesItems, each, entry, last_moment, under};
 ghost use Rattle.fpl_bodies.specs.Requests.{club, clubs, deadlines, differ, line, lines, player_line};
 ghost use Rattle.json_tree.specs.Trees.{items_view, view};
 
@@ -49,7 +49,7 @@ pub(crate) fn deadlines(alloc: Global, value: &Tree<'_>) -> Result<Moments, Read
 }
 
 fn each_moment(alloc: Global, values: &[Tree<'_>]) -> Result<Moments, ReadFault>
-    ensures { Gives result (each (entry field.Deadlines 0 253402300799) (items_view values.now)) }
+    ensures { Gives result (each (entry field.Deadlines 0 last_moment) (items_view values.now)) }
 {
     let mut list = Moments::new(alloc);
     for value in values {

@@ -1,7 +1,7 @@
 // Readers of members, each by its name. A fault names the member.
-ghost use Rattle.std.specs.Prelude.{◌≡◌, ◌≤◌, IfOk, Ok, Err, MatchResult};
+ghost use Rattle.std.specs.Prelude.{◌≡◌, ◌≤◌, IfOk};
 ghost use Rattle.fpl_bodies.specs.declared.field.ReadFault.TheVariants as fault;
-ghost use Rattle.fpl_bodies.specs.Members.{Gives, GivesTrees, entry, items, moment, number_in, place, place_in, position_in, position_of, text, title, truth, whole};
+ghost use Rattle.fpl_bodies.specs.Members.{Gives, GivesText, GivesTrees, club_id, entry, fixture_id, gameweek, items, last_moment, moment, number_in, place, place_in, player_id, position_in, position_of, price, text, title, truth, whole};
 ghost use Rattle.json_tree.specs.Trees.{view};
 
 use crate::{FieldName, ReadFault};
@@ -42,35 +42,35 @@ pub(crate) fn whole(
 }
 
 pub(crate) fn club_id(value: &Tree<'_>, which: FieldName) -> Result<ClubId, ReadFault>
-    ensures { Gives result (whole which 1 255 (view value.now)) }
+    ensures { Gives result (club_id which (view value.now)) }
 {
     let n = whole(value, which, 1, 255)?;
     ClubId::new(n as u8).ok_or(wrong(which))
 }
 
 pub(crate) fn player_id(value: &Tree<'_>, which: FieldName) -> Result<PlayerId, ReadFault>
-    ensures { Gives result (whole which 1 999999 (view value.now)) }
+    ensures { Gives result (player_id which (view value.now)) }
 {
     let n = whole(value, which, 1, 999_999)?;
     PlayerId::new(n as u32).ok_or(wrong(which))
 }
 
 pub(crate) fn fixture_id(value: &Tree<'_>, which: FieldName) -> Result<FixtureId, ReadFault>
-    ensures { Gives result (whole which 1 999999 (view value.now)) }
+    ensures { Gives result (fixture_id which (view value.now)) }
 {
     let n = whole(value, which, 1, 999_999)?;
     FixtureId::new(n as u32).ok_or(wrong(which))
 }
 
 pub(crate) fn gameweek(value: &Tree<'_>, which: FieldName) -> Result<Gw, ReadFault>
-    ensures { Gives result (whole which 1 38 (view value.now)) }
+    ensures { Gives result (gameweek which (view value.now)) }
 {
     let n = whole(value, which, 1, 38)?;
     Gw::new(n as u8).ok_or(wrong(which))
 }
 
 pub(crate) fn price(value: &Tree<'_>, which: FieldName) -> Result<u16, ReadFault>
-    ensures { Gives result (whole which 0 65535 (view value.now)) }
+    ensures { Gives result (price which (view value.now)) }
 {
     let n = whole(value, which, 0, 65_535)?;
     Ok(n as u16)
@@ -85,7 +85,7 @@ pub(crate) fn moment(value: &Tree<'_>, which: FieldName) -> Result<Moment, ReadF
 
 /// The moment that a value is, as an item of the list of this name.
 pub(crate) fn moment_entry(value: &Tree<'_>, list: FieldName) -> Result<Moment, ReadFault>
-    ensures { Gives result (entry list 0 253402300799 (view value.now)) }
+    ensures { Gives result (entry list 0 last_moment (view value.now)) }
 {
     let n = entry(value, list, 0, 253_402_300_799)?;
     Moment::new(n).ok_or(wrong(list))
@@ -137,7 +137,7 @@ pub(crate) fn truth(value: &Tree<'_>, which: FieldName) -> Result<bool, ReadFaul
 }
 
 fn text<'a>(value: &Tree<'a>, which: FieldName) -> Result<&'a str, ReadFault>
-    ensures { MatchResult result (λ s. text which (view value.now) ≡ Ok s.now) (λ e. (e ≡ fault.Malformed which) × (text which (view value.now) ≡ Err which)) }
+    ensures { GivesText result (text which (view value.now)) }
 {
     match value.get(which.name()) {
         Some(one) => one.as_str().ok_or(wrong(which)),

@@ -1,6 +1,7 @@
 -- The tables that `matchit` keeps, one for each method.
 use Rattle.std.specs.Prelude.{◌≡◌, ℕ, List, [], ◌∷◌, Option, Some, None, MatchOption, Bool, true, false, Result, Ok, Err, if◌then◌else◌}
 use Rattle.std.specs.Borrow.{Bor}
+use Rattle.std.specs.Str.{IsUtf8}
 use Rattle.matchit.specs.Rows.{RowsOf}
 use Rattle.matchit.specs.Order.{placed}
 use Rattle.matchit.specs.Route.{Scan, parse_route}
@@ -13,7 +14,7 @@ use Rattle.fpl_routes.specs.declared.route.Found.TheVariants as found
 use Rattle.fpl_routes.specs.declared.route.Route.{Route}
 use Rattle.fpl_routes.specs.declared.route.Method.{Method}
 use Rattle.fpl_routes.specs.declared.routes.Place.{Place}
-use Rattle.fpl_routes.specs.Targets.{Fits, Row, is_method, place_of, rows_at, served}
+use Rattle.fpl_routes.specs.Targets.{Fits, IsShaped, Row, is_method, place_of, rows_at, served}
 
 -- patterns with what is served there, as a router keeps them
 abbrev pub Table : Type 0
@@ -37,6 +38,14 @@ row_of row = (row.0, row.1.now, row.2, row.3)
 -- a table with one more row, if it is one of this method
 abbrev pub with_row : Method → Row → Table → Table
 with_row method row rows = if is_method row.0 method then added_read (parse_route row.1) (place_of row) rows else rows
+
+-- a target has the shapes of one place at most
+abbrev pub IsOne : Method → List ℕ → Type 0
+IsOne method target = (a b : Place) → IsShaped method a target → IsShaped method b target → a ≡ b
+
+-- a target that is text has the shape of no place
+abbrev pub IsNowhere : Method → List ℕ → Type 0
+IsNowhere method target = IsUtf8 target → (place : Place) → IsShaped method place target → ⊥
 
 -- what a method finds at a target, with its ids
 abbrev pub IsAt : Method → List ℕ → Option (Route × List ℕ) → Type 0

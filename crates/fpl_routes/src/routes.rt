@@ -1,8 +1,7 @@
 // The routes of targets.
 ghost use Rattle.std.specs.Prelude.{◌≡◌, ◌≢◌, ◌≤◌, ◌<◌, ℕ, List, [], IfOk, IfNone, IfSome, MatchOption, ◌||◌, OnOk, map, drop, length, slice_index};
 ghost use Rattle.std.specs.Str.{IsUtf8};
-ghost use Rattle.fpl_routes.specs.declared.routes.Place.{Place};
-ghost use Rattle.fpl_routes.specs.Tables.{IsAt, all_added, row_of, table, told, with_row};
+ghost use Rattle.fpl_routes.specs.Tables.{IsAt, IsNowhere, IsOne, all_added, row_of, table, told, with_row};
 ghost use Rattle.fpl_routes.specs.Targets.{AreIds, IsFound, IsId, IsShaped, after_segment, braces, ids_in, is_method, method_of, own_segment, place_of, rows_at};
 
 use crate::Asks::{Command, View};
@@ -241,8 +240,8 @@ fn place_at(router: &Router<Place>, method: Method, target: &[u8]) -> Option<Pla
     requires { router.now ≡ table method }
     ensures text { IfSome result (λ place. IsUtf8 target.now) }
     ensures found { IfSome result (λ place. IsShaped method place target.now) }
-    ensures only { (a b : Place) → IsShaped method a target.now → IsShaped method b target.now → a ≡ b }
-    ensures none { IfNone result (IsUtf8 target.now → (place : Place) → IsShaped method place target.now → ⊥) }
+    ensures only { IsOne method target.now }
+    ensures none { IfNone result (IsNowhere method target.now) }
 {
     let Ok(text) = str::from_utf8(target) else {
         return None;

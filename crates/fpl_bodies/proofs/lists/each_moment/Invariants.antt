@@ -1,6 +1,6 @@
 use Rattle.std.proofs.Common.{◌≡◌, drop}
 use Rattle.fpl_bodies.specs.declared.field.FieldName.TheVariants as field
-use Rattle.fpl_bodies.specs.Members.{each, entry}
+use Rattle.fpl_bodies.specs.Members.{each, entry, last_moment}
 use Rattle.json_tree.specs.Trees.{items_view}
 use Rattle.fpl_bodies.proofs.ListLemmas.{with_front}
 use Rattle.fpl_bodies.proofs.lists.each_moment.Given as goal
@@ -8,5 +8,5 @@ use Rattle.fpl_bodies.proofs.lists.each_moment.Given as goal
 -- the moments so far and those of what is left are those of all
 abbrev pub invariant-loop-value : goal.invariant-loop-value
 invariant-loop-value l =
-    with_front l.list (each (entry field.Deadlines 0 253402300799) (items_view (drop l.value-index l.values)))
-    ≡ each (entry field.Deadlines 0 253402300799) (items_view l.values)
+    with_front l.list (each (entry field.Deadlines 0 last_moment) (items_view (drop l.value-index l.values)))
+    ≡ each (entry field.Deadlines 0 last_moment) (items_view l.values)
