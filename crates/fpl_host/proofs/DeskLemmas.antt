@@ -1,9 +1,14 @@
 -- Replies to what was asked of the host.
-use Rattle.std.proofs.Common.{◌≡◌, ℕ, List, Result, Ok, Err, IfOk, IsTrue, true, inl, inr, refl}
+use Rattle.std.proofs.Common.{◌≡◌, ◌∙◌, ap, sym, ℕ, List, Result, Ok, Err, IfOk, IsTrue, true, inl, inr, refl}
+use Rattle.serde_json.specs.Written.{compact_text}
 use Rattle.fpl_base.specs.declared.kinds.Caller.{Caller}
 use Rattle.fpl_base.specs.declared.memory.Memory.{Memory}
 use Rattle.fpl_http.specs.Responses.{is_answer_status}
 use Rattle.fpl_answers.specs.Answers.{done_status, status_of}
+use Rattle.fpl_answers.specs.MemberData.{error_data}
+use Rattle.fpl_http.specs.Stream.{Request as Message}
+use Rattle.fpl_json.specs.Targets.{IsFound}
+use Rattle.fpl_json.specs.declared.route.Found.{Found}
 use Rattle.fpl_http.specs.Seen.{reply_seen}
 use Rattle.fpl_http.specs.declared.responses.Reply.{Reply}
 use Rattle.fpl_session.specs.Replies.{answer_in}
@@ -14,7 +19,7 @@ use Rattle.season_book.specs.Verdict.{MayAnswer, MayBeLeft}
 use Rattle.season_book.specs.declared.answer.Answer.{Answer}
 use Rattle.season_book.specs.declared.answer.Answer.TheVariants as answer
 use Rattle.season_book.specs.declared.request.Request.{Request}
-use Rattle.fpl_host.specs.Replying.{IsJudged, reply_of}
+use Rattle.fpl_host.specs.Replying.{IsJudged, IsReply, RepliesTo, Served, error_reply, reply_of, way_of}
 
 -- behind each answer stands a book that may be left where memory ran out
 left_behind : (book after : Book) (caller : Caller) (now : ℕ) (request : Request) (reply : Answer) → MayAnswer book caller now request reply after → MayBeLeft book caller now request after
@@ -43,3 +48,14 @@ answer_is_status answer.Unknown = refl
 answer_is_status answer.Keeper = refl
 answer_is_status (answer.Damaged key) = refl
 answer_is_status answer.Memory = refl
+
+-- a message that goes nowhere is refused by one word, or there was no memory for that
+pub goes_nowhere : (old : Served) (message : Message) (at : Found) (status : ℕ) (word body : List ℕ) (r : Result Reply Memory)
+    → IsFound message.method message.target at → way_of at ≡ Err (error_reply status word) → body ≡ compact_text (error_data word)
+    → IfOk r (λ reply. reply_seen reply ≡ (status, body)) → IsReply old message (answer_in r) old
+goes_nowhere old message at status word body r found way text is =
+    (Err (error_reply status word), (Err (error_reply status word), (at, found, sym way), refl), replies r is)
+  where
+    replies : (s : Result Reply Memory) → IfOk s (λ reply. reply_seen reply ≡ (status, body)) → RepliesTo (Err (error_reply status word)) old (answer_in s) old
+    replies (Ok reply) same = (refl, inl (same ∙ ap (λ (b : List ℕ). (status, b)) text))
+    replies (Err none) same = (refl, inr refl)

@@ -59,7 +59,7 @@ fn asked_by(
     route: Route,
     ids: &[u32; 2],
 ) -> Result<Asked, Memory>
-    ensures { IfOk result (Asks (asked_by (caller_of host.now (request_seen message.now).key) route ids.now (request_seen message.now).body)) }
+    ensures { IfOk result (Asks (asked_along host.now (request_seen message.now) (Ok (route, ids.now)))) }
 {
     match caller_of(host, message) {
         None => refused(alloc, 401, key_text()),
@@ -131,7 +131,8 @@ fn judged<K: Keeper, C: Clock, L: Ledger>(
 ) -> Result<Reply, Memory>
     requires { IsRequest request.now }
     ensures status { IfOk result (λ reply. IsTrue (is_answer_status reply.status)) }
-    ensures judged { Judges (record { host = host.old; moments = C.left clock.old }) caller request.now (answer_in result) (record { host = host.new; moments = C.left clock.new }) }
+    ensures judged { Judges (record { host = host.old; moments = C.left clock.old }) caller request.now
+        (answer_in result) (record { host = host.new; moments = C.left clock.new }) }
 {
     let now = clock.now();
     let answer = host.answer(keeper, caller, now, request, steps);

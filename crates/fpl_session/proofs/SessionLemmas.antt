@@ -92,19 +92,23 @@ module _ {S : Type 0} (step : S → Request → List ℕ → S → Type 0) where
   session_ends most n left mid now got s r a b c u v w (Ends.Refused k) long short room first x wait h =
       let (t, refuses, heard) = joined_stops got h.got s.pending a b c u v w (Ends.Refused k) x h.stopped in
       (got ++ h.got, t, Consumes-trans left mid now got h.got first h.taken, few got h.got most n h.few long short room, refuses, heard)
-  session_ends most n left mid now got s r a b c u v w Ends.Write long short room first x wait h =
-      (got ++ h.got, Consumes-trans left mid now got h.got first h.taken, few got h.got most n h.few long short room, record {
-        earlier = got;
-        piece = h.got;
-        rest = s.pending;
-        mid = b;
-        between = v;
-        all = refl;
-        few = h.size;
-        whole = x;
-        waits = wait.front;
-        failed = h.stopped;
-      })
+  session_ends most n left mid now got s r a b c u v w Ends.Write long short room first x wait h = (
+    got ++ h.got,
+    Consumes-trans left mid now got h.got first h.taken,
+    few got h.got most n h.few long short room,
+    record {
+      earlier = got;
+      piece = h.got;
+      rest = s.pending;
+      mid = b;
+      between = v;
+      all = refl;
+      few = h.size;
+      whole = x;
+      waits = wait.front;
+      failed = h.stopped;
+    },
+  )
   session_ends most n left mid now got s r a b c u v w Ends.Long long short room first x wait h = absurd h
   session_ends most n left mid now got s r a b c u v w Ends.Memory long short room first x wait h = absurd h
 

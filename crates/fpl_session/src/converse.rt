@@ -7,10 +7,9 @@ ghost use Rattle.fpl_session.specs.Sessions.{SessionOf};
 
 use crate::ending::Ending;
 use crate::exchange::exchange;
-use crate::outbox::Outbox;
+use crate::places::Places;
 use crate::service::Service;
 use fpl_base::{Clock, Keeper, Sink, Source, Steps};
-use fpl_http::Decoder;
 use std::alloc::Global;
 use std::sync::ledger::Ledger;
 
@@ -20,21 +19,20 @@ const MAX_BYTES: u64 = 4_294_967_296;
 /// Reads pieces and answers their messages, until the session ends.
 pub fn converse<R: Service<H, K, C, L>, H, K: Keeper, S: Source, W: Sink, C: Clock, L: Ledger>(
     alloc: Global,
-    decoder: &mut Decoder,
+    places: &mut Places,
     buffer: &mut [u8],
     service: &R,
     host: &mut H,
     keeper: &mut K,
     src: &mut S,
-    outbox: &mut Outbox,
     out: &mut W,
     clock: &mut C,
     steps: &mut Steps<L>,
 ) -> Ending
     requires room { length buffer.old ≡ 65536 }
-    requires empty { outbox.old ≡ [] }
-    requires waiting { IsWaiting decoder.old }
-    requires fresh { decoder.old.pending ≡ [] }
+    requires empty { places.old.outbox ≡ [] }
+    requires waiting { IsWaiting places.old.decoder }
+    requires fresh { places.old.decoder.pending ≡ [] }
     requires ready { R.ready service.now (host.old, keeper.old, clock.old, steps.old) }
     ensures ready { R.ready service.now (host.new, keeper.new, clock.new, steps.new) }
     ensures session { SessionOf (Speaks (R.answers service.now)) (S.left src.old) (S.left src.new)
@@ -49,13 +47,12 @@ pub fn converse<R: Service<H, K, C, L>, H, K: Keeper, S: Source, W: Sink, C: Clo
     while taken < MAX_BYTES {
         match exchange(
             alloc,
-            decoder,
+            places,
             buffer,
             service,
             host,
             keeper,
             src,
-            outbox,
             out,
             clock,
             steps,

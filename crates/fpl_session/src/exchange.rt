@@ -7,8 +7,8 @@ ghost use Rattle.fpl_session.specs.Replies.{Speaks};
 ghost use Rattle.fpl_session.specs.Turns.{Exchanged};
 
 use crate::ending::Ending;
-use crate::outbox::Outbox;
 use crate::piece::serve_piece;
+use crate::places::Places;
 use crate::service::Service;
 use fpl_base::{Clock, Failed, Keeper, Sink, Source, Steps};
 use fpl_http::Decoder;
@@ -46,13 +46,12 @@ fn end_of_input(decoder: &Decoder) -> Ending
 /// the session ended.
 pub fn exchange<R: Service<H, K, C, L>, H, K: Keeper, S: Source, W: Sink, C: Clock, L: Ledger>(
     alloc: Global,
-    decoder: &mut Decoder,
+    places: &mut Places,
     buffer: &mut [u8],
     service: &R,
     host: &mut H,
     keeper: &mut K,
     src: &mut S,
-    outbox: &mut Outbox,
     out: &mut W,
     clock: &mut C,
     steps: &mut Steps<L>,
@@ -60,12 +59,13 @@ pub fn exchange<R: Service<H, K, C, L>, H, K: Keeper, S: Source, W: Sink, C: Clo
 ) -> Result<u64, Ending>
     requires most { 0 < most }
     requires room { length buffer.old ≡ 65536 }
-    requires empty { outbox.old ≡ [] }
-    requires waiting { IsWaiting decoder.old }
+    requires empty { places.old.outbox ≡ [] }
+    requires waiting { IsWaiting places.old.decoder }
     requires ready { R.ready service.now (host.old, keeper.old, clock.old, steps.old) }
-    ensures empty { outbox.new ≡ [] }
+    ensures empty { places.new.outbox ≡ [] }
     ensures ready { R.ready service.now (host.new, keeper.new, clock.new, steps.new) }
-    ensures exchanged { Exchanged (Speaks (R.answers service.now)) most (S.left src.old) (S.left src.new) decoder.old decoder.new
+    ensures exchanged { Exchanged (Speaks (R.answers service.now)) most (S.left src.old) (S.left src.new)
+        places.old.decoder places.new.decoder
         (R.see (host.old, keeper.old, clock.old, steps.old)) (R.see (host.new, keeper.new, clock.new, steps.new))
         (W.taken out.old) (W.taken out.new) result }
     ensures read_later { S.faults src.old ≤ S.faults src.new }
@@ -75,16 +75,15 @@ pub fn exchange<R: Service<H, K, C, L>, H, K: Keeper, S: Source, W: Sink, C: Clo
 {
     match read_piece(src, buffer, most) {
         Err(_) => Err(Ending::Read),
-        Ok(0) => Err(end_of_input(decoder)),
+        Ok(0) => Err(end_of_input(&places.decoder)),
         Ok(count) => match serve_piece(
             alloc,
-            decoder,
+            places,
             service,
             host,
             keeper,
             clock,
             steps,
-            outbox,
             out,
             &buffer[..count],
         ) {

@@ -8,6 +8,7 @@ mod exchange;
 mod opening;
 mod outbox;
 mod piece;
+mod places;
 mod service;
 mod turn;
 

@@ -8,6 +8,7 @@ ghost use Rattle.fpl_session.specs.Sessions.{EndsAs, SessionOf, SessionOver};
 use crate::converse::converse;
 use crate::ending::Ending;
 use crate::outbox::Outbox;
+use crate::places::Places;
 use crate::service::Service;
 use fpl_base::{Clock, Keeper, Memory, Sink, Source, Steps};
 use fpl_http::{Decoder, two_readings_are_one};
@@ -72,15 +73,14 @@ fn open_session<R: Service<H, K, C, L>, H, K: Keeper, S: Source, W: Sink, C: Clo
     ensures write { result ≡ Ending.Write → Rose (W.faults out.old) (W.faults out.new) }
 {
     match buffers(alloc) {
-        Ok((mut decoder, mut buffer, mut outbox)) => converse(
+        Ok((mut places, mut buffer)) => converse(
             alloc,
-            &mut decoder,
+            &mut places,
             &mut buffer,
             service,
             host,
             keeper,
             src,
-            &mut outbox,
             out,
             clock,
             steps,
@@ -91,12 +91,13 @@ fn open_session<R: Service<H, K, C, L>, H, K: Keeper, S: Source, W: Sink, C: Clo
 
 const PIECE: usize = 65_536;
 
-/// What a session needs: a decoder that holds nothing, a place to read into, and an empty outbox.
-fn buffers(alloc: Global) -> Result<(Decoder, Vec<u8>, Outbox), Memory>
-    ensures { IfOk result (λ p. IsWaiting p.0 × (p.0.pending ≡ []) × (length p.1.items ≡ 65536) × (p.2 ≡ [])) }
+/// What a session needs: places that hold nothing, and one to read into.
+fn buffers(alloc: Global) -> Result<(Places, Vec<u8>), Memory>
+    ensures { IfOk result (λ p. IsWaiting p.0.decoder × (p.0.decoder.pending ≡ [])
+        × (length p.1.items ≡ 65536) × (p.0.outbox ≡ [])) }
 {
     let decoder = Decoder::new(alloc)?;
     let buffer = vec![in alloc; 0; PIECE]?;
     let outbox = Outbox::new(alloc)?;
-    Ok((decoder, buffer, outbox))
+    Ok((Places { decoder, outbox }, buffer))
 }

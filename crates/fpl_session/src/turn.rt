@@ -6,6 +6,7 @@ ghost use Rattle.fpl_session.specs.Replies.{Speaks};
 ghost use Rattle.fpl_session.specs.Turns.{Turned};
 
 use crate::outbox::Outbox;
+use crate::places::Places;
 use crate::service::Service;
 use fpl_base::{Clock, Keeper, Memory, Steps};
 use fpl_http::{Decoder, Message, Next};
@@ -79,29 +80,35 @@ fn answer_found<R: Service<H, K, C, L>, H, K: Keeper, C: Clock, L: Ledger>(
 /// Calls the decoder once, and answers what it found.
 pub fn take_turn<R: Service<H, K, C, L>, H, K: Keeper, C: Clock, L: Ledger>(
     alloc: Global,
-    decoder: &mut Decoder,
+    places: &mut Places,
     service: &R,
     host: &mut H,
     keeper: &mut K,
     clock: &mut C,
     steps: &mut Steps<L>,
-    outbox: &mut Outbox,
 ) -> Turn
-    requires room { length outbox.old ≤ 262144 }
+    requires room { length places.old.outbox ≤ 262144 }
     requires ready { R.ready service.now (host.old, keeper.old, clock.old, steps.old) }
     ensures ready { R.ready service.now (host.new, keeper.new, clock.new, steps.new) }
-    ensures turned { Turned (Speaks (R.answers service.now)) decoder.old decoder.new
+    ensures turned { Turned (Speaks (R.answers service.now)) places.old.decoder places.new.decoder
         (R.see (host.old, keeper.old, clock.old, steps.old)) (R.see (host.new, keeper.new, clock.new, steps.new))
-        (Some outbox.old) (Some outbox.new) result }
+        (Some places.old.outbox) (Some places.new.outbox) result }
 {
-    match decoder.next() {
+    match places.decoder.next() {
         Next::NeedMore => Turn::Waits,
         Next::Refused(status) => {
-            outbox.respond(status, BYTES, true);
+            places.outbox.respond(status, BYTES, true);
             Turn::Refused(status)
         }
         Next::Message => if answer_found(
-            alloc, decoder, service, host, keeper, clock, steps, outbox,
+            alloc,
+            &places.decoder,
+            service,
+            host,
+            keeper,
+            clock,
+            steps,
+            &mut places.outbox,
         ) {
             Turn::Closed
         } else {

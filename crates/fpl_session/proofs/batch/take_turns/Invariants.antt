@@ -3,13 +3,13 @@ use Rattle.fpl_session.specs.Replies.{Speaks}
 use Rattle.fpl_session.specs.Runs.{Served}
 use Rattle.fpl_session.proofs.batch.take_turns.Given as goal
 
-abbrev pub invariant-loop-outbox : goal.invariant-loop-outbox
-invariant-loop-outbox g l = record {
+abbrev pub invariant-loop-places : goal.invariant-loop-places
+invariant-loop-places g l = record {
   ready : g.R.Service.ready l.service (l.host, l.keeper, l.clock, l.steps);
-  served : Served (Speaks (g.R.Service.answers l.service)) l.fn.decoder.pending l.decoder.pending (g.R.Service.see (l.fn.host, l.fn.keeper, l.fn.clock, l.fn.steps)) (g.R.Service.see (l.host, l.keeper, l.clock, l.steps)) (Some []) (Some l.outbox);
-  fewer : length l.decoder.pending ≤ length l.fn.decoder.pending;
-  room : length l.outbox ≤ 262144;
+  served : Served (Speaks (g.R.Service.answers l.service)) l.fn.places.decoder.pending l.places.decoder.pending (g.R.Service.see (l.fn.host, l.fn.keeper, l.fn.clock, l.fn.steps)) (g.R.Service.see (l.host, l.keeper, l.clock, l.steps)) (Some []) (Some l.places.outbox);
+  fewer : length l.places.decoder.pending ≤ length l.fn.places.decoder.pending;
+  room : length l.places.outbox ≤ 262144;
 }
 
-abbrev pub decreases-loop-outbox : goal.decreases-loop-outbox
-decreases-loop-outbox g l = length l.decoder.pending
+abbrev pub decreases-loop-places : goal.decreases-loop-places
+decreases-loop-places g l = length l.places.decoder.pending
