@@ -3,8 +3,7 @@ ghost use Rattle.rule_book.specs.Ranks.{AllDiffer};
 
 use super::*;
 use fpl_base::EntryId;
-use rule_book::ranks;
-use std::test::Fail;
+use std::alloc::Global;
 
 fn differ(ids: &[EntryId]) -> bool
     ensures { IsTrue result → AllDiffer ids.now }
@@ -19,31 +18,45 @@ fn differ(ids: &[EntryId]) -> bool
     true
 }
 
-// Two entries with the same total and transfers share a rank, and the next rank goes on by their number.
-#[test]
-fn shared_rank(rt: HostRuntime) -> Result<(), Fail> {
-    let given = [(1, 57, 3), (3, 57, 5), (2, 57, 3), (4, 60, 9)];
-    let mut rows = Vec::new(rt.alloc());
-    for (entry, total, transfers) in given {
-        rows.push((EntryId::new(entry).ok_or("no entry")?, total, transfers))?;
+// The place and the rank of an entry in the table of these rows.
+fn place(alloc: Global, rows: &[(EntryId, i32, u32)], entry: u32) -> Option<(usize, u32)> {
+    let ids: Vec<EntryId> = rows.iter().map(|row| row.0).collect(alloc).ok()?;
+    if !differ(&ids) {
+        return None;
     }
-    let ids: Vec<EntryId> = rows.iter().map(|row| row.0).collect(rt.alloc())?;
-    assert!(rt; differ(&ids));
-    let ranked = table(rt.alloc(), rows.as_slice())?;
-    let want = [(4, 1, 60, 9), (1, 2, 57, 3), (2, 2, 57, 3), (3, 4, 57, 5)];
-    assert_eq!(rt; ranked.len(), want.len());
-    for (row, (entry, rank, total, transfers)) in ranked.iter().zip(&want) {
-        assert_eq!(rt; row.entry.get(), *entry);
-        assert_eq!(rt; row.rank, *rank);
-        assert_eq!(rt; row.total, *total);
-        assert_eq!(rt; row.transfers, *transfers);
-    }
-    Ok(())
+    let table = table(alloc, rows).ok()?;
+    let place = table.iter().position(|row| row.entry.get() == entry)?;
+    Some((place, table[place].rank))
 }
 
+// So many entries, of which each has the total and the transfers of the row in turn.
+fn rows(alloc: Global, count: u32, given: &[(i32, u32)]) -> Option<Vec<(EntryId, i32, u32)>> {
+    let mut rows = Vec::new(alloc);
+    for number in 0..count {
+        let (total, transfers) = *given.get(number as usize % given.len().max(1))?;
+        rows.push((EntryId::new(number + 1)?, total, transfers))
+            .ok()?;
+    }
+    Some(rows)
+}
+
+// Entries with the same total and transfers share a rank, and the next rank is one more than the number of better ones.
 #[test]
-fn ranks_of_numbers(rt: HostRuntime) -> Result<(), Fail> {
-    let ranks = ranks(rt.alloc(), &[30, 10, 10, 20])?;
-    assert_eq!(rt; ranks.as_slice(), [4, 1, 1, 3].as_slice());
-    Ok(())
+fn tables(rt: HostRuntime) {
+    let given = [(57, 3), (57, 3), (57, 5), (60, 9)];
+    for (count, entry, wanted) in [
+        (4, 4, (0, 1)),
+        (4, 1, (1, 2)),
+        (4, 2, (2, 2)),
+        (4, 3, (3, 4)),
+        (400, 400, (99, 1)),
+        (400, 1, (100, 101)),
+        (400, 399, (399, 301)),
+    ] {
+        let place = match rows(rt.alloc(), count, &given) {
+            Some(rows) => place(rt.alloc(), &rows, entry),
+            None => None,
+        };
+        assert_eq!(rt; place, Some(wanted));
+    }
 }

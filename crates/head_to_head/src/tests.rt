@@ -2,25 +2,8 @@ ghost use Rattle.std.specs.Prelude.{IsTrue};
 ghost use Rattle.rule_book.specs.Ranks.{AllDiffer};
 
 use super::*;
-use fpl_base::{EntryId, Rule};
+use fpl_base::EntryId;
 use std::alloc::Global;
-use std::process::Abort;
-use std::test::Fail;
-
-fn met(rt: &impl Abort, members: usize, round: u32, place: usize) -> Opponent {
-    assert!(rt; members >= 2);
-    assert!(rt; members <= 64);
-    assert!(rt; place < members);
-    opponent(members, round, place)
-}
-
-fn entries(alloc: Global, ids: &[u32]) -> Result<Vec<EntryId>, Fail> {
-    let mut entries = Vec::new(alloc);
-    for id in ids {
-        entries.push(EntryId::new(*id).ok_or("no entry")?)?;
-    }
-    Ok(entries)
-}
 
 fn differ(ids: &[EntryId]) -> bool
     ensures { IsTrue result → AllDiffer ids.now }
@@ -35,116 +18,87 @@ fn differ(ids: &[EntryId]) -> bool
     true
 }
 
-// A round of four members and of three, pair by pair.
-#[test]
-fn rounds(rt: HostRuntime) {
-    let pairs = [
-        (4, 0, 1, 2),
-        (4, 0, 0, 3),
-        (4, 1, 0, 1),
-        (4, 1, 2, 3),
-        (4, 2, 0, 2),
-        (4, 2, 1, 3),
-        (4, 3, 1, 2),
-        (4, 3, 0, 3),
-        (3, 0, 1, 2),
-    ];
-    for (members, round, one, other) in pairs {
-        assert_eq!(rt; met(&rt, members, round, one), Opponent::Place(other));
-        assert_eq!(rt; met(&rt, members, round, other), Opponent::Place(one));
+// The place that a place meets, 100 for the Average, and 200 where there is no such match.
+fn met(members: usize, round: u32, place: usize) -> usize {
+    if members < 2 || members > 64 || place >= members {
+        return 200;
     }
-    assert_eq!(rt; met(&rt, 3, 0, 0), Opponent::Average);
-    each_meets_one();
-    meet_once();
-    points_by_results();
-}
-
-#[test]
-fn averages(rt: HostRuntime) {
-    assert_eq!(rt; average(&[50, 41, 40]), 43);
-    assert_eq!(rt; average(&[-1, 0, 0]), -1);
-    assert_eq!(rt; average(&[-3, -3]), -3);
-    assert_eq!(rt; average(&[7]), 7);
-}
-
-// A draw of one member, and orders that name a member twice, leave one out or name another, are wrong.
-#[test]
-fn draws(rt: HostRuntime) -> Result<(), Fail> {
-    let cases = [
-        (&[2, 5, 9][..], &[9, 2, 5][..], true),
-        (&[2, 5][..], &[5, 2][..], true),
-        (&[2][..], &[2][..], false),
-        (&[2, 5, 9][..], &[9, 2, 9][..], false),
-        (&[2, 5, 9][..], &[9, 2][..], false),
-        (&[2, 5, 9][..], &[9, 2, 5, 5][..], false),
-        (&[2, 5, 9][..], &[9, 2, 4][..], false),
-    ];
-    for (members, order, right) in cases {
-        let members = entries(rt.alloc(), members)?;
-        let order = entries(rt.alloc(), order)?;
-        assert!(rt; differ(&members));
-        let judged = check_order(&order, &members);
-        assert_eq!(rt; judged, if right { Ok(()) } else { Err(Rule::DrawWrong) });
+    match opponent(members, round, place) {
+        Opponent::Place(other) => other,
+        Opponent::Average => 100,
     }
-    Ok(())
 }
 
-fn score_of(own: i32, other: i32) -> HeadScore {
+fn score(own: i32, other: i32) -> HeadScore {
     let points = result(own, other);
     HeadScore {
-        points: points as u32,
-        won: (points / 3) as u32,
-        drawn: (points % 3) as u32,
+        points: u32::from(points),
+        won: u32::from(points == 3),
+        drawn: u32::from(points == 1),
         lost: u32::from(points == 0),
         scored: own,
     }
 }
 
-// Three members with 50, 41 and 40 points: the first meets the Average, the others meet.
-#[test]
-fn three_members(rt: HostRuntime) -> Result<(), Fail> {
-    let mean = average(&[50, 41, 40]);
-    let ids = entries(rt.alloc(), &[1, 2, 3])?;
-    assert_eq!(rt; ids.len(), 3);
-    let rows = [
-        (ids[0], score_of(50, mean)),
-        (ids[1], score_of(41, 40)),
-        (ids[2], score_of(40, 41)),
-    ];
-    let want = [(1, 1, 3, 50), (2, 2, 3, 41), (3, 3, 0, 40)];
-    assert_table(&rt, &rows, &want)
-}
-
-// Match points come before points scored, and rows that are equal in both share a rank.
-#[test]
-fn shared_rank(rt: HostRuntime) -> Result<(), Fail> {
-    let ids = entries(rt.alloc(), &[4, 1, 3, 2])?;
-    assert_eq!(rt; ids.len(), 4);
-    let rows = [
-        (ids[0], score_of(30, 20)),
-        (ids[1], score_of(60, 60)),
-        (ids[2], score_of(-5, -5)),
-        (ids[3], score_of(60, 60)),
-    ];
-    let want = [(1, 4, 3, 30), (2, 1, 1, 60), (2, 2, 1, 60), (4, 3, 1, -5)];
-    assert_table(&rt, &rows, &want)
-}
-
-// The table of the rows has these ranks, entries, match points and points scored.
-fn assert_table(
-    rt: &(impl Abort + AllocGlobal),
-    rows: &[(EntryId, HeadScore)],
-    want: &[(u32, u32, u32, i32)],
-) -> Result<(), Fail> {
-    let ids: Vec<EntryId> = rows.iter().map(|row| row.0).collect(rt.alloc())?;
-    assert!(rt; differ(&ids));
-    let table = table(rt.alloc(), rows)?;
-    assert_eq!(rt; table.len(), want.len());
-    for (row, (rank, entry, points, scored)) in table.iter().zip(want) {
-        assert_eq!(rt; row.rank, *rank);
-        assert_eq!(rt; row.entry.get(), *entry);
-        assert_eq!(rt; row.score.points, *points);
-        assert_eq!(rt; row.score.scored, *scored);
+// So many entries, of which each has the match of the row in turn: its own points, and those of its opponent.
+fn rows(alloc: Global, count: u32, given: &[(i32, i32)]) -> Option<Vec<(EntryId, HeadScore)>> {
+    let mut rows = Vec::new(alloc);
+    for number in 0..count {
+        let (own, other) = *given.get(number as usize % given.len().max(1))?;
+        rows.push((EntryId::new(number + 1)?, score(own, other)))
+            .ok()?;
     }
-    Ok(())
+    Some(rows)
+}
+
+// The place and the rank of an entry in the table of these rows.
+fn place(alloc: Global, rows: &[(EntryId, HeadScore)], entry: u32) -> Option<(usize, u32)> {
+    let ids: Vec<EntryId> = rows.iter().map(|row| row.0).collect(alloc).ok()?;
+    if !differ(&ids) {
+        return None;
+    }
+    let table = table(alloc, rows).ok()?;
+    let place = table.iter().position(|row| row.entry.get() == entry)?;
+    Some((place, table[place].rank))
+}
+
+// Four members and three, of whom the Average takes the last place.
+#[test]
+fn rounds(rt: HostRuntime) {
+    for (members, round, one, other) in [
+        (4, 0, 1, 2),
+        (4, 0, 0, 3),
+        (4, 1, 0, 1),
+        (4, 2, 0, 2),
+        (4, 3, 3, 0),
+        (3, 0, 1, 2),
+        (3, 0, 0, 100),
+    ] {
+        assert_eq!(rt; met(members, round, one), other);
+    }
+    assert_eq!(rt; average(&[50, 41, 40]), 43);
+}
+
+// The three members of whom the first meets the Average, and tables with shared ranks.
+#[test]
+fn tables(rt: HostRuntime) {
+    let (three, shared) = (
+        [(50, 43), (41, 40), (40, 41)],
+        [(60, 60), (30, 20), (-5, -5)],
+    );
+    for (count, given, entry, wanted) in [
+        (3, three, 1, (0, 1)),
+        (3, three, 2, (1, 2)),
+        (3, three, 3, (2, 3)),
+        (6, shared, 5, (1, 1)),
+        (6, shared, 4, (3, 3)),
+        (6, shared, 6, (5, 5)),
+        (64, shared, 1, (21, 22)),
+    ] {
+        let place = match rows(rt.alloc(), count, &given) {
+            Some(rows) => place(rt.alloc(), &rows, entry),
+            None => None,
+        };
+        assert_eq!(rt; place, Some(wanted));
+    }
 }

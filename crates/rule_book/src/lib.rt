@@ -1,6 +1,5 @@
 //! The rules of the game, as definitions over numbers and lists: what a reader has to believe. The definitions stand
-//! in `specs/`, one topic a file. The code has the plain types of which they speak, and slow functions that compute
-//! them, for tests.
+//! in `specs/`, one topic a file. The code has the plain types of which they speak, and ranks.
 #![tactic(auto)]
 
 mod cup;
@@ -32,6 +31,3 @@ pub use tables::{HeadRanked, HeadScore, Ranked};
 pub use team::{Pick, Team};
 pub use team_score::{Armband, Eleven, Figures, TeamScore};
 pub use transfers::{Sale, Swap};
-
-#[cfg(test)]
-mod calendar_rows;

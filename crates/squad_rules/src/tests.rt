@@ -1,9 +1,5 @@
-use crate::{
-    Pick, check_lineup, check_squad, enough_is_formation, first_repeat, formation_ok, players_of,
-    positions_of,
-};
-use fpl_base::{ClubId, PlayerId, Position, Rule, Tenths};
-use std::process::Abort;
+use crate::{Pick, check_lineup, check_squad, positions_of};
+use fpl_base::{ClubId, PlayerId, Position, Tenths};
 
 // Four defenders, four midfielders and two forwards; one of each on the bench.
 const POSITIONS: [Position; 15] = [
@@ -24,130 +20,82 @@ const POSITIONS: [Position; 15] = [
     Position::Forward,
 ];
 
-fn player(rt: &impl Abort, id: u32) -> PlayerId {
-    PlayerId::new(id).expect(rt, "a player's number")
-}
-
-fn club(rt: &impl Abort, id: u8) -> ClubId {
-    ClubId::new(id).expect(rt, "a club's number")
-}
-
 // The players 1 to 15, by slot.
-fn squad(rt: &impl Abort) -> [Pick; 15] {
+fn squad() -> Option<[Pick; 15]> {
     let first = Pick {
-        player: player(rt, 1),
-        position: POSITIONS[0],
-        bought: Tenths::new(50).expect(rt, "a price"),
+        player: PlayerId::new(1)?,
+        position: Position::Keeper,
+        bought: Tenths::new(50)?,
     };
     let mut picks = [first; 15];
-    for (place, position) in POSITIONS.iter().enumerate() {
-        picks[place].player = player(rt, place as u32 + 1);
-        picks[place].position = *position;
+    for place in 0..15u8 {
+        picks[place as usize].player = PlayerId::new(u32::from(place) + 1)?;
+        picks[place as usize].position = POSITIONS[place as usize];
     }
-    picks
+    Some(picks)
 }
 
 // The clubs 1 to 5, three times.
-fn clubs(rt: &impl Abort) -> [ClubId; 15] {
-    let mut clubs = [club(rt, 1); 15];
+fn clubs() -> Option<[ClubId; 15]> {
+    let mut clubs = [ClubId::new(1)?; 15];
     for place in 0..15u8 {
-        clubs[place as usize] = club(rt, place % 5 + 1);
+        clubs[place as usize] = ClubId::new(place % 5 + 1)?;
     }
-    clubs
+    Some(clubs)
 }
 
-#[test]
-fn a_player_stands_once(rt: HostRuntime) {
-    let mut picks = squad(&rt);
-    let clubs = clubs(&rt);
-    assert_eq!(rt; check_squad(&picks, &clubs), Ok(()));
-    picks[2].player = player(&rt, 70);
-    picks[4].player = player(&rt, 70);
-    picks[14].player = player(&rt, 1);
-    picks[4].position = Position::Forward;
-    assert_eq!(rt;
-        check_squad(&picks, &clubs),
-        Err(Rule::Twice {
-            player: player(&rt, 70)
-        })
-    );
-    picks[4].player = player(&rt, 5);
-    assert_eq!(rt; first_repeat(&players_of(&picks)), Some(player(&rt, 1)));
-    picks[14].player = player(&rt, 15);
-    assert_eq!(rt; check_squad(&picks, &clubs), Err(Rule::SquadShape));
-}
-
-#[test]
-fn at_most_three_come_from_a_club(rt: HostRuntime) {
-    let picks = squad(&rt);
-    let mut clubs = clubs(&rt);
-    for place in 11..15usize {
-        clubs[place] = club(&rt, 9);
+// The number of the refusal of that squad where this player of this club stands in a slot of this position; 0 of none.
+fn squad_refused(slot: u8, id: u32, position: Position, club: u8) -> Option<u8> {
+    let place = usize::from(slot.checked_sub(1)?);
+    let (mut picks, mut clubs) = (squad()?, clubs()?);
+    if place >= 15 {
+        return None;
     }
-    for place in 0..4usize {
-        clubs[place] = club(&rt, 8);
+    picks[place].player = PlayerId::new(id)?;
+    picks[place].position = position;
+    clubs[place] = ClubId::new(club)?;
+    match check_squad(&picks, &clubs) {
+        Ok(()) => Some(0),
+        Err(rule) => Some(rule.number()),
     }
-    assert_eq!(rt;
-        check_squad(&picks, &clubs),
-        Err(Rule::ClubLimit { club: club(&rt, 8) })
+}
+
+// The same of its lineup, where these two slots are exchanged.
+fn lineup_refused(one: u8, other: u8, captain: u8, vice: u8) -> Option<u8> {
+    let (one, other) = (
+        usize::from(one.checked_sub(1)?),
+        usize::from(other.checked_sub(1)?),
     );
-    clubs[3] = club(&rt, 7);
-    assert_eq!(rt;
-        check_squad(&picks, &clubs),
-        Err(Rule::ClubLimit { club: club(&rt, 9) })
-    );
-    clubs[12] = club(&rt, 7);
-    assert_eq!(rt; check_squad(&picks, &clubs), Ok(()));
+    let mut positions = positions_of(&squad()?);
+    if one >= 15 || other >= 15 {
+        return None;
+    }
+    positions.swap(one, other);
+    match check_lineup(&positions, captain, vice) {
+        Ok(()) => Some(0),
+        Err(rule) => Some(rule.number()),
+    }
 }
 
 #[test]
-fn a_lineup_has_its_rules(rt: HostRuntime) {
-    let picks = squad(&rt);
-    let legal = positions_of(&picks);
-    let mut two_defenders = legal;
-    two_defenders[3] = Position::Midfielder;
-    two_defenders[4] = Position::Forward;
-    two_defenders[13] = Position::Defender;
-    two_defenders[14] = Position::Defender;
-    let mut bench_defender = two_defenders;
-    bench_defender[11] = Position::Defender;
-    bench_defender[12] = Position::Keeper;
-    assert_eq!(rt;
-        check_lineup(&bench_defender, 13, 2),
-        Err(Rule::LineupOrder)
-    );
-    assert_eq!(rt; check_lineup(&two_defenders, 13, 2), Err(Rule::Formation));
-    assert_eq!(rt; check_lineup(&legal, 13, 2), Err(Rule::Captain));
-    assert_eq!(rt; check_lineup(&legal, 2, 12), Err(Rule::Captain));
-    assert_eq!(rt; check_lineup(&legal, 0, 2), Err(Rule::Captain));
-    assert_eq!(rt; check_lineup(&legal, 2, 2), Err(Rule::Captain));
-    assert_eq!(rt; check_lineup(&legal, 11, 1), Ok(()));
-    enough_is_formation();
-}
-
-#[test]
-fn formations(rt: HostRuntime) {
-    for (d, m, f) in [
-        (3, 4, 3),
-        (3, 5, 2),
-        (4, 3, 3),
-        (4, 4, 2),
-        (4, 5, 1),
-        (5, 2, 3),
-        (5, 3, 2),
-        (5, 4, 1),
+fn squads_and_lineups(rt: HostRuntime) {
+    // the squad as it is; a player twice; twice and of another shape; another shape; a fourth of club 3
+    for (slot, id, position, club, wanted) in [
+        (3, 3, Position::Defender, 3, 0),
+        (3, 9, Position::Defender, 3, 16),
+        (3, 9, Position::Forward, 3, 16),
+        (3, 20, Position::Forward, 3, 15),
+        (2, 2, Position::Defender, 3, 17),
     ] {
-        assert!(rt; formation_ok(d, m, f));
+        assert_eq!(rt; squad_refused(slot, id, position, club), Some(wanted));
     }
-    for (d, m, f) in [
-        (2, 5, 3),
-        (6, 2, 2),
-        (3, 6, 1),
-        (5, 5, 0),
-        (5, 1, 4),
-        (4, 4, 3),
-        (255, 255, 12),
+    // a forward comes for a defender; the goalkeeper for a defender; a captain on the bench; one who is both
+    for (one, other, captain, vice, wanted) in [
+        (2, 15, 6, 7, 0),
+        (2, 12, 6, 7, 19),
+        (1, 1, 13, 7, 21),
+        (1, 1, 6, 6, 21),
     ] {
-        assert!(rt; !formation_ok(d, m, f));
+        assert_eq!(rt; lineup_refused(one, other, captain, vice), Some(wanted));
     }
 }
