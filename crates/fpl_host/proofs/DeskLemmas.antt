@@ -7,31 +7,33 @@ use Rattle.fpl_http.specs.Responses.{is_answer_status}
 use Rattle.fpl_answers.specs.Answers.{done_status, status_of}
 use Rattle.fpl_answers.specs.MemberData.{error_data}
 use Rattle.fpl_http.specs.Stream.{Request as Message}
-use Rattle.fpl_json.specs.Targets.{IsFound}
-use Rattle.fpl_json.specs.declared.route.Found.{Found}
+use Rattle.fpl_routes.specs.Targets.{IsFound}
+use Rattle.fpl_routes.specs.declared.route.Found.{Found}
 use Rattle.fpl_http.specs.Seen.{reply_seen}
 use Rattle.fpl_http.specs.declared.responses.Reply.{Reply}
 use Rattle.fpl_session.specs.Replies.{answer_in}
 use Rattle.season_book.specs.Book.{Book}
 use Rattle.season_book.specs.declared.made.Made.{Made}
 use Rattle.season_book.specs.declared.made.Made.TheVariants as made
-use Rattle.season_book.specs.Verdict.{MayAnswer, MayBeLeft}
+use Rattle.season_book.specs.Hosts.{HostState}
+use Rattle.season_book.specs.Verdict.{Failures, MayAnswer, MayBeLeft}
 use Rattle.season_book.specs.declared.answer.Answer.{Answer}
 use Rattle.season_book.specs.declared.answer.Answer.TheVariants as answer
 use Rattle.season_book.specs.declared.request.Request.{Request}
 use Rattle.fpl_host.specs.Replying.{IsJudged, IsReply, RepliesTo, Served, error_reply, reply_of, way_of}
 
 -- behind each answer stands a book that may be left where memory ran out
-left_behind : (book after : Book) (caller : Caller) (now : ℕ) (request : Request) (reply : Answer) → MayAnswer book caller now request reply after → MayBeLeft book caller now request after
-left_behind book after caller now request reply (inl verdict) = inr (inr (reply, verdict))
-left_behind book after caller now request reply (inr (_, left)) = left
+left_behind : (host : HostState) (failures : Failures) (after : Book) (caller : Caller) (now : ℕ) (request : Request) (reply : Answer)
+    → MayAnswer host.operator failures host.book caller now request reply after → MayBeLeft host.operator host.book caller now request after
+left_behind host failures after caller now request reply (inl verdict) = inr (inr (reply, verdict))
+left_behind host failures after caller now request reply (inr (_, left)) = left
 
 -- an answer of the host that was written, or for which there was no memory
-pub judged_by : (book after : Book) (caller : Caller) (now : ℕ) (request : Request) (answered : Answer) (r : Result Reply Memory)
-    → MayAnswer book caller now request answered after → IfOk r (λ reply. reply_seen reply ≡ reply_of answered)
-    → IsJudged book caller now request (answer_in r) after
-judged_by book after caller now request answered (Ok reply) may e = inl (answered, may, e)
-judged_by book after caller now request answered (Err _) may e = inr (refl, left_behind book after caller now request answered may)
+pub judged_by : (host : HostState) (failures : Failures) (after : Book) (caller : Caller) (now : ℕ) (request : Request) (answered : Answer) (r : Result Reply Memory)
+    → MayAnswer host.operator failures host.book caller now request answered after → IfOk r (λ reply. reply_seen reply ≡ reply_of answered)
+    → IsJudged host failures caller now request (answer_in r) after
+judged_by host failures after caller now request answered (Ok reply) may e = inl (answered, may, e)
+judged_by host failures after caller now request answered (Err _) may e = inr (refl, left_behind host failures after caller now request answered may)
 
 done_is_status : (what : Made) → IsTrue (is_answer_status (done_status what))
 done_is_status made.Nothing = refl

@@ -4,6 +4,7 @@ use Rattle.std.specs.Prelude.{Ok, Err}
 use Rattle.fpl_base.specs.declared.kinds.Caller.{Caller}
 use Rattle.season_book.specs.Once.{CommandsActOnce}
 use Rattle.season_book.specs.Runs.{Asked, Run as HostRun}
+use Rattle.season_book.specs.Verdict.{Failures}
 use Rattle.season_book.specs.declared.answer.Answer.{Answer}
 use Rattle.season_book.specs.declared.answer.Answer.TheVariants as answer
 use Rattle.season_book.specs.declared.request.Request.{Request}
@@ -12,7 +13,7 @@ use Rattle.fpl_routes.specs.Targets.{OneFound}
 use Rattle.fpl_session.specs.Replies.{Speaks}
 use Rattle.fpl_session.specs.Runs.{Run}
 use Rattle.fpl_host.specs.Once.{AreJudged, IsJudgedAs, MessagesActOnce, OneAsked}
-use Rattle.fpl_host.specs.Replying.{Asking, IsAsked, IsJudged, IsReply, Judges, Reply, Served, asked_along, way_of}
+use Rattle.fpl_host.specs.Replying.{Asking, IsAsked, IsJudged, IsReply, Judges, Reply, Served, asked_along, failures_in, way_of}
 
 pub one_asked : OneFound → OneAsked
 one_asked one host message a b (way, (at, found, goes), is) (way', (at', found', goes'), is') =
@@ -40,8 +41,8 @@ passed old mid new m messages same told = record {
   judged = passed_in old m messages told.asked told.answers new (subst (λ (s : Served). AreJudged s messages told.asked told.answers new) same told.judged);
 }
 
-abbrev asked_by : (caller : Caller) (now : ℕ) (request : Request) → Asked
-asked_by caller now request = record { caller = caller; now = now; request = request }
+abbrev asked_by : (caller : Caller) (now : ℕ) (request : Request) (failures : Failures) → Asked
+asked_by caller now request failures = record { caller = caller; now = now; request = request; failures = failures }
 
 one_more : (old mid new : Served) (m : Message) (messages : List Message) (one : Asked) (answer : Answer)
     → IsJudgedAs old m one answer mid → Told mid messages new → Told old (m ∷ messages) new
@@ -55,13 +56,13 @@ judges : (old mid new : Served) (m : Message) (messages : List Message) (caller 
     → IsAsked old.host m (Ok (caller, request)) → Judges old caller request reply mid → Told mid messages new → Told old (m ∷ messages) new
 judges old mid new m messages caller request reply asks how told = by how.judged
   where
-    by : IsJudged old.host.book caller how.now request reply mid.host.book → Told old (m ∷ messages) new
+    by : IsJudged old.host (failures_in old mid) caller how.now request reply mid.host.book → Told old (m ∷ messages) new
     by (inl (answer, may, is)) =
-        one_more old mid new m messages (asked_by caller how.now request) answer
-        (record { asks = asks; told = how.told; answered = may; operator = how.operator }) told
+        one_more old mid new m messages (asked_by caller how.now request (failures_in old mid)) answer
+        (record { asks = asks; told = how.told; failures = refl; answered = may; operator = how.operator }) told
     by (inr (full, left)) =
-        one_more old mid new m messages (asked_by caller how.now request) answer.Memory
-        (record { asks = asks; told = how.told; answered = inr (refl, left); operator = how.operator }) told
+        one_more old mid new m messages (asked_by caller how.now request (failures_in old mid)) answer.Memory
+        (record { asks = asks; told = how.told; failures = refl; answered = inr (inl refl, left); operator = how.operator }) told
 
 replied : (old mid new : Served) (m : Message) (messages : List Message) (reply : Reply) → IsReply old m reply mid → Told mid messages new → Told old (m ∷ messages) new
 replied old mid new m messages reply (Err refusal, asks, to) told = passed old mid new m messages to.0 told
@@ -77,7 +78,7 @@ told_in old new (m ∷ messages) (t ∷ texts) (mid, speaks, rest) =
     replied old mid new m messages speaks.answer speaks.answered (told_in mid new messages texts rest)
 
 run_of : (old new : Served) (messages : List Message) (asked : List Asked) (answers : List Answer)
-    → AreJudged old messages asked answers new → HostRun old.host.book asked answers new.host.book
+    → AreJudged old messages asked answers new → HostRun old.host.operator old.host.book asked answers new.host.book
 run_of old new [] [] [] judged = ap (λ (s : Served). s.host.book) judged
 run_of old new [] [] (answer ∷ answers) judged = absurd judged
 run_of old new [] (one ∷ more) [] judged = absurd judged
@@ -87,10 +88,10 @@ run_of old new (m ∷ messages) [] (answer ∷ answers) judged = absurd judged
 run_of old new (m ∷ messages) (one ∷ more) [] judged = absurd judged
 run_of old new (m ∷ messages) (one ∷ more) (answer ∷ answers) (inl judged) = run_of old new messages (one ∷ more) (answer ∷ answers) judged
 run_of old new (m ∷ messages) (one ∷ more) (answer ∷ answers) (inr (mid, is, judged)) =
-    (mid.host.book, is.answered, run_of mid new messages more answers judged)
+    (mid.host.book, is.answered, subst (λ (key : List ℕ). HostRun key mid.host.book more answers new.host.book) is.operator (run_of mid new messages more answers judged))
 
 pub messages_act_once : CommandsActOnce → MessagesActOnce
 messages_act_once once old new messages texts run =
     let told = told_in old new messages texts run in
-    let (acts, acted, rise) = once old.host.book new.host.book told.asked told.answers (run_of old new messages told.asked told.answers told.judged) in
+    let (acts, acted, rise) = once old.host.operator old.host.book new.host.book told.asked told.answers (run_of old new messages told.asked told.answers told.judged) in
     (told.asked, told.answers, acts, told.judged, acted, rise)

@@ -21,18 +21,18 @@ Consumes-nil None = tt
 Consumes-nil (Some x) = refl
 
 -- a host that was opened, and a session of it
-pub one_session : (key : List ℕ) (left now : Option (List ℕ)) (moments later : Option Moments) (before after : Option (List ℕ)) (status : ℕ) (ending : Ending) (first last : HostState)
-    → first ≡ (opened key moments).host → status ≡ status_of ending
-    → SessionOf (Speaks IsReply) left now (record { host = first; moments = moments }) (record { host = last; moments = later }) before after ending
-    → IfSome left (λ all. SessionOver (Speaks IsReply) all (record { host = first; moments = moments }) (record { host = last; moments = later }) before after ending)
+pub one_session : (key : List ℕ) (left now : Option (List ℕ)) (moments later : Option Moments) (failed fails : ℕ) (before after : Option (List ℕ)) (status : ℕ) (ending : Ending) (first last : HostState)
+    → first ≡ (opened key moments failed).host → status ≡ status_of ending
+    → SessionOf (Speaks IsReply) left now (record { host = first; moments = moments; failed = failed }) (record { host = last; moments = later; failed = fails }) before after ending
+    → IfSome left (λ all. SessionOver (Speaks IsReply) all (record { host = first; moments = moments; failed = failed }) (record { host = last; moments = later; failed = fails }) before after ending)
     → IfSome left (λ all. EndsAs all ending)
-    → Pipes key left now moments later before after status
-one_session key left now moments later before after status ending first last is_opened is_status taken over exact = record {
+    → Pipes key left now moments later failed fails before after status
+one_session key left now moments later failed fails before after status ending first last is_opened is_status taken over exact = record {
   ending = ending;
   host = last;
   is_status = is_status;
-  taken = subst (λ (h : HostState). SessionOf (Speaks IsReply) left now (record { host = h; moments = moments }) (record { host = last; moments = later }) before after ending) is_opened taken;
-  over = subst (λ (h : HostState). IfSome left (λ all. SessionOver (Speaks IsReply) all (record { host = h; moments = moments }) (record { host = last; moments = later }) before after ending)) is_opened over;
+  taken = subst (λ (h : HostState). SessionOf (Speaks IsReply) left now (record { host = h; moments = moments; failed = failed }) (record { host = last; moments = later; failed = fails }) before after ending) is_opened taken;
+  over = subst (λ (h : HostState). IfSome left (λ all. SessionOver (Speaks IsReply) all (record { host = h; moments = moments; failed = failed }) (record { host = last; moments = later; failed = fails }) before after ending)) is_opened over;
   exact = exact;
 }
 
@@ -45,12 +45,12 @@ ends_any None = tt
 ends_any (Some all) = λ ms f reads. inr tt
 
 -- there was no memory for a session
-pub no_session : (key : List ℕ) (left : Option (List ℕ)) (moments : Option Moments) (before : Option (List ℕ)) → Pipes key left left moments moments before before 6
-no_session key left moments before = record {
+pub no_session : (key : List ℕ) (left : Option (List ℕ)) (moments : Option Moments) (failed : ℕ) (before : Option (List ℕ)) → Pipes key left left moments moments failed failed before before 6
+no_session key left moments failed before = record {
   ending = ends.Memory;
-  host = (opened key moments).host;
+  host = (opened key moments failed).host;
   is_status = refl;
   taken = (Consumes-nil left, refl, Appends-nil before);
-  over = heard_none left (opened key moments) before;
+  over = heard_none left (opened key moments failed) before;
   exact = ends_any left;
 }

@@ -11,7 +11,7 @@ use Rattle.season_book.specs.declared.answer.Answer.{Answer}
 use Rattle.fpl_http.specs.Stream.{Request as Message}
 use Rattle.fpl_session.specs.Replies.{Speaks}
 use Rattle.fpl_session.specs.Runs.{Run}
-use Rattle.fpl_host.specs.Replying.{Asking, IsAsked, IsReply, Served}
+use Rattle.fpl_host.specs.Replying.{Asking, IsAsked, IsReply, Served, failures_in}
 
 -- a message asks one thing of a host, or is refused in one way before the host judges it
 abbrev pub OneAsked : Type 0
@@ -21,7 +21,8 @@ OneAsked = (host : HostState) (message : Message) (a b : Asking) → IsAsked hos
 pub record IsJudgedAs (old : Served) (message : Message) (asked : Asked) (answer : Answer) (new : Served) : Type 0 where
   pub asks : IsAsked old.host message (Ok (asked.caller, asked.request))
   pub told : Tells old.moments asked.now new.moments
-  pub answered : MayAnswer old.host.book asked.caller asked.now asked.request answer new.host.book
+  pub failures : asked.failures ≡ failures_in old new
+  pub answered : MayAnswer old.host.operator asked.failures old.host.book asked.caller asked.now asked.request answer new.host.book
   pub operator : new.host.operator ≡ old.host.operator
 
 -- what the host judged of these messages, one after another, and what it answered; the other messages changed nothing
@@ -38,5 +39,5 @@ AreJudged old messages asked answers new = ⊥
 abbrev pub MessagesActOnce : Type 0
 MessagesActOnce = (old new : Served) (messages : List Message) (texts : List (List ℕ)) → Run (Speaks IsReply) old messages texts new
     → (asked : List Asked) × (answers : List Answer) × (acts : List Bool) × AreJudged old messages asked answers new
-    × Acted old.host.book asked answers acts new.host.book
+    × Acted old.host.operator old.host.book asked answers acts new.host.book
     × ((caller : Caller) → RiseByOne (last_number old.host.book caller) (acted_numbers (caller_number caller) asked acts))

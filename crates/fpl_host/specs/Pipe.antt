@@ -29,16 +29,17 @@ IsPipe words key = (words ≡ codes "pipe" ∷ codes "--key" ∷ key ∷ []) × 
 abbrev pub IsSomePipe : List (List ℕ) → Type 0
 IsSomePipe words = (key : List ℕ) × IsPipe words key
 
--- where a session begins: a host of this operator without a season, and all the moments of the clock
-abbrev pub opened : List ℕ → Option Moments → Served
-opened key moments = record { host = record { operator = key; book = empty_book }; moments = moments }
+-- where a session begins: a host of this operator without a season, all the moments of the clock, and how often the
+-- keeper has failed
+abbrev pub opened : List ℕ → Option Moments → ℕ → Served
+opened key moments failed = record { host = record { operator = key; book = empty_book }; moments = moments; failed = failed }
 
 -- a run of the command: it was one session of the host, from without a season, over the input and the output, with the
 -- moments that the clock told, and the status is that of its ending
-pub record Pipes (key : List ℕ) (left now : Option (List ℕ)) (moments later : Option Moments) (before after : Option (List ℕ)) (status : ℕ) : Type 0 where
+pub record Pipes (key : List ℕ) (left now : Option (List ℕ)) (moments later : Option Moments) (failed fails : ℕ) (before after : Option (List ℕ)) (status : ℕ) : Type 0 where
   pub ending : Ending
   pub host : HostState
   pub is_status : status ≡ status_of ending
-  pub taken : SessionOf (Speaks IsReply) left now (opened key moments) (record { host = host; moments = later }) before after ending
-  pub over : IfSome left (λ all. SessionOver (Speaks IsReply) all (opened key moments) (record { host = host; moments = later }) before after ending)
+  pub taken : SessionOf (Speaks IsReply) left now (opened key moments failed) (record { host = host; moments = later; failed = fails }) before after ending
+  pub over : IfSome left (λ all. SessionOver (Speaks IsReply) all (opened key moments failed) (record { host = host; moments = later; failed = fails }) before after ending)
   pub exact : IfSome left (λ all. EndsAs all ending)

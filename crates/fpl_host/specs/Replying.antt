@@ -5,7 +5,7 @@ use Rattle.fpl_base.specs.declared.kinds.Caller.{Caller}
 use Rattle.fpl_base.specs.Moments.{Moments, Tells}
 use Rattle.season_book.specs.Book.{Book}
 use Rattle.season_book.specs.Hosts.{HostState, owner_of}
-use Rattle.season_book.specs.Verdict.{MayAnswer, MayBeLeft}
+use Rattle.season_book.specs.Verdict.{Failures, MayAnswer, MayBeLeft}
 use Rattle.season_book.specs.declared.answer.Answer.{Answer}
 use Rattle.season_book.specs.declared.request.Request.{Request as Asked}
 use Rattle.fpl_answers.specs.Answers.{answer_data, status_of}
@@ -84,23 +84,29 @@ asked_along host message (Ok (route, ids)) = asked_by (caller_of host message.ke
 abbrev pub IsAsked : HostState → Request → Asking → Type 0
 IsAsked host message asking = (way : Way) × Goes message way × (asking ≡ asked_along host message way)
 
--- what goes from message to message: the host, and the moments that the clock has left, if it tells them
+-- what goes from message to message: the host, the moments that the clock has left, if it tells them, and how often the
+-- keeper has failed
 pub record Served : Type 0 where
   pub host : HostState
   pub moments : Option Moments
+  pub failed : ℕ
 
 -- the reply to a request that the host judged: that of what it may answer; or memory was wanting, and the book is one
 -- of those that may be left then
-abbrev pub IsJudged : Book → Caller → ℕ → Asked → Reply → Book → Type 0
-IsJudged book caller now request reply after =
-    ((answer : Answer) × MayAnswer book caller now request answer after × (reply ≡ reply_of answer))
-    ⊎ ((reply ≡ full_reply) × MayBeLeft book caller now request after)
+abbrev pub IsJudged : HostState → Failures → Caller → ℕ → Asked → Reply → Book → Type 0
+IsJudged host failures caller now request reply after =
+    ((answer : Answer) × MayAnswer host.operator failures host.book caller now request answer after × (reply ≡ reply_of answer))
+    ⊎ ((reply ≡ full_reply) × MayBeLeft host.operator host.book caller now request after)
+
+-- how often the keeper had failed before a message, and behind it
+abbrev pub failures_in : Served → Served → Failures
+failures_in old new = record { before = old.failed; behind = new.failed }
 
 -- one moment was told, the request was judged by it, and the operator's key stayed
 pub record Judges (old : Served) (caller : Caller) (request : Asked) (reply : Reply) (new : Served) : Type 0 where
   pub now : ℕ
   pub told : Tells old.moments now new.moments
-  pub judged : IsJudged old.host.book caller now request reply new.host.book
+  pub judged : IsJudged old.host (failures_in old new) caller now request reply new.host.book
   pub operator : new.host.operator ≡ old.host.operator
 
 -- what was asked is replied to: a refusal asks no moment and changes nothing, and so does want of memory before the

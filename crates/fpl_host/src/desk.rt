@@ -108,8 +108,8 @@ fn answered<K: Keeper, C: Clock, L: Ledger>(
 ) -> Result<Reply, Memory>
     ensures status { IfOk result (λ reply. IsTrue (is_answer_status reply.status)) }
     ensures answered { RepliesTo (asked_along host.old.host (request_seen message.now) (Ok (route, ids.now)))
-        (record { host = host.old.host; moments = C.left clock.old })
-        (answer_in result) (record { host = host.new.host; moments = C.left clock.new }) }
+        (record { host = host.old.host; moments = C.left clock.old; failed = K.faults keeper.old })
+        (answer_in result) (record { host = host.new.host; moments = C.left clock.new; failed = K.faults keeper.new }) }
 {
     match asked_by(alloc, &host.host, &mut host.scratch, message, route, ids)? {
         Asked::Refused(reply) => Ok(reply),
@@ -131,8 +131,8 @@ fn judged<K: Keeper, C: Clock, L: Ledger>(
 ) -> Result<Reply, Memory>
     requires { IsRequest request.now }
     ensures status { IfOk result (λ reply. IsTrue (is_answer_status reply.status)) }
-    ensures judged { Judges (record { host = host.old; moments = C.left clock.old }) caller request.now
-        (answer_in result) (record { host = host.new; moments = C.left clock.new }) }
+    ensures judged { Judges (record { host = host.old; moments = C.left clock.old; failed = K.faults keeper.old }) caller request.now
+        (answer_in result) (record { host = host.new; moments = C.left clock.new; failed = K.faults keeper.new }) }
 {
     let now = clock.now();
     let answer = host.answer(keeper, caller, now, request, steps);
@@ -191,7 +191,7 @@ fn read(
 impl<K: Keeper, C: Clock, L: Ledger> Service<HostWithScratch, K, C, L> for Desk {
     ghost State = { Served };
 
-    ghost see = { λ now. record { host = now.0.host; moments = C.left now.2 } };
+    ghost see = { λ now. record { host = now.0.host; moments = C.left now.2; failed = K.faults now.1 } };
 
     ghost answers = { λ _ old message reply new. IsReply old message reply new };
 

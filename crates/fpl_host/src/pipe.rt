@@ -23,7 +23,7 @@ pub fn pipe<S: Source, W: Sink, C: Clock, K: Keeper, L: Ledger>(
     keeper: &mut K,
     steps: &mut Steps<L>,
 ) -> u8
-    ensures session { Pipes key.now (S.left input.old) (S.left input.new) (C.left clock.old) (C.left clock.new) (W.taken output.old) (W.taken output.new) result }
+    ensures session { Pipes key.now (S.left input.old) (S.left input.new) (C.left clock.old) (C.left clock.new) (K.faults keeper.old) (K.faults keeper.new) (W.taken output.old) (W.taken output.new) result }
     ensures read { result ≡ 1 → Rose (S.faults input.old) (S.faults input.new) }
     ensures write { result ≡ 3 → Rose (W.faults output.old) (W.faults output.new) }
 {
@@ -42,7 +42,8 @@ fn opened<K: Keeper, L: Ledger>(
     keeper: &mut K,
     steps: &mut Steps<L>,
 ) -> Result<(Desk, HostWithScratch), Memory>
-    ensures { IfOk result (λ opened. opened.1.host ≡ record { operator = key.now; book = empty_book }) }
+    ensures opened { IfOk result (λ opened. opened.1.host ≡ record { operator = key.now; book = empty_book }) }
+    ensures keeper { keeper.new ≡ keeper.old }
 {
     let desk = Desk::new(alloc)?;
     match Host::open(alloc, keeper, key, steps) {

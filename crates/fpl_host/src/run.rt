@@ -34,7 +34,7 @@ pub fn run<S: Source, W: Sink, C: Clock, K: Keeper, D: Doors, F: Shelf, L: Ledge
     ensures score_memory { IsScore words.now → result ≡ 6 → Keeps (W.taken output.old) (W.taken output.new) }
 
     // The command `pipe` is one session of the host, over all that the input had.
-    ensures pipe { (key : List ℕ) → IsPipe words.now key → Pipes key (S.left input.old) (S.left input.new) (C.left clock.old) (C.left clock.new) (W.taken output.old) (W.taken output.new) result }
+    ensures pipe { (key : List ℕ) → IsPipe words.now key → Pipes key (S.left input.old) (S.left input.new) (C.left clock.old) (C.left clock.new) (K.faults keeper.old) (K.faults keeper.new) (W.taken output.old) (W.taken output.new) result }
 
     // Other words are not read, or memory ran out before they were.
     ensures others { (IsScore words.now → ⊥) → (IsSomePipe words.now → ⊥) → Ends IsNotReadDue result (W.taken output.old) (W.taken output.new) }

@@ -50,11 +50,12 @@ impl Host {
     /// A host without a season. The keeper is not called yet.
     pub fn open<K: Keeper, L: Ledger>(
         alloc: Global,
-        _keeper: &mut K,
+        keeper: &mut K,
         operator: &Key,
         _steps: &mut Steps<L>,
     ) -> Result<Host, OpenFault>
-        ensures { MatchResult result (λ host. host ≡ record { operator = operator.now; book = empty_book }) (λ fault. fault ≡ OpenFault.Memory) }
+        ensures keeper { keeper.new ≡ keeper.old }
+        ensures opened { MatchResult result (λ host. host ≡ record { operator = operator.now; book = empty_book }) (λ fault. fault ≡ OpenFault.Memory) }
     {
         match operator.copy() {
             Ok(operator) => Ok(Host {
