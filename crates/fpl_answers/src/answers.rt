@@ -11,8 +11,7 @@ use crate::views::{room_of, write_shown};
 use fpl_base::{Memory, RecordKey};
 use fpl_http::Reply;
 use json::Writer;
-use season_book::Made;
-use season_book::Answer;
+use season_book::{Answer, Made};
 use std::alloc::{AllocError, Global};
 
 /// The reply that tells an answer. Its only error is want of memory.

@@ -1,9 +1,8 @@
 // Answers that the built program does not show yet, and the largest view, with the exact text of each.
 use crate::answer_text;
 use fpl_base::{ClubId, CupId, EntryId, FixtureId, LeagueId, Moment, PlayerId, RecordKey, Rule};
-use season_book::Made;
 use rule_book::Fixture;
-use season_book::{Answer, Shown, ShownFixture, ShownLine, ShownLines};
+use season_book::{Answer, Made, Shown, ShownFixture, ShownLine, ShownLines};
 use std::alloc::Global;
 use std::str;
 use std::test::Fail;

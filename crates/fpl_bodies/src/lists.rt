@@ -13,8 +13,8 @@ use crate::members::{club_id, entry, items, moment_entry, player_id, title, wron
 use crate::{FieldName, ReadFault};
 use fpl_base::{ClubId, Name, PlayerId};
 use json_tree::Tree;
-use season_book::{Clubs, Lines, Moments};
 use rule_book::Line;
+use season_book::{Clubs, Lines, Moments};
 use std::alloc::Global;
 
 // Whatever is wrong inside of a list, the list is named.

@@ -17,7 +17,7 @@ use fpl_json::{
 };
 use fpl_session::Service;
 use season_book::{Answer, Request};
-use season_host::{Host};
+use season_host::Host;
 use std::alloc::Global;
 use std::sync::ledger::Ledger;
 
@@ -114,7 +114,15 @@ fn answered<K: Keeper, C: Clock, L: Ledger>(
     match asked_by(alloc, &host.host, &mut host.scratch, message, route, ids)? {
         Asked::Refused(reply) => Ok(reply),
         Asked::By(caller, request) => {
-            judged(alloc, &mut host.host, keeper, clock, steps, caller, &request)
+            judged(
+                alloc,
+                &mut host.host,
+                keeper,
+                clock,
+                steps,
+                caller,
+                &request,
+            )
         }
     }
 }
