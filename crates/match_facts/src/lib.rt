@@ -15,7 +15,6 @@ mod table;
 mod tests;
 
 pub use facts::MatchFacts;
-pub use judge::{judge_lock, judge_sheet};
 pub use laws::facts_are_maps;
 pub use ranges::line_ok;
 pub use rule_book::Line;

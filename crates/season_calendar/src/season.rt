@@ -39,7 +39,7 @@ impl Model for Calendar {
 }
 
 impl Calendar {
-    ghost use Rattle.rule_book.specs.Calendar.{IsCalendar, new_calendar, deadlines_order, next_gameweek, deadline_of, fixture_of, is_locked_place, stands_in, standing, after_pass, with_deadline, with_fixture, with_move};
+    ghost use Rattle.rule_book.specs.Calendar.{IsCalendar, new_calendar, deadlines_order, next_gameweek, deadline_of, fixture_of, stands_in, standing, after_pass, with_deadline, with_fixture, with_move};
     ghost use Rattle.rule_book.specs.CalendarCalls.{deadline_refusal, place_refusal, fixture_refusal, move_refusal};
 
     /// The calendar of a season that has not begun: no gameweek is locked, and no fixture is there. The first `split`
@@ -165,16 +165,6 @@ impl Calendar {
         ensures ok { OnOk result (self.new ≡ with_deadline self.old g t) }
         ensures err { OnErr result (self.new ≡ self.old) }
     {
-        self.judge_deadline(g, t, now)?;
-        self.deadlines[usize::from(g.get() - 1)] = t;
-        Ok(())
-    }
-
-    /// Whether a gameweek may have this deadline, when the moment told is `now`: what `set_deadline` refuses for.
-    pub fn judge_deadline(&self, g: Gw, t: Moment, now: Moment) -> Result<(), Rule>
-        requires in_season { g ≤ length self.now.deadlines }
-        ensures judged { IsJudged (deadline_refusal self.now g t now) result }
-    {
         if g.get() <= self.locked || t <= now {
             return Err(Rule::DeadlinePassed { gameweek: g });
         }
@@ -183,7 +173,10 @@ impl Calendar {
         }
         match first_early(&self.fixtures, self.standing.get(g), t) {
             Some(fixture) => Err(Rule::KickoffEarly { fixture }),
-            None => Ok(()),
+            None => {
+                self.deadlines[usize::from(g.get() - 1)] = t;
+                Ok(())
+            }
         }
     }
 
@@ -196,49 +189,24 @@ impl Calendar {
         ensures ok { OnOk result (self.new ≡ with_fixture self.old fixture) }
         ensures err { OnErr result (self.new ≡ self.old) }
     {
-        let at = match self.place_of_new(&fixture) {
-            Ok(at) => at,
-            Err(rule) => return Err(Refused::Rule(rule)),
-        };
-        match self.insert(at, fixture) {
-            Ok(()) => Ok(()),
-            Err(Memory) => Err(Refused::Memory),
-        }
-    }
-
-    /// Whether a fixture may be added: what `add_fixture` refuses for.
-    pub fn judge_fixture(&self, fixture: &Fixture) -> Result<(), Rule>
-        requires in_season { IfSome fixture.now.gw (λ g. g ≤ length self.now.deadlines) }
-        ensures judged { IsJudged (fixture_refusal self.now fixture.now) result }
-    {
-        match self.place_of_new(fixture) {
-            Ok(_) => Ok(()),
-            Err(rule) => Err(rule),
-        }
-    }
-
-    // Where a new fixture would go.
-    fn place_of_new(&self, fixture: &Fixture) -> Result<usize, Rule>
-        requires in_season { IfSome fixture.now.gw (λ g. g ≤ length self.now.deadlines) }
-        ensures judged { IsJudged (fixture_refusal self.now fixture.now) result }
-        ensures gap { IfOk result (IsGap self.now.fixtures fixture.now.id) }
-        ensures from_1 { OnOk result (IfSome fixture.now.gw (λ g. 1 ≤ g)) }
-        ensures not_full { OnOk result (length self.now.fixtures < 380) }
-        ensures can_stand { OnOk result (place_refusal self.now fixture.now.id fixture.now.gw fixture.now.kickoff ≡ None) }
-    {
         let at = match place_of(&self.fixtures, fixture.id) {
             Ok(_) => {
-                return Err(Rule::FixtureThere {
+                return Err(Refused::Rule(Rule::FixtureThere {
                     fixture: fixture.id,
-                });
+                }));
             }
             Err(at) => at,
         };
         if self.fixtures.len() >= MOST_FIXTURES {
-            return Err(Rule::FixturesFull);
+            return Err(Refused::Rule(Rule::FixturesFull));
         }
-        self.judge_place(fixture.id, &fixture.gw, fixture.kickoff)?;
-        Ok(at)
+        if let Err(rule) = self.judge_place(&fixture) {
+            return Err(Refused::Rule(rule));
+        }
+        match self.insert(at, fixture) {
+            Ok(()) => Ok(()),
+            Err(Memory) => Err(Refused::Memory),
+        }
     }
 
     // Puts a fixture at its place.
@@ -275,8 +243,12 @@ impl Calendar {
         ensures err { OnErr result (self.new ≡ self.old) }
         ensures no_memory { IfErr result (λ e. e ≢ Refused.Memory) }
     {
-        if let Err(rule) = self.judge_move(f, &to, kickoff, has_facts) {
-            return Err(Refused::Rule(rule));
+        let to_locked = match to {
+            Some(g) => g.get() <= self.locked,
+            None => false,
+        };
+        if has_facts && !to_locked {
+            return Err(Refused::Rule(Rule::HasFacts { fixture: f }));
         }
         let at = match place_of(&self.fixtures, f) {
             Ok(at) => at,
@@ -288,36 +260,11 @@ impl Calendar {
             kickoff,
             ..fixture
         };
+        if let Err(rule) = self.judge_place(&moved) {
+            return Err(Refused::Rule(rule));
+        }
         self.replace(at, moved);
         Ok(())
-    }
-
-    /// Whether a fixture may go to a gameweek, or to none, and have this kick-off: what `move_fixture` refuses for.
-    pub fn judge_move(
-        &self,
-        f: FixtureId,
-        to: &Option<Gw>,
-        kickoff: Moment,
-        has_facts: bool,
-    ) -> Result<(), Rule>
-        requires in_season { IfSome to.now (λ g. g ≤ length self.now.deadlines) }
-        ensures judged { IsJudged (move_refusal self.now f to.now kickoff has_facts) result }
-        ensures from_1 { IfSome to.now (λ g. 1 ≤ g) }
-    {
-        if has_facts && !self.is_locked_place(to) {
-            return Err(Rule::HasFacts { fixture: f });
-        }
-        self.judge_place(f, to, kickoff)
-    }
-
-    // Whether a place is a locked gameweek.
-    fn is_locked_place(&self, to: &Option<Gw>) -> bool
-        ensures { result ≡ is_locked_place self.now to.now }
-    {
-        match to {
-            Some(g) => g.get() <= self.locked,
-            None => false,
-        }
     }
 
     // Puts a fixture in the place of the one of its id.
@@ -342,21 +289,23 @@ impl Calendar {
         self.standing(g).iter().filter(|id| **id != f).count()
     }
 
-    // Whether a fixture may stand at a place and kick off then.
-    fn judge_place(&self, f: FixtureId, to: &Option<Gw>, kickoff: Moment) -> Result<(), Rule>
-        requires { IfSome to.now (λ g. g ≤ length self.now.deadlines) }
-        ensures judged { IsJudged (place_refusal self.now f to.now kickoff) result }
-        ensures from_1 { IfSome to.now (λ g. 1 ≤ g) }
+    // Whether a fixture may stand and kick off as it says.
+    fn judge_place(&self, fixture: &Fixture) -> Result<(), Rule>
+        requires { IfSome fixture.now.gw (λ g. g ≤ length self.now.deadlines) }
+        ensures judged { IsJudged (place_refusal self.now fixture.now.id fixture.now.gw fixture.now.kickoff) result }
+        ensures from_1 { IfSome fixture.now.gw (λ g. 1 ≤ g) }
     {
-        let Some(g) = *to else {
+        let Some(g) = fixture.gw else {
             return Ok(());
         };
         let deadline = self.deadlines[usize::from(g.get() - 1)];
-        if self.count_others(g, f) >= MOST_IN_A_GAMEWEEK {
+        if self.count_others(g, fixture.id) >= MOST_IN_A_GAMEWEEK {
             return Err(Rule::GameweekFull { gameweek: g });
         }
-        if is_early(deadline, kickoff) {
-            return Err(Rule::KickoffEarly { fixture: f });
+        if is_early(deadline, fixture.kickoff) {
+            return Err(Rule::KickoffEarly {
+                fixture: fixture.id,
+            });
         }
         Ok(())
     }
