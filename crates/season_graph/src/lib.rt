@@ -16,8 +16,6 @@ mod evaluation;
 mod laws;
 mod nodes;
 mod rules;
-#[cfg(test)]
-mod tests;
 mod worth;
 
 pub use books::Books;
