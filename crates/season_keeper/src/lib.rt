@@ -1,0 +1,9 @@
+//! A keeper of the season's records over a table of a SQL database.
+#![tactic(auto)]
+
+mod batch;
+mod pairs;
+mod sql_keeper;
+mod store;
+
+pub use sql_keeper::SqlKeeper;
