@@ -113,7 +113,15 @@ fn answered<K: Keeper, C: Clock, L: Ledger>(
     match asked_by(alloc, &host.host, &mut host.scratch, message, route, ids)? {
         Asked::Refused(reply) => Ok(reply),
         Asked::By(caller, request) => {
-            judged(alloc, &mut host.host, keeper, clock, steps, caller, &request)
+            judged(
+                alloc,
+                &mut host.host,
+                keeper,
+                clock,
+                steps,
+                caller,
+                &request,
+            )
         }
     }
 }
