@@ -1,1 +1,4 @@
+pub mod Commands
+pub mod Fields
+pub mod Items
 pub mod Keys
