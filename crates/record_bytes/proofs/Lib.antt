@@ -1,1 +1,3 @@
+pub mod CommandLaws
 pub mod KeyLaws
+pub mod FieldLaws

@@ -1,7 +1,16 @@
 ghost use Rattle.record_bytes.specs.Keys.{HasItsName, NamesItsSlot};
+ghost use Rattle.record_bytes.specs.Laws.{CommandsAreRead, CommandsDiffer, ReadCommandsCanBe};
 
 /// A law on the definitions: a key that names a slot is that slot's own, and each slot is named by its key.
 pub fn keys_are_of_slots()
     ensures named { NamesItsSlot }
     ensures own { HasItsName }
+{}
+
+/// A law on the definitions: different commands that can be ordered have different bytes, and what is read of bytes is
+/// the command that has them.
+pub fn commands_have_their_bytes()
+    ensures differ { CommandsDiffer }
+    ensures again { CommandsAreRead }
+    ensures read { ReadCommandsCanBe }
 {}
