@@ -127,6 +127,14 @@ u32_reads = number_reads w32 (2 ^ 32) wide32
 pub u64_reads : Reads (number w64) (λ n. n < 2 ^ 64) (number_at w64)
 u64_reads = number_reads w64 (2 ^ 64) wide64
 
+pub nothing_reads : Reads (λ (u : Unit {0}). []) (λ u. Unit {0}) nothing_at
+nothing_reads = record {
+  again = λ u rest fits. refl;
+  takes = λ bytes x fits e.
+      subst (λ (y : Unit {0} × List ℕ). Taken bytes [] y.1 (Unit {0})) (same_Some {A = Unit {0} × List ℕ} (tt, bytes) x e)
+        (record { parts = refl; bytes_behind = fits; fits = tt });
+}
+
 -- Joining.
 
 pub both_reads : {A B : Type 0} {w : A → List ℕ} {F : A → Type 0} {r : Reader A} {v : A → B → List ℕ} {G : A → B → Type 0} {s : A → Reader B}

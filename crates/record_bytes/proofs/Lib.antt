@@ -1,3 +1,4 @@
 pub mod CommandLaws
-pub mod KeyLaws
 pub mod FieldLaws
+pub mod ItemLaws
+pub mod KeyLaws
