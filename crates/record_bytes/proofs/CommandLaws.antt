@@ -153,7 +153,7 @@ fifteen_reads : Reads (listed whole) (λ players. (length players ≡ 15) × All
 unfolding fifteen_at
 fifteen_reads =
     refit (λ players fits. ((omega (arith, fits.0), fits.1), ap (λ n. n == 15) fits.0)) (λ players fits. (eqb-true _ _ fits.1, fits.0.1))
-      (kept_reads (λ players. length players == 15) (list_reads player_reads))
+    (kept_reads (λ players. length players == 15) (list_reads player_reads))
 
 -- Commands.
 
@@ -182,12 +182,11 @@ made_takes {A} {w} {F} {r} of k reads ranges spelled bytes x fits e =
     let both = cond_some (is_command (of a.0.0)) (of a.0.0) b.0 b.1 in
     let t = reads.takes bytes a.0 fits a.1 in
     subst (λ (y : Command × List ℕ). TakesCommand k bytes y) (ap (λ (c : Command). (c, a.0.1)) both.1 ∙ same_Some {A = Command × List ℕ} (b.0, a.0.1) x b.2)
-      (record {
-        parts = ap (λ (t : List ℕ). k ∷ t) t.parts ∙ ap (λ (t : List ℕ). t ++ a.0.1) (sym (spelled a.0.0));
-        bytes_behind = t.bytes_behind;
-        fits = (ranges a.0.0 t.fits, both.0);
-      })
-
+    (record {
+      parts = ap (λ (t : List ℕ). k ∷ t) t.parts ∙ ap (λ (t : List ℕ). t ++ a.0.1) (sym (spelled a.0.0));
+      bytes_behind = t.bytes_behind;
+      fits = (ranges a.0.0 t.fits, both.0);
+    })
 
 season_takes : (bytes : List ℕ) (x : Command × List ℕ) → IsBytes bytes → season_at bytes ≡ Some x → TakesCommand 1 bytes x
 unfolding season_at
@@ -286,7 +285,7 @@ cancel_takes : (bytes : List ℕ) (x : Command × List ℕ) → IsBytes bytes �
 unfolding cancel_at
 cancel_takes bytes x fits e =
     subst (λ (y : Command × List ℕ). TakesCommand 18 bytes y) (same_Some {A = Command × List ℕ} (command.CancelChip, bytes) x e)
-      (record { parts = refl; bytes_behind = fits; fits = (tt, refl) })
+    (record { parts = refl; bytes_behind = fits; fits = (tt, refl) })
 
 command_takes : (bytes : List ℕ) (x : Command × List ℕ) → IsBytes bytes → command_at bytes ≡ Some x → Taken bytes (bytes_of_command x.0) x.1 (IsCommand x.0)
 unfolding command_at

@@ -62,7 +62,7 @@ byte_reads = record {
     byte_takes [] x fits e = absurd (none-some x e)
     byte_takes (b ∷ rest) x fits e =
         subst (λ (y : ℕ × List ℕ). Taken (b ∷ rest) (byte y.0) y.1 (y.0 < 256)) (same_Some {A = ℕ × List ℕ} (b, rest) x e)
-          (record { parts = refl; bytes_behind = IsBytes-rest b rest fits; fits = fits 0 })
+        (record { parts = refl; bytes_behind = IsBytes-rest b rest fits; fits = fits 0 })
 
 record IsWide (w : Width) (limit : ℕ) : Type 0 where
   pub len : (n : ℕ) → length (to_be_bytes w n) ≡ byte_len w
@@ -102,11 +102,11 @@ number_takes w limit wide bytes x fits e =
     let long : byte_len w ≤ length bytes = ltb-false _ _ g.0 in
     let front : to_be_bytes w n ≡ take (byte_len w) bytes = wide.back (take (byte_len w) bytes) (omega (arith, length-take (byte_len w) bytes)) (IsBytes-take (byte_len w) bytes fits) in
     subst (λ (y : ℕ × List ℕ). Taken bytes (to_be_bytes w y.0) y.1 (y.0 < limit)) g.1
-      (record {
-        parts = sym (ap (λ (t : List ℕ). t ++ drop (byte_len w) bytes) front ∙ take-append-drop (byte_len w) bytes);
-        bytes_behind = IsBytes-drop (byte_len w) bytes fits;
-        fits = wide.below (take (byte_len w) bytes) (IsBytes-take (byte_len w) bytes fits);
-      })
+    (record {
+      parts = sym (ap (λ (t : List ℕ). t ++ drop (byte_len w) bytes) front ∙ take-append-drop (byte_len w) bytes);
+      bytes_behind = IsBytes-drop (byte_len w) bytes fits;
+      fits = wide.below (take (byte_len w) bytes) (IsBytes-take (byte_len w) bytes fits);
+    })
 
 number_again : (w : Width) (limit : ℕ) → IsWide w limit → (n : ℕ) (rest : List ℕ) → n < limit → number_at w (number w n ++ rest) ≡ Some (n, rest)
 unfolding number_at number
@@ -132,7 +132,7 @@ nothing_reads = record {
   again = λ u rest fits. refl;
   takes = λ bytes x fits e.
       subst (λ (y : Unit {0} × List ℕ). Taken bytes [] y.1 (Unit {0})) (same_Some {A = Unit {0} × List ℕ} (tt, bytes) x e)
-        (record { parts = refl; bytes_behind = fits; fits = tt });
+      (record { parts = refl; bytes_behind = fits; fits = tt });
 }
 
 -- Joining.
@@ -154,12 +154,12 @@ both_reads {A} {B} {w} {F} {r} {v} {G} {s} first second = record { again = again
         let t0 = first.takes bytes a.0 fits a.1 in
         let t1 = (second a.0.0).takes a.0.1 b.0 t0.bytes_behind b.1 in
         subst (λ (y : (A × B) × List ℕ). Taken bytes (w y.0.0 ++ v y.0.0 y.0.1) y.1 (F y.0.0 × G y.0.0 y.0.1))
-          (same_Some {A = (A × B) × List ℕ} ((a.0.0, b.0.0), b.0.1) x b.2)
-          (record {
-            parts = t0.parts ∙ ap (λ (t : List ℕ). w a.0.0 ++ t) t1.parts ∙ sym (append_assoc (w a.0.0) (v a.0.0 b.0.0) b.0.1);
-            bytes_behind = t1.bytes_behind;
-            fits = (t0.fits, t1.fits);
-          })
+        (same_Some {A = (A × B) × List ℕ} ((a.0.0, b.0.0), b.0.1) x b.2)
+        (record {
+          parts = t0.parts ∙ ap (λ (t : List ℕ). w a.0.0 ++ t) t1.parts ∙ sym (append_assoc (w a.0.0) (v a.0.0 b.0.0) b.0.1);
+          bytes_behind = t1.bytes_behind;
+          fits = (t0.fits, t1.fits);
+        })
 
 pub meant_reads : {A B : Type 0} {w : A → List ℕ} {F : A → Type 0} {r : Reader A} (f : A → Option B) (back : B → A) (H : B → Type 0)
     → ((b : B) → H b → (f (back b) ≡ Some b) × F (back b)) → ((a : A) (b : B) → F a → f a ≡ Some b → (a ≡ back b) × H b)
@@ -178,14 +178,14 @@ meant_reads {A} {B} {w} {F} {r} f back H there here reads = record { again = aga
         let t = reads.takes bytes a.0 fits a.1 in
         let h = here a.0.0 b.0 t.fits b.1 in
         subst (λ (y : B × List ℕ). Taken bytes (w (back y.0)) y.1 (H y.0)) (same_Some {A = B × List ℕ} (b.0, a.0.1) x b.2)
-          (record { parts = t.parts ∙ ap (λ (c : A). w c ++ a.0.1) h.0; bytes_behind = t.bytes_behind; fits = h.1 })
+        (record { parts = t.parts ∙ ap (λ (c : A). w c ++ a.0.1) h.0; bytes_behind = t.bytes_behind; fits = h.1 })
 
 -- what passes a test
 pub kept_reads : {A : Type 0} {w : A → List ℕ} {F : A → Type 0} {r : Reader A} (test : A → Bool)
     → Reads w F r → Reads w (λ a. F a × (test a ≡ true)) (meant (kept test) r)
 kept_reads {A} {w} {F} {r} test reads =
     meant_reads (kept test) (λ a. a) (λ a. F a × (test a ≡ true)) (λ a h. (ap (λ b. cond b (Some a) None) h.1, h.0))
-      (λ a b fits e. let both = cond_some (test a) a b e in (both.1, subst (λ (x : A). F x × (test x ≡ true)) both.1 (fits, both.0))) reads
+    (λ a b fits e. let both = cond_some (test a) a b e in (both.1, subst (λ (x : A). F x × (test x ≡ true)) both.1 (fits, both.0))) reads
 
 -- another word for what fits
 pub refit : {A : Type 0} {w : A → List ℕ} {F G : A → Type 0} {r : Reader A}
@@ -218,8 +218,8 @@ pub within_reads : {w : ℕ → List ℕ} {r : Reader ℕ} (limit least most : �
     → Reads w (λ n. n < limit) r → Reads w (λ n. is_between least most n ≡ true) (within least most r)
 within_reads limit least most fits reads =
     meant_reads (kept (is_between least most)) (λ n. n) (λ n. is_between least most n ≡ true)
-      (λ n is. (ap (λ b. cond b (Some n) None) is, limited least most limit n fits is))
-      (λ n m small e. let both = cond_some (is_between least most n) n m e in (both.1, subst (λ x. is_between least most x ≡ true) both.1 both.0)) reads
+    (λ n is. (ap (λ b. cond b (Some n) None) is, limited least most limit n fits is))
+    (λ n m small e. let both = cond_some (is_between least most n) n m e in (both.1, subst (λ x. is_between least most x ≡ true) both.1 both.0)) reads
 
 -- a gameweek, or none
 not_zero : (g : ℕ) → is_between 1 38 g ≡ true → (g == 0) ≡ false
@@ -253,7 +253,7 @@ front_takes n bytes x fits e =
     let g = unless_some (ltb (length bytes) n) (take n bytes, drop n bytes) x e in
     let long : n ≤ length bytes = ltb-false _ _ g.0 in
     subst (λ (y : List ℕ × List ℕ). Taken bytes y.0 y.1 (length y.0 ≡ n)) g.1
-      (record { parts = sym (take-append-drop n bytes); bytes_behind = IsBytes-drop n bytes fits; fits = omega (arith, length-take n bytes) })
+    (record { parts = sym (take-append-drop n bytes); bytes_behind = IsBytes-drop n bytes fits; fits = omega (arith, length-take n bytes) })
 
 front_again : (n : ℕ) (text rest : List ℕ) → length text ≡ n → front_at n (text ++ rest) ≡ Some (text, rest)
 unfolding front_at
@@ -280,19 +280,19 @@ many_takes : {A : Type 0} {w : A → List ℕ} {F : A → Type 0} {r : Reader A}
 unfolding many_at
 many_takes {A} {w} {F} {r} reads zero bytes x fits e =
     subst (λ (y : List A × List ℕ). Taken bytes (flat_map w y.0) y.1 ((length y.0 ≡ 0) × AllByRecursion F y.0)) (same_Some {A = List A × List ℕ} ([], bytes) x e)
-      (record { parts = refl; bytes_behind = fits; fits = (refl, tt) })
+    (record { parts = refl; bytes_behind = fits; fits = (refl, tt) })
 many_takes {A} {w} {F} {r} reads (suc n) bytes x fits e =
     let a = got (r bytes) (λ first. many_at r n first.1 >>= λ others. Some (first.0 ∷ others.0, others.1)) x e in
     let b = got (many_at r n a.0.1) (λ others. Some (a.0.0 ∷ others.0, others.1)) x a.2 in
     let t0 = reads.takes bytes a.0 fits a.1 in
     let t1 = many_takes reads n a.0.1 b.0 t0.bytes_behind b.1 in
     subst (λ (y : List A × List ℕ). Taken bytes (flat_map w y.0) y.1 ((length y.0 ≡ suc n) × AllByRecursion F y.0))
-      (same_Some {A = List A × List ℕ} (a.0.0 ∷ b.0.0, b.0.1) x b.2)
-      (record {
-        parts = t0.parts ∙ ap (λ (t : List ℕ). w a.0.0 ++ t) t1.parts ∙ sym (append_assoc (w a.0.0) (flat_map w b.0.0) b.0.1);
-        bytes_behind = t1.bytes_behind;
-        fits = (ap suc t1.fits.0, (t0.fits, t1.fits.1));
-      })
+    (same_Some {A = List A × List ℕ} (a.0.0 ∷ b.0.0, b.0.1) x b.2)
+    (record {
+      parts = t0.parts ∙ ap (λ (t : List ℕ). w a.0.0 ++ t) t1.parts ∙ sym (append_assoc (w a.0.0) (flat_map w b.0.0) b.0.1);
+      bytes_behind = t1.bytes_behind;
+      fits = (ap suc t1.fits.0, (t0.fits, t1.fits.1));
+    })
 
 pub many_reads : {A : Type 0} {w : A → List ℕ} {F : A → Type 0} {r : Reader A} → Reads w F r
     → (n : ℕ) → Reads (flat_map w) (λ xs. (length xs ≡ n) × AllByRecursion F xs) (many_at r n)

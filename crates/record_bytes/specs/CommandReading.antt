@@ -98,7 +98,7 @@ deadline_at = made (λ x. command.Deadline x.0 x.1) (gameweek_at then moment_at)
 unfoldable pub new_player_at : Reader Command
 new_player_at =
     made (λ x. command.Player x.0 x.1.0 x.1.1.0 x.1.1.1.0 x.1.1.1.1)
-      (player_at then long_text_at is_name then position_at then club_at then whole_in 0 65535)
+    (player_at then long_text_at is_name then position_at then club_at then whole_in 0 65535)
 
 unfoldable pub price_at : Reader Command
 price_at = made (λ x. command.Price x.0 x.1) (player_at then whole_in 0 65535)

@@ -45,7 +45,7 @@ made_item item_of r body = whole_of r body >>= λ a. kept is_item (item_of a)
 unfoldable pub season_in : List ℕ → Option Item
 season_in =
     made_item (λ x. item.Season x.0 x.1.1.0 x.1.1.1.0 x.1.1.1.1)
-      (both_at profile_at (λ p. both_at byte_at (λ n. byte_at then byte_at then many_at moment_at n)))
+    (both_at profile_at (λ p. both_at byte_at (λ n. byte_at then byte_at then many_at moment_at n)))
 
 unfoldable pub club_in : ℕ → List ℕ → Option Item
 club_in club = made_item (λ name. item.Club club name) (short_text_at is_name)
@@ -53,12 +53,12 @@ club_in club = made_item (λ name. item.Club club name) (short_text_at is_name)
 unfoldable pub player_in : ℕ → List ℕ → Option Item
 player_in player =
     made_item (λ x. item.Player player x.0 x.1.0 x.1.1.0 x.1.1.1.0 x.1.1.1.1)
-      (position_at then byte_in 1 255 then number_at w16 then flag_at then short_text_at is_name)
+    (position_at then byte_in 1 255 then number_at w16 then flag_at then short_text_at is_name)
 
 unfoldable pub fixture_in : ℕ → List ℕ → Option Item
 fixture_in fixture =
     made_item (λ x. item.Fixture fixture x.0 x.1.0 x.1.1.0 x.1.1.1.0 x.1.1.1.1)
-      (byte_in 1 255 then byte_in 1 255 then byte_place_at then moment_at then flag_at)
+    (byte_in 1 255 then byte_in 1 255 then byte_place_at then moment_at then flag_at)
 
 unfoldable pub line_in : ℕ → ℕ → List ℕ → Option Item
 line_in fixture player = made_item (λ figures. item.Line fixture player (record { figures = figures })) (many_at (number_at w16) 28)
@@ -70,18 +70,18 @@ entry_in entry =
 unfoldable pub team_in : ℕ → ℕ → List ℕ → Option Item
 team_in entry gameweek =
     made_item (λ x. item.Team entry gameweek x.0 x.1.0 x.1.1.0 x.1.1.1.0 x.1.1.1.1)
-      (many_at pick_at 15 then byte_at then byte_at then number_at w32 then chip_at)
+    (many_at pick_at 15 then byte_at then byte_at then number_at w32 then chip_at)
 
 unfoldable pub transfer_in : ℕ → ℕ → ℕ → List ℕ → Option Item
 transfer_in entry gameweek n =
     made_item (λ x. item.Transfer entry gameweek n x.0 x.1.0 x.1.1.0 x.1.1.1)
-      (long_in 1 999999 then long_in 1 999999 then number_at w16 then number_at w16)
+    (long_in 1 999999 then long_in 1 999999 then number_at w16 then number_at w16)
 
 unfoldable pub league_in : ℕ → List ℕ → Option Item
 league_in league =
     made_item (λ x. item.League league x.0 x.1.0 x.1.1.0 x.1.1.1.0 x.1.1.1.1.0 x.1.1.1.1.1)
-      (kind_at then byte_in 1 38 then long_in 1 4294967295 then counted byte_at (long_in 1 4294967295) then short_text_at is_code
-      then short_text_at is_name)
+    (kind_at then byte_in 1 38 then long_in 1 4294967295 then counted byte_at (long_in 1 4294967295) then short_text_at is_code
+    then short_text_at is_name)
 
 unfoldable pub member_in : ℕ → ℕ → List ℕ → Option Item
 member_in league entry = made_item (λ x. item.Member league entry) nothing_at
@@ -89,7 +89,7 @@ member_in league entry = made_item (λ x. item.Member league entry) nothing_at
 unfoldable pub cup_in : ℕ → List ℕ → Option Item
 cup_in cup =
     made_item (λ x. item.Cup cup x.0 x.1.0 x.1.1)
-      (byte_in 1 38 then both_at (counted (number_at w16) (number_at w32)) (λ slots. many_at byte_at (length slots - 1)))
+    (byte_in 1 38 then both_at (counted (number_at w16) (number_at w32)) (λ slots. many_at byte_at (length slots - 1)))
 
 unfoldable pub last_in : ℕ → List ℕ → Option Item
 last_in caller =

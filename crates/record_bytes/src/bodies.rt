@@ -11,7 +11,9 @@ use crate::fields::{
     append_short_text, append_u8, append_u16, append_u32, append_u64, chip_byte, flag_byte,
     gameweek_byte, kind_byte, position_byte, profile_byte,
 };
-use crate::lists::{append_coins, append_figures, append_moments, append_order, append_picks, append_slots};
+use crate::lists::{
+    append_coins, append_figures, append_moments, append_order, append_picks, append_slots,
+};
 use fpl_base::{
     Bytes, Chip, ClubId, Code, EntryId, Gw, Key, Memory, Moment, Name, PlayerId, Position, Profile,
 };
@@ -169,12 +171,7 @@ fn line_body(alloc: Global, line: &Line) -> Result<Bytes, Memory>
     Ok(bytes)
 }
 
-fn entry_body(
-    alloc: Global,
-    first: Option<Gw>,
-    key: &Key,
-    name: &Name,
-) -> Result<Bytes, Memory>
+fn entry_body(alloc: Global, first: Option<Gw>, key: &Key, name: &Name) -> Result<Bytes, Memory>
     ensures { IfOk result (λ bytes. bytes ≡ bodies.entry_body first key.now name.now) }
 {
     let mut bytes = Bytes::new(alloc);

@@ -67,10 +67,10 @@ pub fn flag_byte(holds: bool) -> u8
 pub fn gameweek_byte(gameweek: Option<Gw>) -> u8
     ensures { result ≡ or_zero gameweek }
 {
-    match gameweek {
-        None => 0,
-        Some(g) => g.get(),
-    }
+    let Some(g) = gameweek else {
+        return 0;
+    };
+    g.get()
 }
 
 pub fn profile_byte(profile: Profile) -> u8

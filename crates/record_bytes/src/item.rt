@@ -120,9 +120,17 @@ impl Item {
             Item::Club { club, .. } => Slot::Club(club.get() as u32),
             Item::Player { player, .. } => Slot::Player(player.get()),
             Item::Fixture { fixture, .. } => Slot::Fixture(fixture.get()),
-            Item::Line { fixture, player, .. } => Slot::Line(fixture.get(), player.get()),
+            Item::Line {
+                fixture,
+                player,
+                ..
+            } => Slot::Line(fixture.get(), player.get()),
             Item::Entry { entry, .. } => Slot::Entry(entry.get()),
-            Item::Team { entry, gameweek, .. } => Slot::Team(entry.get(), gameweek.get() as u32),
+            Item::Team {
+                entry,
+                gameweek,
+                ..
+            } => Slot::Team(entry.get(), gameweek.get() as u32),
             Item::Transfer {
                 entry,
                 gameweek,
