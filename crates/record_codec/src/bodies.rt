@@ -17,8 +17,8 @@ use crate::lists::{
 use fpl_base::{
     Bytes, Chip, ClubId, Code, EntryId, Gw, Key, Memory, Moment, Name, PlayerId, Position, Profile,
 };
-use season_book::{Command, Moments, Order};
 use rule_book::{Coins, LeagueKind, Line, Slots};
+use season_book::{Command, Moments, Order};
 use std::alloc::Global;
 
 // The body of an item.

@@ -15,8 +15,8 @@ use crate::lists::{
 use fpl_base::{
     Bytes, Chip, ClubId, Code, FixtureId, Gw, Key, Memory, Moment, Name, PlayerId, Position,
 };
-use season_book::{Clubs, Command, Lines, Moments, Order, Swaps};
 use rule_book::{Coins, LeagueKind, Line, Slots};
+use season_book::{Clubs, Command, Lines, Moments, Order, Swaps};
 
 // A command's number, the ids of its target, and its members in order.
 pub fn append_command(bytes: &mut Bytes, command: &Command) -> Result<(), Memory>

@@ -6,8 +6,8 @@ use fpl_base::{
     Chip, ClubId, Code, CupId, EntryId, FixtureId, Gw, Key, LeagueId, Moment, Name, PlayerId,
     Position, Profile,
 };
-use season_book::{Command, Moments, Order};
 use rule_book::{Coins, LeagueKind, Line, Slots};
+use season_book::{Command, Moments, Order};
 
 /// A record as a value: what it tells of, and what it tells. Prices and money are in tenths of a million, any number of
 /// their width; which of them can be is judged where records are looked at together.
