@@ -46,13 +46,6 @@ none_some h = true≢false (sym (ap is_some h))
 none_held : Holds [] no_records
 none_held = record { sound = λ k body h. absurd h.1; complete = λ k body h. absurd (none_some h) }
 
--- an empty table holds no records
-pub bare_keeps : (db : Database) (m : Map) → IsBare db m → Keeps (record { schema = record_schema; trees = db.trees }) m
-bare_keeps db m bare = record {
-  kept = record { schema = refl; rows = subst AreRecords (sym bare.rows) no_rows };
-  holds = subst (Holds (db.trees 0)) (sym bare.map) (subst (λ rows. Holds rows no_records) (sym bare.rows) none_held);
-}
-
 -- the table is there afterwards, and holds the map that was held
 pub makes : (old new : State) (count : ℕ) (m : Map) → Finds old.now false m → Executes create_text [] old new (Ok count) → Keeps new.now m
 makes old new count m (inl keeps) h = subst (λ db. Keeps db m) (sym (finds old new (Ok count) keeps.kept.schema h).0.now_is) keeps

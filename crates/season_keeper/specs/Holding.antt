@@ -25,7 +25,6 @@ pub record Keeps (db : Database) (m : Map) : Type 0 where
 -- there is no table yet
 pub record IsBare (db : Database) (m : Map) : Type 0 where
   pub schema : db.schema ≡ no_schema
-  pub rows : db.trees 0 ≡ []
   pub map : m ≡ no_records
 
 -- a table holds one map
@@ -48,9 +47,20 @@ pub record HoldsMap (s : State) (ready : Bool) (m : Map) : Type 0 where
   pub autocommit : s.in_transaction ≡ false
   pub finds : Finds s.now ready m
 
--- a stop at this moment may leave the map
+-- a stop at this moment may leave a table that holds the map
 abbrev pub MayLeave : State → Map → Type 0
 MayLeave s m = (db : Database) × s.may_leave db.trees × Keeps db m
+
+-- no reading made the table yet
+pub record IsUnmade (s : State) (ready : Bool) (m : Map) : Type 0 where
+  pub open_ : IsTrue s.is_open
+  pub autocommit : s.in_transaction ≡ false
+  pub unread : ready ≡ false
+  pub bare : IsBare s.now m
+
+-- a stop at this moment may leave the map
+abbrev pub MayPass : State → Bool → Map → Type 0
+MayPass s ready m = MayLeave s m ⊎ IsUnmade s ready m
 
 pub record HeldKeeper (S : Type 0) : Type 0 where
   pub conn : Held S
@@ -61,7 +71,7 @@ abbrev pub keeper_code : {S : Type 0} → Coded S → Coded (HeldKeeper S)
 keeper_code {S} store =
     code_by (Held S × (ℕ × Bool)) (coded× (held_code store) (coded× coded_ℕ coded_bool)) (λ k. (k.conn, (k.faults, k.ready))) (λ p. record { conn = p.0; faults = p.1.0; ready = p.1.1 }) (λ _. refl)
 
-not_both : (db : Database) → db.schema ≡ record_schema → db.schema ≡ no_schema → ⊥
+pub not_both : (db : Database) → db.schema ≡ record_schema → db.schema ≡ no_schema → ⊥
 not_both db e f = one_is_none (sym (ap (λ s. is_bare s.tables) e) ∙ ap (λ s. is_bare s.tables) f)
   where
     is_bare : {X : Type 0} → List X → Bool

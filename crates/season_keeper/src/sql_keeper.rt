@@ -5,7 +5,7 @@ ghost use Rattle.sqlite.specs.Held.{state};
 ghost use Rattle.fpl_base.specs.Causes.{Rose};
 ghost use Rattle.fpl_base.specs.declared.outside.KeeperFault.TheVariants as fault;
 ghost use Rattle.fpl_base.specs.Keeping.{Map, KeysRise, map_of};
-ghost use Rattle.season_keeper.specs.Holding.{Finds, Keeps, HoldsMap, MayLeave, finds_one};
+ghost use Rattle.season_keeper.specs.Holding.{Finds, Keeps, HoldsMap, MayPass, finds_one};
 
 use crate::batch::apply;
 use crate::pairs::pairs_of;
@@ -17,6 +17,7 @@ use std::marker::Model;
 
 /// A keeper over an open connection. It tells its records where the connection has no table yet, or the table with its
 /// columns and rules, as long as the disk returns what was written to it.
+#[derive(Drop)]
 pub struct SqlKeeper<S: Alter> {
     conn: Connection<S>,
     faults: u64,
@@ -99,7 +100,7 @@ impl<S: Alter> Keeper for SqlKeeper<S> {
 
     ghost holds = { λ k m. HoldsMap (state S.Store k.conn) k.ready m };
 
-    ghost passes = { λ k. MayLeave (state S.Store k.conn) };
+    ghost passes = { λ k. MayPass (state S.Store k.conn) k.ready };
 
     ghost faults = { λ k. k.faults };
 
