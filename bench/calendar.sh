@@ -4,22 +4,12 @@
 # `add_fixture` it is the mean over all fixtures of a new calendar; `move_fixture` is a move away and back.
 # usage: bench/calendar.sh [TIMES]
 set -euo pipefail
-top=$(cd "$(dirname "${BASH_SOURCE[0]}")/.." && pwd)
+source "$(dirname "${BASH_SOURCE[0]}")/counting.sh"
 times=${1:-500}
-program=$top/crates/bench_calendar/out/bench_calendar
-if [ ! -x "$program" ]; then
-  echo "calendar.sh: proving and building the program first" >&2
-  (cd "$top/crates/bench_calendar" && rt run -- 10 pass 0) >&2
-fi
-
-# The instructions of a whole run.
-instructions() {
-  valgrind --tool=callgrind --callgrind-out-file=/dev/null "$program" "$@" 2>&1 >/dev/null | sed -n 's/.*Collected : //p'
-}
 
 # The instructions of one call with so many fixtures.
 per_call() {
-  local each=$(( ($(instructions "$1" "$2" "$times") - $(instructions "$1" "$2" 0)) / times ))
+  local each=$(( ($(instructions calendar "$2" "$1" "$times") - $(instructions calendar "$2" "$1")) / times ))
   if [ "$2" = add_fixture ]; then each=$((each / $1)); fi
   echo "$each"
 }

@@ -3,33 +3,24 @@
 #
 # usage: bench/engine.sh [SIZE..]        SIZE is a number of cells from 1000 on; 10000 and 1000000 if left out
 #
-# For each SIZE, three runs of bench_engine: it plants the cells; it settles them too, which evaluates each of them;
+# For each SIZE, three runs of the program: it plants the cells; it settles them too, which evaluates each of them;
 # it then changes 100 leaves, and settles once more. The differences of the runs are the cost of the full evaluation
 # and of the second settling. Early cut ends each change at the node above its leaf, so at every size the second
 # settling evaluates 200 nodes. It wants valgrind, and takes some minutes.
 set -euo pipefail
-cd "$(dirname "$0")/.."
+source "$(dirname "${BASH_SOURCE[0]}")/counting.sh"
 
 sizes=("$@")
 if [ ${#sizes[@]} -eq 0 ]; then
   sizes=(10000 1000000)
 fi
 
-program=crates/bench_engine/out/bench_engine
-(cd crates/bench_engine && rt run -- plant 1 > /dev/null)
-
-# The instructions of one run.
-instructions() {
-  valgrind --tool=callgrind --callgrind-out-file=/dev/null "$program" "$1" "$2" 2>&1 > /dev/null \
-    | sed -n 's/^.*Collected : //p'
-}
-
 printf '%10s %18s %12s %18s %12s %14s\n' cells 'full evaluation' 'per node' '100 changes' 'per node' 'of the full'
 first=
 for size in "${sizes[@]}"; do
-  planted=$(instructions plant "$size")
-  settled=$(instructions settle "$size")
-  changed=$(instructions change "$size")
+  planted=$(instructions engine plant "$size")
+  settled=$(instructions engine settle "$size")
+  changed=$(instructions engine change "$size")
   full=$((settled - planted))
   again=$((changed - settled))
   printf '%10d %18d %12d %18d %12d %13s%%\n' "$size" "$full" $((full / size)) "$again" $((again / 200)) \

@@ -3,20 +3,13 @@
 #
 # usage: bench/http.sh
 #
-# It needs valgrind, and the program that `rt run` builds in crates/bench_http. What the program takes to start, to read
-# its input and to make a decoder is measured apart (pieces of 0 bytes are not fed) and taken off.
+# What the program takes to start, to read its input and to make a decoder is measured apart (pieces of 0 bytes are not
+# fed) and taken off.
 set -euo pipefail
-cd "$(dirname "$0")/.."
+source "$(dirname "${BASH_SOURCE[0]}")/counting.sh"
 
-program=crates/bench_http/out/bench_http
 work=$(mktemp -d)
 trap 'rm -rf "$work"' EXIT
-
-# instructions PIECE FILE
-instructions() {
-    valgrind --tool=callgrind --callgrind-out-file=/dev/null "$program" "$1" < "$2" 2>&1 > /dev/null \
-        | awk '/Collected/ { print $4 }'
-}
 
 # letters COUNT
 letters() {
@@ -51,10 +44,10 @@ body_of 262144 > "$work/a body of 262144 bytes"
 printf '%-24s %8s %14s %10s %14s\n' stream pieces instructions 'per byte' 'to one piece'
 for stream in "heads of 100 bytes" "heads of 8000 bytes" "a body of 131072 bytes" "a body of 262144 bytes"; do
     size=$(stat -c %s "$work/$stream")
-    start=$(instructions 0 "$work/$stream")
-    whole=$(($(instructions "$size" "$work/$stream") - start))
+    start=$(instructions http feed 0 <"$work/$stream")
+    whole=$(($(instructions http feed "$size" <"$work/$stream") - start))
     for piece in 1 64 65536; do
-        took=$(($(instructions "$piece" "$work/$stream") - start))
+        took=$(($(instructions http feed "$piece" <"$work/$stream") - start))
         awk -v s="$stream" -v p="$piece" -v t="$took" -v n="$size" -v w="$whole" \
             'BEGIN { printf "%-24s %8d %14d %10.1f %14.2f\n", s, p, t, t / n, t / w }'
     done

@@ -5,31 +5,21 @@
 # with freeing that player: in front of all others (`add`) and behind them (`add_rising`).
 # usage: bench/players.sh [TIMES]
 set -euo pipefail
-top=$(cd "$(dirname "${BASH_SOURCE[0]}")/.." && pwd)
+source "$(dirname "${BASH_SOURCE[0]}")/counting.sh"
 times=${1:-500}
-program=$top/crates/bench_players/out/bench_players
-if [ ! -x "$program" ]; then
-  echo "players.sh: proving and building the program first" >&2
-  (cd "$top/crates/bench_players" && rt run -- 12 get 0) >&2
-fi
-
-# The instructions of a whole run.
-instructions() {
-  valgrind --tool=callgrind --callgrind-out-file=/dev/null "$program" "$@" 2>&1 >/dev/null | sed -n 's/.*Collected : //p'
-}
 
 # The instructions of one call with so many players.
 per_call() {
   local turns=$times
   if [ "$2" = add ]; then turns=4; fi
-  local each=$(( ($(instructions "$1" "$2" "$turns") - $(instructions "$1" "$2" 0)) / turns ))
+  local each=$(( ($(instructions players "$2" "$1" "$turns") - $(instructions players "$2" "$1")) / turns ))
   if [ "$2" = add ]; then each=$((each / $1)); fi
   echo "$each"
 }
 
 # The instructions of filling a table with so many players in an order, and of freeing it.
 filling() {
-  echo $(( ($(instructions "$1" "$2" 4) - $(instructions "$1" "$2" 0)) / 4 ))
+  echo $(( ($(instructions players "$2" "$1" 4) - $(instructions players "$2" "$1")) / 4 ))
 }
 
 # The instructions of the last add alone.

@@ -58,6 +58,13 @@ impl Bytes {
         }
     }
 
+    /// These bytes.
+    pub fn from_vec(bytes: Vec<u8>) -> Self
+        ensures { result ≡ bytes.items }
+    {
+        Bytes { bytes }
+    }
+
     /// The list with this byte at its end; unchanged after want of memory.
     pub fn push(&mut self, item: u8) -> Result<(), Memory>
         ensures ok { OnOk result (self.new ≡ self.old ++ item ∷ []) }

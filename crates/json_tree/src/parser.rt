@@ -122,9 +122,22 @@ fn read_items<'a>(
     let mut found = Vec::new(alloc);
     'items: while !reader.take_end_array() {
         let item = read(alloc, reader, depth)?;
+        make_first_room(&mut found)?;
         found.push(item)?;
     }
     Ok(found)
+}
+
+// Room for the first item of a list, and for no more: else a list of one item takes the room of four.
+#[inline(always)]
+fn make_first_room(found: &mut Vec<Tree<'_>>) -> Result<(), AllocError>
+    ensures { found.new.items ≡ found.old.items }
+{
+    if found.is_empty() {
+        found.reserve_exact(1)
+    } else {
+        Ok(())
+    }
 }
 
 #[cycle(read)]

@@ -12,6 +12,3 @@ pub use bonus_points::bps;
 pub use levels::BonusLevels;
 pub use points::line_points;
 pub use ranking::bonus;
-
-#[cfg(test)]
-mod tests;

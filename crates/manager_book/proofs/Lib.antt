@@ -5,4 +5,3 @@ pub mod Firsts
 pub mod Keys
 pub mod Absent
 pub mod Changed
-pub mod Examples

@@ -188,3 +188,18 @@ pub record Moves (g : ℕ) (players : List Player) (swaps : List Swap) (sales : 
   pub sold : sales ≡ sales_of players before.picks swaps
   pub team : IsTeamAfter sales before after
   pub rows : new ≡ put_row old g (record { made = used_by old g + length sales; team = after })
+
+-- A first squad changes the rows of its entry by one row more, in its gameweek: the team that it makes, without
+-- transfers.
+pub record Registers (g : ℕ) (players : List Player) (squad : List ℕ) (c v : ℕ) (old new : List Row) : Type 0 where
+  pub team : Team
+  pub first : IsFirstOf players squad c v team
+  pub rows : new ≡ put_row old g (record { made = 0; team = team })
+
+-- A lineup changes the row of its gameweek alone: it has the team in this order, and as many transfers as before.
+pub record LinesUp (g : ℕ) (order : List ℕ) (c v : ℕ) (old new : List Row) : Type 0 where
+  pub before : Team
+  pub after : Team
+  pub stood : team_at old g ≡ Some before
+  pub lined : IsLined order c v before after
+  pub rows : new ≡ put_row old g (record { made = used_by old g; team = after })

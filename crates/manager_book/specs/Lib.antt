@@ -1,4 +1,3 @@
 pub mod Managers
 pub mod Calls
 pub mod Indexed
-pub mod Examples

@@ -11,9 +11,9 @@ ghost use Rattle.rule_book.specs.HistoryRules.{FirstTold, IsHistory};
 ghost use Rattle.rule_book.specs.HistoryTeam.{TeamTold, TeamBalances, holdings};
 ghost use Rattle.rule_book.specs.HistoryTransfers.{FreeTold, cost_at, counted_through};
 ghost use Rattle.rule_book.specs.Refusals.{IsJudged, IsJudgedOrOut};
-ghost use Rattle.season_ledger.specs.Rows.{AllUpTo, used_by, first_in, free_in, cost_by, counted_by, rows_of_records};
+ghost use Rattle.season_ledger.specs.Rows.{AllUpTo, put_chip, used_by, first_in, free_in, cost_by, counted_by, rows_of_records};
 ghost use Rattle.season_ledger.specs.Stands.{StandsFor};
-ghost use Rattle.manager_book.specs.Calls.{in_next, slot_of, team_at, picks_from, register_broken, transfer_broken, Moves, lineup_broken, play_broken, cancel_broken};
+ghost use Rattle.manager_book.specs.Calls.{in_next, slot_of, team_at, picks_from, register_broken, transfer_broken, Moves, LinesUp, Registers, lineup_broken, play_broken, cancel_broken};
 ghost use Rattle.manager_book.specs.Managers.{Managers, IsSameBut, season_of, key_of, name_of, entry_with, issue_refusal};
 
 use crate::batch::transfer;
@@ -263,6 +263,7 @@ impl ManagerBook {
     ) -> Result<(), Refused>
         requires issued { e ≤ length self.old.managers }
         requires there { All (λ id. IsSome (player_of players.now id)) squad.now }
+        ensures rows { (g : ℕ) → next ≡ Some g → OnOk result (Registers g players.now squad.now (slot_of squad.now captain) (slot_of squad.now vice) (season_of self.old e) (season_of self.new e)) }
         ensures judged { IsJudgedOrOut (in_next next (λ _. register_broken (season_of self.old e) players.now squad.now (slot_of squad.now captain) (slot_of squad.now vice))) result }
         ensures history { (position : ℕ → Position) (h : List Event) (g : ℕ) → HavePositions position players.now → StandsFor position (season_of self.old e) h → next ≡ Some g → OnOk result (StandsFor position (season_of self.new e) (h ++ in_gameweek g (First (holdings (picks_from players.now squad.now)) (slot_of squad.now captain) (slot_of squad.now vice) ∷ []))) }
         ensures others { IsSameBut e self.old self.new }
@@ -321,6 +322,7 @@ impl ManagerBook {
     ) -> Result<(), Refused>
         requires issued { e ≤ length self.old.managers }
         requires later { IfSome next (λ g. AllUpTo g (season_of self.old e)) }
+        ensures rows { (g : ℕ) → next ≡ Some g → OnOk result (LinesUp g order.now (slot_of order.now captain) (slot_of order.now vice) (season_of self.old e) (season_of self.new e)) }
         ensures judged { IsJudgedOrOut (in_next next (lineup_broken (season_of self.old e) order.now (slot_of order.now captain) (slot_of order.now vice))) result }
         ensures history { (position : ℕ → Position) (h : List Event) (g : ℕ) → StandsFor position (season_of self.old e) h → next ≡ Some g → OnOk result (StandsFor position (season_of self.new e) (h ++ in_gameweek g (Lineup order.now (slot_of order.now captain) (slot_of order.now vice) ∷ []))) }
         ensures others { IsSameBut e self.old self.new }
@@ -348,6 +350,7 @@ impl ManagerBook {
         requires issued { e ≤ length self.old.managers }
         requires later { IfSome next (λ g. AllUpTo g (season_of self.old e)) }
         requires chip { chip ≢ NoChip }
+        ensures rows { (g : ℕ) → next ≡ Some g → OnOk result (season_of self.new e ≡ put_chip (season_of self.old e) g chip) }
         ensures judged { IsJudgedOrOut (in_next next (play_broken (season_of self.old e) split chip)) result }
         ensures history { (position : ℕ → Position) (h : List Event) (g : ℕ) → StandsFor position (season_of self.old e) h → next ≡ Some g → OnOk result (StandsFor position (season_of self.new e) (h ++ in_gameweek g (Play chip ∷ []))) }
         ensures others { IsSameBut e self.old self.new }
@@ -367,6 +370,7 @@ impl ManagerBook {
     pub fn cancel_chip(&mut self, e: EntryId, next: Option<Gw>) -> Result<(), Rule>
         requires issued { e ≤ length self.old.managers }
         requires later { IfSome next (λ g. AllUpTo g (season_of self.old e)) }
+        ensures rows { (g : ℕ) → next ≡ Some g → OnOk result (season_of self.new e ≡ put_chip (season_of self.old e) g NoChip) }
         ensures judged { IsJudged (in_next next (cancel_broken (season_of self.old e))) result }
         ensures history { (position : ℕ → Position) (h : List Event) (g : ℕ) → StandsFor position (season_of self.old e) h → next ≡ Some g → OnOk result (StandsFor position (season_of self.new e) (h ++ in_gameweek g (Cancel ∷ []))) }
         ensures others { IsSameBut e self.old self.new }

@@ -7,7 +7,7 @@ ghost use Rattle.rule_book.specs.History.Deed.{Play, Cancel};
 ghost use Rattle.rule_book.specs.HistoryRules.{can_cancel};
 ghost use Rattle.rule_book.specs.HistoryTransfers.{makes_free, is_same_chip};
 ghost use Rattle.rule_book.specs.Refusals.{IsJudged, IsJudgedOrOut};
-ghost use Rattle.season_ledger.specs.Rows.{AllUpTo};
+ghost use Rattle.season_ledger.specs.Rows.{AllUpTo, put_chip};
 ghost use Rattle.season_ledger.specs.Stands.{StandsFor};
 ghost use Rattle.manager_book.specs.Calls.{is_first, play_broken, cancel_broken};
 
@@ -66,6 +66,7 @@ pub fn play(season: &mut Entry, g: Gw, split: u8, chip: Chip) -> Result<(), Refu
     requires later { AllUpTo g season.old }
     requires chip { chip ≢ NoChip }
     ensures judged { IsJudgedOrOut (play_broken season.old split chip g) result }
+    ensures rows { OnOk result (season.new ≡ put_chip season.old g chip) }
     ensures history { (position : ℕ → Position) (h : List Event) → StandsFor position season.old h → OnOk result (StandsFor position season.new (h ++ in_gameweek g (Play chip ∷ []))) }
     ensures err { OnErr result (season.new ≡ season.old) }
 {
@@ -91,6 +92,7 @@ pub fn play(season: &mut Entry, g: Gw, split: u8, chip: Chip) -> Result<(), Refu
 pub fn cancel(season: &mut Entry, g: Gw) -> Result<(), Rule>
     requires later { AllUpTo g season.old }
     ensures judged { IsJudged (cancel_broken season.old g) result }
+    ensures rows { OnOk result (season.new ≡ put_chip season.old g NoChip) }
     ensures history { (position : ℕ → Position) (h : List Event) → StandsFor position season.old h → OnOk result (StandsFor position season.new (h ++ in_gameweek g (Cancel ∷ []))) }
     ensures err { OnErr result (season.new ≡ season.old) }
 {

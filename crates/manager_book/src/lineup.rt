@@ -7,7 +7,7 @@ ghost use Rattle.rule_book.specs.History.Deed.{Lineup};
 ghost use Rattle.rule_book.specs.Refusals.{IsJudged, IsJudgedOrOut};
 ghost use Rattle.season_ledger.specs.Rows.{AllUpTo};
 ghost use Rattle.season_ledger.specs.Stands.{StandsFor};
-ghost use Rattle.manager_book.specs.Calls.{slot_of, first_not_held, lined_picks, order_refusal, lineup_broken, IsLined};
+ghost use Rattle.manager_book.specs.Calls.{slot_of, first_not_held, lined_picks, order_refusal, lineup_broken, IsLined, LinesUp};
 
 use fpl_base::{Gw, PlayerId, Refused, Rule};
 use rule_book::{Pick, Team};
@@ -87,6 +87,7 @@ pub fn line_up(
 ) -> Result<(), Refused>
     requires later { AllUpTo g season.old }
     ensures judged { IsJudgedOrOut (lineup_broken season.old order.now (slot_of order.now captain) (slot_of order.now vice) g) result }
+    ensures rows { OnOk result (LinesUp g order.now (slot_of order.now captain) (slot_of order.now vice) season.old season.new) }
     ensures history { (position : ℕ → Position) (h : List Event) → StandsFor position season.old h → OnOk result (StandsFor position season.new (h ++ in_gameweek g (Lineup order.now (slot_of order.now captain) (slot_of order.now vice) ∷ []))) }
     ensures err { OnErr result (season.new ≡ season.old) }
 {

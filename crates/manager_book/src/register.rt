@@ -9,7 +9,7 @@ ghost use Rattle.rule_book.specs.HistoryTeam.{holdings};
 ghost use Rattle.rule_book.specs.Players.{player_of};
 ghost use Rattle.rule_book.specs.Refusals.{IsJudged, IsJudgedOrOut};
 ghost use Rattle.season_ledger.specs.Stands.{StandsFor};
-ghost use Rattle.manager_book.specs.Calls.{pick_from, picks_from, clubs_of, cost_of, slot_of, first_refusal, register_broken, IsFirstOf};
+ghost use Rattle.manager_book.specs.Calls.{pick_from, picks_from, clubs_of, cost_of, slot_of, first_refusal, register_broken, IsFirstOf, Registers};
 
 use crate::lineup::slot_of;
 use fpl_base::{Chip, ClubId, Gw, PlayerId, Refused, Rule, Tenths};
@@ -158,6 +158,7 @@ pub fn register(
 ) -> Result<(), Refused>
     requires { All (λ id. IsSome (player_of players.now id)) squad.now }
     ensures judged { IsJudgedOrOut (register_broken season.old players.now squad.now (slot_of squad.now captain) (slot_of squad.now vice)) result }
+    ensures rows { OnOk result (Registers g players.now squad.now (slot_of squad.now captain) (slot_of squad.now vice) season.old season.new) }
     ensures history { (position : ℕ → Position) (h : List Event) → HavePositions position players.now → StandsFor position season.old h → OnOk result (StandsFor position season.new (h ++ in_gameweek g (First (holdings (picks_from players.now squad.now)) (slot_of squad.now captain) (slot_of squad.now vice) ∷ []))) }
     ensures err { OnErr result (season.new ≡ season.old) }
 {

@@ -6,6 +6,5 @@ pub mod MaxFacts
 pub mod UndoneFacts
 pub mod ChangeFacts
 pub mod RemainsFacts
-pub mod MaxChangeFacts
 pub mod NodeOrder
 pub mod KeyFacts

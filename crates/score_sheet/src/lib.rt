@@ -10,6 +10,3 @@ mod sheet;
 
 pub use laws::input_scores_once;
 pub use sheet::{SheetFault, score_sheet};
-
-#[cfg(test)]
-mod tests;

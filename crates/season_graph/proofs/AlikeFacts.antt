@@ -1,5 +1,5 @@
 -- Facts that differ in nothing that a node hangs on keep all nodes.
-use Rattle.std.proofs.Common.{◌≡◌, ℕ, Bool, ◌&&◌, nat_le, ◌⊎◌, inl, [], Option, Some, None, is_some, refl, sym, ◌∙◌, ap}
+use Rattle.std.proofs.Common.{◌≡◌, ℕ, ◌&&◌, nat_le, ◌⊎◌, inl, [], Option, Some, None, is_some, refl, sym, ◌∙◌, ap}
 use Rattle.std.specs.List.{filter}
 use Rattle.std.specs.Option.{option_map, option_map_or, unwrap_or}
 use Rattle.fpl_base.specs.declared.kinds.Position.{Position}

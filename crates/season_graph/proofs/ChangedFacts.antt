@@ -1,32 +1,32 @@
 -- What one change of the facts touches, and that it leaves everything else as it was.
-use Rattle.std.proofs.Common.{◌≡◌, ◌≢◌, ℕ, ◌+◌, pos, ◌+ℤ◌, ◌==◌, Bool, true, false, not, ◌&&◌, cond, nat_le, ◌⊎◌, inl, inr, ⊎_elim, ◌↔◌, List, [], ◌∷◌, ◌++◌, Option, Some, None, IsSome, is_some, length, map, nat_lt, refl, sym, ◌∙◌, ap, ap₂, subst, arith}
+use Rattle.std.proofs.Common.{◌≡◌, ◌≢◌, ℕ, ◌==◌, Bool, true, false, not, ◌&&◌, cond, nat_le, ◌⊎◌, inl, inr, ⊎_elim, ◌↔◌, List, [], ◌∷◌, Option, Some, None, is_some, length, map, nat_lt, refl, sym, ◌∙◌, ap, ap₂, subst, arith}
 use Rattle.std.specs.Bool.{beq}
 use Rattle.std.specs.Cmp.{booleans_Decides}
-use Rattle.std.specs.List.{fold, filter, flat_map, list_any}
+use Rattle.std.specs.List.{filter, flat_map, list_any}
 use Rattle.std.specs.Option.{option_map, option_map_or, unwrap_or}
 use Rattle.std.proofs.lemmas.Bool.Decides.{nat_tests}
 use Rattle.std.proofs.lemmas.List.{length-map}
 use Rattle.std.proofs.lemmas.Option.{same_Some}
 use Rattle.rule_book.specs.ById.{at_id}
 use Rattle.rule_book.specs.Calendar.{standing, stands_in}
-use Rattle.rule_book.specs.MatchFacts.{is_finished, line_of, lines_of, players_in}
+use Rattle.rule_book.specs.MatchFacts.{is_finished, line_of, lines_of}
 use Rattle.rule_book.specs.PlayerFigures.{position_in}
 use Rattle.rule_book.specs.Players.{player_of}
 use Rattle.rescore_graph.specs.declared.cells.Slot.{Slot}
-use Rattle.rescore_graph.specs.Graph.{Among, Graph}
+use Rattle.rescore_graph.specs.Graph.{Among}
 use Rattle.rescore_graph.specs.States.{State, is_dirty, IsDirty}
 use Rattle.rescore_graph.specs.Settling.{Sound, SoundBut}
-use Rattle.rescore_graph.proofs.ChangeFacts.{Untouched, sound_start, sound_whole}
-use Rattle.season_graph.specs.Changes.{IsSame, IsKept, IsTouched, DifferInLine, DifferInMark, DifferInPlace, Follows, MarksTouched}
+use Rattle.rescore_graph.proofs.ChangeFacts.{Untouched, sound_start}
+use Rattle.season_graph.specs.Changes.{IsSame, IsKept, IsTouched, DifferInLine, DifferInMark, Follows, MarksTouched}
 use Rattle.season_graph.specs.declared.nodes.Node.{Node}
 use Rattle.season_graph.specs.declared.nodes.Node.TheVariants as node
 use Rattle.season_graph.specs.declared.nodes.Value.{Value}
 use Rattle.season_graph.specs.declared.nodes.Value.TheVariants as value
 use Rattle.season_graph.specs.Reading.{filter_local, from_filter, to_filter}
 use Rattle.season_graph.specs.Refreshed.{Refreshed}
-use Rattle.season_graph.specs.Season.{SeasonFacts, IsSeason, has_line, players_of, fixtures_of, inputs_of, is_live, own_value, season_graph, worth_of, no_worth, worth_in, bonuses_in, with_bonus, took_part, gathered}
-use Rattle.season_graph.specs.SeasonLaws.{season_lawful, has_listed, listed_has}
-use Rattle.season_graph.specs.Touched.{is_other, gameweek_beside, line_nodes, moved_nodes}
+use Rattle.season_graph.specs.Season.{SeasonFacts, IsSeason, has_line, players_of, fixtures_of, is_live, season_graph, worth_of, no_worth, worth_in, bonuses_in, with_bonus, took_part, gathered}
+use Rattle.season_graph.specs.SeasonLaws.{season_lawful}
+use Rattle.season_graph.specs.Touched.{is_other, gameweek_beside, line_nodes}
 use Rattle.season_graph.proofs.DependentFacts.{stands_there, there_stands}
 use Rattle.season_graph.proofs.Lists.{listed_test}
 use Rattle.season_graph.proofs.RefreshedFacts.{refreshed_listed, refreshed_sound, refreshed_exact}

@@ -1,8 +1,8 @@
 -- What a new player touches.
-use Rattle.std.proofs.Common.{◌≡◌, ◌≢◌, ℕ, zero, suc, ◌+◌, ◌<◌, ◌≤◌, Bool, true, false, ◌&&◌, nat_le, ◌⊎◌, inl, inr, ⊎_elim, List, [], ◌∷◌, ◌++◌, Option, Some, None, is_some, refl, sym, ◌∙◌, ap, subst, arith, add-one}
+use Rattle.std.proofs.Common.{◌≡◌, ◌≢◌, ℕ, ◌+◌, ◌<◌, ◌≤◌, Bool, true, false, ◌&&◌, nat_le, ◌⊎◌, inl, inr, ⊎_elim, List, is_some, refl, sym, ◌∙◌, ap, subst, arith}
 use Rattle.std.specs.List.{filter}
 use Rattle.std.specs.Option.{option_map_or}
-use Rattle.std.proofs.lemmas.Bool.Decides.{nat_tests, leb_tells}
+use Rattle.std.proofs.lemmas.Bool.Decides.{nat_tests}
 use Rattle.rule_book.specs.Calendar.{standing}
 use Rattle.rule_book.specs.MatchFacts.{is_finished, line_of}
 use Rattle.rule_book.specs.PlayerFigures.{position_in}
@@ -10,12 +10,10 @@ use Rattle.rule_book.specs.Players.{player_of}
 use Rattle.fpl_base.specs.declared.kinds.Position.TheVariants.{Keeper}
 use Rattle.rescore_graph.specs.Graph.{Among}
 use Rattle.rescore_graph.specs.States.{State}
-use Rattle.rescore_graph.specs.Settling.{Sound}
 use Rattle.season_graph.specs.Changes.{IsKept, IsTouched, DifferInPlayer, Follows, MarksTouched}
 use Rattle.season_graph.specs.declared.nodes.Node.{Node}
 use Rattle.season_graph.specs.declared.nodes.Node.TheVariants as node
 use Rattle.season_graph.specs.declared.nodes.Value.{Value}
-use Rattle.season_graph.specs.Reading.{among_either, among_left, among_right}
 use Rattle.season_graph.specs.Refreshed.{Refreshed}
 use Rattle.season_graph.specs.Season.{SeasonFacts, IsSeason, fixtures_of, has_line, is_live, players_of}
 use Rattle.season_graph.specs.SeasonLaws.{first_true, second_true}

@@ -1,6 +1,6 @@
 -- Dependents are the converse of inputs.
-use Rattle.std.proofs.Common.{◌≡◌, ℕ, zero, suc, ◌<◌, ◌≤◌, ◌==◌, ◌&&◌, nat_le, Bool, true, false, if◌then◌else◌, cond, ◌⊎◌, inl, inr, ⊎_elim, ◌↔◌, List, [], ◌∷◌, Option, Some, None, is_some, length, map, get_or, refl, sym, ◌∙◌, ap, subst, arith}
-use Rattle.std.specs.List.{filter, find, flat_map, AllPairs}
+use Rattle.std.proofs.Common.{◌≡◌, ℕ, zero, suc, ◌<◌, ◌==◌, Bool, true, false, if◌then◌else◌, cond, ◌⊎◌, inl, inr, ⊎_elim, List, [], ◌∷◌, Option, Some, None, length, get_or, refl, sym, ◌∙◌, ap, subst, arith}
+use Rattle.std.specs.List.{filter, find, AllPairs}
 use Rattle.std.specs.Option.{option_and_then, option_map_or}
 use Rattle.std.proofs.lemmas.Bool.Decides.{nat_tests}
 use Rattle.std.proofs.lemmas.Option.{same_Some}
@@ -10,12 +10,11 @@ use Rattle.rule_book.specs.MatchFacts.{lines_of}
 use Rattle.rescore_graph.specs.Graph.{Among, IsDependents}
 use Rattle.season_graph.specs.declared.nodes.Node.{Node}
 use Rattle.season_graph.specs.declared.nodes.Node.TheVariants as node
-use Rattle.season_graph.specs.Dependents.{live_gameweek, counting, line_dependents, bonus_dependents, dependents_of}
+use Rattle.season_graph.specs.Dependents.{counting, line_dependents, bonus_dependents, dependents_of}
 use Rattle.season_graph.specs.NodeOrder.{kind_of, first_of, second_of}
 use Rattle.season_graph.specs.Reading.{from_filter, to_filter, from_map, to_map, from_flat, to_flat}
 use Rattle.season_graph.specs.Season.{SeasonFacts, has_line, players_of, fixtures_of, is_live, inputs_of, season_graph, IsSeason}
-use Rattle.season_graph.specs.SeasonLaws.{listed_has, has_listed, has_some, both_true, first_true, second_true}
-use Rattle.rule_book.specs.Players.{player_of}
+use Rattle.season_graph.specs.SeasonLaws.{listed_has, has_listed, has_some}
 
 -- the place of an element
 place_among : {X : Type 0} (xs : List X) (x : X) → Among xs x → (i : ℕ) × ((i < length xs) × ((d : X) → get_or xs i d ≡ x))

@@ -1,5 +1,5 @@
 -- What a change of the matches' facts leaves.
-use Rattle.std.proofs.Common.{◌≡◌, ◌≢◌, ℕ, ◌<◌, ◌==◌, nat_lt, Bool, true, false, cond, if◌then◌else◌, ◌⊎◌, inl, inr, ⊎_elim, List, [], ◌∷◌, ◌++◌, Option, Some, None, is_some, map, refl, sym, ◌∙◌, ap, ap₂, subst, arith}
+use Rattle.std.proofs.Common.{◌≡◌, ◌≢◌, ℕ, ◌<◌, ◌==◌, nat_lt, Bool, true, false, cond, if◌then◌else◌, ⊎_elim, [], ◌∷◌, ◌++◌, Some, None, is_some, refl, sym, ◌∙◌, ap, ap₂, subst, arith}
 use Rattle.std.specs.List.{filter, fold}
 use Rattle.std.proofs.lemmas.Bool.Decides.{nat_tests}
 use Rattle.std.proofs.lemmas.List.{map-append}
@@ -7,12 +7,12 @@ use Rattle.std.proofs.lemmas.Option.{same_Some}
 use Rattle.rule_book.specs.declared.line.Line.{Line}
 use Rattle.rule_book.specs.ById.{placed_at}
 use Rattle.rule_book.specs.Figures.{IsLine}
-use Rattle.rule_book.specs.MatchFacts.{Lines, MatchFacts, Sheet, by_player, is_finished, line_in, line_of, lines_of, players_in, sheet_of, with_line, with_sheet, without_line}
+use Rattle.rule_book.specs.MatchFacts.{Lines, Sheet, by_player, is_finished, line_in, line_of, lines_of, players_in, sheet_of, with_line, with_sheet, without_line}
 use Rattle.rule_book.specs.Players.{player_of}
 use Rattle.match_facts.specs.Laws.{LinesAreAMap, LinesGo, SheetsAreAMap, SheetsHaveTheirLines}
 use Rattle.rescore_graph.specs.Graph.{Among}
-use Rattle.season_graph.specs.BookChanges.{AreOthers, AreSheetLines, LineIsDropped, LineIsPut, MarkIsSet, SheetIsPut, with_matches}
-use Rattle.season_graph.specs.Changes.{DifferInLine, DifferInMark, DifferInSheet}
+use Rattle.season_graph.specs.BookChanges.{LineIsDropped, LineIsPut, MarkIsSet, SheetIsPut, with_matches}
+use Rattle.season_graph.specs.Changes.{DifferInLine}
 use Rattle.season_graph.specs.Reading.{among_either, from_filter}
 use Rattle.season_graph.specs.Season.{SeasonFacts, IsSeason, Rising, has_line, players_of}
 use Rattle.season_graph.proofs.ChangedFacts.{same_or_not}

@@ -1,24 +1,23 @@
 -- What a fixture touches that stands in another gameweek.
-use Rattle.std.proofs.Common.{◌≡◌, ◌≢◌, ℕ, ◌<◌, Bool, true, false, not, ◌&&◌, cond, if◌then◌else◌, nat_le, ◌⊎◌, inl, inr, ⊎_elim, List, [], ◌∷◌, ◌++◌, Option, Some, None, is_some, map, refl, sym, ◌∙◌, ap, ap₂, subst}
-use Rattle.std.specs.List.{AllPairs, filter, flat_map}
+use Rattle.std.proofs.Common.{◌≡◌, ◌≢◌, ℕ, ◌<◌, Bool, true, false, ◌&&◌, cond, nat_le, ◌⊎◌, inl, inr, ⊎_elim, List, [], ◌∷◌, ◌++◌, Option, Some, is_some, map, refl, sym, ◌∙◌, ap, subst}
+use Rattle.std.specs.List.{AllPairs, filter}
 use Rattle.rule_book.specs.declared.season.Fixture.{Fixture}
-use Rattle.rule_book.specs.Calendar.{CalendarFacts, is_gameweek, standing, standing_among, stands_in}
+use Rattle.rule_book.specs.Calendar.{is_gameweek, standing, standing_among, stands_in}
 use Rattle.rule_book.specs.MatchFacts.{is_finished, line_of, lines_of}
 use Rattle.rule_book.specs.PlayerFigures.{position_in}
 use Rattle.rule_book.specs.Players.{player_of}
 use Rattle.rescore_graph.specs.Graph.{Among}
 use Rattle.rescore_graph.specs.States.{State}
-use Rattle.rescore_graph.specs.Settling.{Sound}
 use Rattle.season_graph.specs.Changes.{IsKept, IsTouched, DifferInPlace, Follows, MarksTouched}
 use Rattle.season_graph.specs.declared.nodes.Node.{Node}
 use Rattle.season_graph.specs.declared.nodes.Node.TheVariants as node
 use Rattle.season_graph.specs.declared.nodes.Value.{Value}
-use Rattle.season_graph.specs.Reading.{among_either, among_left, among_right, filter_local, from_filter, from_map, to_filter, from_flat, to_flat}
+use Rattle.season_graph.specs.Reading.{among_either, among_left, among_right, from_filter, from_map, to_filter, from_flat, to_flat}
 use Rattle.season_graph.specs.Refreshed.{Refreshed}
 use Rattle.season_graph.specs.Season.{SeasonFacts, IsSeason, Rising, fixtures_of, has_line, is_live, players_of}
 use Rattle.season_graph.specs.SeasonLaws.{has_listed, listed_has}
 use Rattle.season_graph.specs.Touched.{gameweek_beside, moved_nodes}
-use Rattle.season_graph.proofs.ChangedFacts.{beside_at, change_exact, change_sound, from_beside, place_or_not, same_or_not, some_lines}
+use Rattle.season_graph.proofs.ChangedFacts.{beside_at, change_exact, change_sound, from_beside, place_or_not, same_or_not}
 use Rattle.season_graph.proofs.RisingFacts.{rising_filter, rising_same}
 use Rattle.season_graph.proofs.DependentFacts.{rising_head, rising_tail, stands_there, there_stands}
 

@@ -1,5 +1,5 @@
 -- Rising numbers are told by who is among them.
-use Rattle.std.proofs.Common.{◌≡◌, ℕ, ◌<◌, ◌==◌, Bool, true, false, cond, ◌⊎◌, inl, inr, ⊎_elim, ◌↔◌, List, [], ◌∷◌, ◌++◌, is_some, map, refl, sym, ◌∙◌, ap, ap₂, subst, arith}
+use Rattle.std.proofs.Common.{◌≡◌, ℕ, ◌<◌, Bool, true, false, cond, inl, inr, ⊎_elim, List, [], ◌∷◌, ◌++◌, refl, sym, ◌∙◌, ap₂, subst, arith}
 use Rattle.std.specs.List.{filter}
 use Rattle.rule_book.specs.MatchFacts.{lines_of}
 use Rattle.rescore_graph.specs.Graph.{Among}

@@ -1,20 +1,19 @@
 -- What some lines of a fixture and its mark touch.
-use Rattle.std.proofs.Common.{◌≡◌, ◌≢◌, ℕ, ◌+◌, ◌==◌, Bool, true, false, not, ◌&&◌, cond, nat_le, ◌⊎◌, inl, inr, ⊎_elim, ◌↔◌, List, [], ◌∷◌, ◌++◌, Option, Some, None, is_some, map, take, refl, sym, ◌∙◌, ap, ap₂, subst}
-use Rattle.std.specs.List.{filter, flat_map, list_any}
+use Rattle.std.proofs.Common.{◌≡◌, ◌≢◌, ℕ, ◌==◌, Bool, true, false, ◌&&◌, cond, nat_le, ◌⊎◌, inl, inr, ⊎_elim, List, [], ◌∷◌, ◌++◌, Some, is_some, refl, sym, ◌∙◌, ap, subst}
+use Rattle.std.specs.List.{filter, list_any}
 use Rattle.rule_book.specs.Calendar.{standing, stands_in}
 use Rattle.rule_book.specs.MatchFacts.{is_finished, line_of, lines_of}
 use Rattle.rule_book.specs.PlayerFigures.{position_in}
 use Rattle.rule_book.specs.Players.{player_of}
 use Rattle.rescore_graph.specs.Graph.{Among}
 use Rattle.rescore_graph.specs.States.{State}
-use Rattle.rescore_graph.specs.Settling.{Sound}
 use Rattle.season_graph.specs.Changes.{IsKept, IsTouched, DifferInSheet, Follows, MarksTouched}
 use Rattle.season_graph.specs.declared.nodes.Node.{Node}
 use Rattle.season_graph.specs.declared.nodes.Node.TheVariants as node
 use Rattle.season_graph.specs.declared.nodes.Value.{Value}
 use Rattle.season_graph.specs.Reading.{among_either, among_left, among_right, filter_local, from_filter, to_filter, from_flat, to_flat}
-use Rattle.season_graph.specs.Refreshed.{refreshed, Refreshed}
-use Rattle.season_graph.specs.Season.{SeasonFacts, IsSeason, fixtures_of, has_line, is_live, players_of, season_graph}
+use Rattle.season_graph.specs.Refreshed.{Refreshed}
+use Rattle.season_graph.specs.Season.{SeasonFacts, IsSeason, fixtures_of, has_line, is_live, players_of}
 use Rattle.season_graph.specs.Touched.{is_other, gameweek_beside, line_nodes, lines_nodes, sheet_nodes}
 use Rattle.season_graph.proofs.ChangedFacts.{beside_at, bool_case, at_node, change_exact, change_sound, other_same, from_beside, from_rest, iff_same, place_or_not, same_or_not, some_lines, to_rest}
 use Rattle.season_graph.proofs.DependentFacts.{stands_there, there_stands}

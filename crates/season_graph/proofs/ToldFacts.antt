@@ -1,14 +1,12 @@
 -- Each node's own function of the values that the rule book tells gives the value that the rule book tells.
-use Rattle.std.proofs.Common.{◌≡◌, ◌≢◌, ℕ, ◌+◌, ◌-◌, ◌<◌, ◌==◌, ℤ, pos, ◌+ℤ◌, Bool, true, false, ◌||◌, cond, if◌then◌else◌, nat_le, ◌⊎◌, inl, inr, ⊎_elim, List, [], ◌∷◌, ◌++◌, Option, Some, None, is_some, map, refl, sym, ◌∙◌, ap, ap₂, subst, arith, add_assoc, zero-add}
+use Rattle.std.proofs.Common.{◌≡◌, ℕ, ◌+◌, ◌<◌, ◌==◌, ℤ, pos, ◌+ℤ◌, Bool, true, false, ◌||◌, cond, if◌then◌else◌, nat_le, inl, inr, List, [], ◌∷◌, ◌++◌, Option, Some, None, is_some, map, refl, sym, ◌∙◌, ap, ap₂, subst, arith, add_assoc, zero-add}
 use Rattle.std.specs.List.{filter, flat_map, fold, list_any, sum_by}
-use Rattle.std.specs.Map.{lookup}
 use Rattle.std.specs.Option.{option_map_or, unwrap_or}
 use Rattle.std.proofs.lemmas.Bool.Decides.{nat_tests}
 use Rattle.std.proofs.lemmas.List.Sums.{sum_by-cons}
 use Rattle.std.proofs.lemmas.Option.{same_Some}
 use Rattle.rule_book.specs.declared.line.Appearance.{Appearance}
 use Rattle.rule_book.specs.declared.line.Line.{Line}
-use Rattle.rule_book.specs.declared.player.Player.{Player}
 use Rattle.rule_book.specs.declared.team_score.Figures.{Figures}
 use Rattle.rule_book.specs.ById.{at_id}
 use Rattle.rule_book.specs.Bonus.{bonus_in, bonus_of, standing, takes_part}
@@ -16,15 +14,13 @@ use Rattle.rule_book.specs.BonusPoints.{bps_of}
 use Rattle.rule_book.specs.Calendar.{standing as standing_in}
 use Rattle.rule_book.specs.Figures.{figure}
 use Rattle.rule_book.specs.MatchFacts.{Lines, is_finished, line_in, line_of, lines_of, players_in}
-use Rattle.rule_book.specs.PlayerFigures.{appearance, bonus_at, figures_in, line_beside, lines_in_gameweek, played_with, points_at, position_in}
-use Rattle.rule_book.specs.Points.{points_of}
+use Rattle.rule_book.specs.PlayerFigures.{appearance, bonus_at, line_beside, played_with, points_at, position_in}
 use Rattle.rescore_graph.specs.Graph.{Among}
 use Rattle.season_graph.specs.declared.nodes.LineWorth.{LineWorth}
 use Rattle.season_graph.specs.declared.nodes.Node.{Node}
 use Rattle.season_graph.specs.declared.nodes.Node.TheVariants as node
-use Rattle.season_graph.specs.declared.nodes.Value.{Value}
 use Rattle.season_graph.specs.declared.nodes.Value.TheVariants as value
-use Rattle.season_graph.specs.Season.{SeasonFacts, Rising, bonuses_in, fixtures_of, gathered, has_line, no_figures, no_worth, own_value, players_of, took_part, with_bonus, with_worth, worth_in, worth_of}
+use Rattle.season_graph.specs.Season.{SeasonFacts, Rising, bonuses_in, fixtures_of, gathered, has_line, no_worth, own_value, took_part, with_bonus, with_worth, worth_in, worth_of}
 use Rattle.season_graph.specs.Told.{told, gameweek_figures}
 use Rattle.season_graph.proofs.DependentFacts.{below_or_above, same_test}
 

@@ -1,6 +1,5 @@
 -- Cells in which each live node was planted and nothing else are sound.
-use Rattle.std.proofs.Common.{◌≡◌, ℕ, ◌<◌, ◌≤◌, Bool, true, false, ◌&&◌, ◌==◌, cond, nat_le, nat_lt, ◌⊎◌, inl, inr, ⊎_elim, ◌↔◌, List, [], ◌∷◌, ◌++◌, Option, Some, None, IsSome, is_some, length, map, refl, sym, ◌∙◌, ap, subst, arith}
-use Rattle.std.specs.List.{flat_map}
+use Rattle.std.proofs.Common.{◌≡◌, ℕ, ◌<◌, ◌≤◌, Bool, true, false, ◌&&◌, ◌==◌, cond, nat_le, nat_lt, ◌⊎◌, inl, inr, ⊎_elim, List, [], ◌∷◌, Option, Some, None, is_some, length, refl, sym, ◌∙◌, ap, arith}
 use Rattle.std.specs.Map.{keys_of}
 use Rattle.std.specs.Option.{unwrap_or}
 use Rattle.std.proofs.lemmas.Bool.Decides.{nat_tests}
@@ -16,7 +15,7 @@ use Rattle.season_graph.specs.declared.nodes.Node.TheVariants as node
 use Rattle.season_graph.specs.declared.nodes.Value.{Value}
 use Rattle.season_graph.specs.Reading.{among_left, among_right, to_flat, to_map}
 use Rattle.season_graph.specs.Refreshed.{refreshed, Refreshed}
-use Rattle.season_graph.specs.Season.{SeasonFacts, has_line, is_live, players_of, season_graph}
+use Rattle.season_graph.specs.Season.{SeasonFacts, is_live, players_of, season_graph}
 use Rattle.season_graph.specs.SeasonLaws.{first_true, has_listed, has_some, second_true}
 use Rattle.season_graph.specs.Touched.{fixture_nodes, fixtures_nodes, locked_nodes, season_nodes}
 use Rattle.season_graph.proofs.LockFacts.{locked_among}

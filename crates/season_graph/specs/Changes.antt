@@ -1,5 +1,5 @@
 -- What one change of the facts leaves as it was.
-use Rattle.std.specs.Prelude.{◌≡◌, ◌≢◌, ◌≤◌, ℕ, List, Bool, true, false, ◌⊎◌, ◌↔◌, filter, is_some}
+use Rattle.std.specs.Prelude.{◌≡◌, ◌≢◌, ◌≤◌, ℕ, List, Bool, true, false, ◌⊎◌, ◌↔◌, is_some}
 use Rattle.std.specs.Option.{option_map}
 use Rattle.rule_book.specs.Calendar.{stands_in}
 use Rattle.rule_book.specs.MatchFacts.{is_finished, line_of}
@@ -11,7 +11,7 @@ use Rattle.rescore_graph.specs.Settling.{Sound}
 use Rattle.season_graph.specs.declared.nodes.Value.{Value}
 use Rattle.season_graph.specs.declared.nodes.Node.{Node}
 use Rattle.season_graph.specs.declared.nodes.Node.TheVariants as node
-use Rattle.season_graph.specs.Season.{SeasonFacts, has_line, players_of, fixtures_of, is_live, season_graph}
+use Rattle.season_graph.specs.Season.{SeasonFacts, players_of, fixtures_of, is_live, season_graph}
 
 module _ (b d : SeasonFacts) where
   -- a node's inputs and its own facts are the same in both

@@ -1,11 +1,10 @@
 -- The nodes of which a node is an input, told by the facts.
-use Rattle.std.specs.Prelude.{◌≡◌, ◌↔◌, ℕ, true, nat_le, map, if◌then◌else◌, List, [], ◌∷◌, Option, Some, None}
+use Rattle.std.specs.Prelude.{ℕ, if◌then◌else◌, List, [], ◌∷◌, Option, Some, None}
 use Rattle.std.specs.List.{flat_map}
 use Rattle.std.specs.Option.{option_map_or, option_and_then}
 use Rattle.rule_book.specs.Calendar.{stands_in}
 use Rattle.season_graph.specs.declared.nodes.Node.{Node}
 use Rattle.season_graph.specs.declared.nodes.Node.TheVariants as node
-use Rattle.rescore_graph.specs.Graph.{Among}
 use Rattle.season_graph.specs.Season.{SeasonFacts, is_live, players_of}
 
 module _ (b : SeasonFacts) where

@@ -1,7 +1,7 @@
 -- What a change of the books does to the cells of a season. For each change: which nodes are brought up to date; that
 -- cells which were sound for the facts of before are sound for the books; and that, where nothing was dirty, dirty are
 -- exactly the nodes which the change touches.
-use Rattle.std.specs.Prelude.{◌≡◌, ◌≢◌, ◌-◌, ℕ, Bool, true, List, ◌∷◌, [], Option, is_some}
+use Rattle.std.specs.Prelude.{◌≡◌, ◌≢◌, ◌-◌, ℕ, Bool, true, List, Option, is_some}
 use Rattle.rule_book.specs.Calendar.{stands_in}
 use Rattle.rule_book.specs.MatchFacts.{is_finished, line_of}
 use Rattle.rescore_graph.specs.declared.cells.Slot.{Slot}
@@ -18,7 +18,7 @@ use Rattle.season_graph.specs.Evaluated.{IsEvaluated}
 use Rattle.season_graph.specs.NodeOrder.{node_cmp}
 use Rattle.season_graph.specs.Refreshed.{Refreshed, refreshed}
 use Rattle.season_graph.specs.Season.{SeasonFacts, IsSeason, is_live, season_graph}
-use Rattle.season_graph.specs.Touched.{gameweek_beside, line_nodes, lines_nodes, locked_nodes, moved_nodes, player_nodes, presence_nodes, sheet_nodes}
+use Rattle.season_graph.specs.Touched.{line_nodes, lines_nodes, locked_nodes, moved_nodes, player_nodes, presence_nodes, sheet_nodes}
 
 -- the cells of a season, as contracts see them
 abbrev pub SeasonRows : Type 0

@@ -1,21 +1,19 @@
 -- A season is a graph.
-use Rattle.std.proofs.Common.{◌≡◌, ℕ, ◌+◌, ◌<◌, ◌==◌, ℤ, pos, ◌+ℤ◌, Bool, true, false, ◌||◌, ◌&&◌, nat_le, nat_lt, if◌then◌else◌, cond, ◌⊎◌, inl, inr, ⊎_elim, List, [], ◌∷◌, Option, Some, None, is_some, length, map, refl, sym, ◌∙◌, ap, ap₂, subst, arith}
-use Rattle.std.specs.List.{filter, fold}
+use Rattle.std.proofs.Common.{◌≡◌, ℕ, ◌<◌, ◌==◌, Bool, true, false, ◌&&◌, nat_le, nat_lt, if◌then◌else◌, cond, ◌⊎◌, inl, inr, ⊎_elim, List, [], ◌∷◌, Option, Some, is_some, length, map, refl, ◌∙◌, ap, ap₂, subst, arith}
+use Rattle.std.specs.List.{filter}
 use Rattle.std.specs.Option.{unwrap_or}
 use Rattle.std.proofs.lemmas.Bool.Decides.{nat_tests}
 use Rattle.rule_book.specs.declared.line.Line.{Line}
-use Rattle.rule_book.specs.declared.team_score.Figures.{Figures}
 use Rattle.rule_book.specs.ById.{at_id}
 use Rattle.rule_book.specs.Calendar.{standing}
 use Rattle.rule_book.specs.MatchFacts.{Lines, is_finished, line_in, lines_of, players_in}
-use Rattle.rule_book.specs.Players.{player_of}
 use Rattle.rescore_graph.specs.Graph.{IsGraph, Among}
 use Rattle.season_graph.specs.declared.nodes.LineWorth.{LineWorth}
 use Rattle.season_graph.specs.declared.nodes.Node.{Node}
 use Rattle.season_graph.specs.declared.nodes.Node.TheVariants as node
 use Rattle.season_graph.specs.declared.nodes.Value.{Value}
 use Rattle.season_graph.specs.declared.nodes.Value.TheVariants as value
-use Rattle.season_graph.specs.Reading.{map_local, filter_local, fold_local, from_filter, to_filter, from_map, to_map, from_flat, to_flat}
+use Rattle.season_graph.specs.Reading.{map_local, filter_local, fold_local, from_filter, from_map, to_map, from_flat, to_flat}
 use Rattle.season_graph.specs.Season.{SeasonFacts, worth_in, bonuses_in, took_part, with_bonus, no_figures, with_worth, gathered, has_line, players_of, fixtures_of, is_live, inputs_of, own_value, level_of, season_graph, IsSeason}
 
 same_test : (n m : ℕ) → n ≡ m → (n == m) ≡ true

@@ -17,6 +17,4 @@ pub use rule_book::{Armband, Eleven, Figures, TeamScore};
 pub use score::team_score;
 
 #[cfg(test)]
-mod plain_search;
-#[cfg(test)]
 mod tests;

@@ -1,38 +1,24 @@
-ghost use Rattle.std.specs.Prelude.{pos, negsuc, ◌≤ℤ◌};
+ghost use Rattle.std.specs.Prelude.{All};
 ghost use Rattle.rule_book.specs.Teams.{InTeam};
 ghost use Rattle.rule_book.specs.TeamScores.{IsModest};
 
-use crate::{
-    Armband, Figures, armband, elevens_are_legal, enough_for_elevens, final_eleven, has_one_eleven,
-    one_eleven, team_score,
-};
+use crate::{Figures, team_score};
 use fpl_base::{Chip, PlayerId, Position, Tenths};
 use rule_book::{Pick, Team};
 use std::process::Abort;
 
 // Three defenders, four midfielders and three forwards; the outfield bench is a midfielder and two defenders.
-const POSITIONS: [Position; 15] = [
-    Position::Keeper,
-    Position::Defender,
-    Position::Defender,
-    Position::Defender,
-    Position::Midfielder,
-    Position::Midfielder,
-    Position::Midfielder,
-    Position::Midfielder,
-    Position::Forward,
-    Position::Forward,
-    Position::Forward,
-    Position::Keeper,
-    Position::Midfielder,
-    Position::Defender,
-    Position::Defender,
-];
-
-const STARTERS: [u8; 11] = [1, 2, 3, 4, 5, 6, 7, 8, 9, 10, 11];
+fn position_of(slot: u32) -> Position {
+    match slot {
+        1 | 12 => Position::Keeper,
+        2..=4 | 14 | 15 => Position::Defender,
+        5..=8 | 13 => Position::Midfielder,
+        _ => Position::Forward,
+    }
+}
 
 // Slot 10 has the captain, slot 9 the vice-captain.
-pub(crate) fn team(rt: &impl Abort, positions: &[Position; 15], chip: Chip) -> Team
+fn team(rt: &impl Abort, chip: Chip) -> Team
     ensures captain { InTeam result.captain }
     ensures vice { InTeam result.vice }
 {
@@ -42,9 +28,9 @@ pub(crate) fn team(rt: &impl Abort, positions: &[Position; 15], chip: Chip) -> T
         bought: Tenths::new(50).expect(rt, "a price"),
     };
     let mut picks = [first; 15];
-    for (place, position) in positions.iter().enumerate() {
-        picks[place].player = PlayerId::new(place as u32 + 1).expect(rt, "a player's number");
-        picks[place].position = *position;
+    for slot in 2..16u32 {
+        picks[slot as usize - 1].player = PlayerId::new(slot).expect(rt, "a player's number");
+        picks[slot as usize - 1].position = position_of(slot);
     }
     Team {
         picks,
@@ -55,109 +41,95 @@ pub(crate) fn team(rt: &impl Abort, positions: &[Position; 15], chip: Chip) -> T
     }
 }
 
-// Points, one goal and two conceded.
-pub(crate) fn figures(points: i32, played: bool) -> Figures
-    requires low { negsuc 999999 ≤ℤ points }
-    requires high { points ≤ℤ pos 1000000 }
+// Who plays has 2 points, a goal and two conceded, and the others have nothing.
+fn figures(played: bool) -> Figures
     ensures { IsModest result }
 {
-    Figures {
-        points,
-        played,
-        goals: 1,
-        conceded: 2,
+    if played {
+        Figures {
+            points: 2,
+            played,
+            goals: 1,
+            conceded: 2,
+        }
+    } else {
+        Figures {
+            points: 0,
+            played,
+            goals: 0,
+            conceded: 0,
+        }
     }
 }
 
-#[test]
-fn the_formation_rules_who_comes(rt: HostRuntime) {
-    let team = team(&rt, &POSITIONS, Chip::None);
-    let mut all = [figures(2, true); 15];
-    all[1] = figures(0, false);
-    all[4] = figures(0, false);
-    assert_eq!(rt;
-        final_eleven(&team, &all, true).slots,
-        [1, 14, 3, 4, 13, 6, 7, 8, 9, 10, 11]
-    );
-    assert_eq!(rt; final_eleven(&team, &all, false).slots, STARTERS);
-    all[13] = figures(0, false);
-    all[14] = figures(0, false);
-    assert_eq!(rt;
-        final_eleven(&team, &all, true).slots,
-        [1, 2, 3, 4, 13, 6, 7, 8, 9, 10, 11]
-    );
-    has_one_eleven(&team, &all, true);
-    one_eleven();
-    elevens_are_legal();
-    enough_for_elevens();
+// The same figures, but that the player of this slot did not play; slot 0 is nobody's.
+fn without(all: [Figures; 15], slot: u8) -> [Figures; 15]
+    requires { All IsModest all }
+    ensures { All IsModest result }
+{
+    let mut all = all;
+    if slot >= 1 && slot <= 15 {
+        all[slot as usize - 1] = figures(false);
+    }
+    all
 }
 
-#[test]
-fn a_goalkeeper_comes_for_the_goalkeeper(rt: HostRuntime) {
-    let team = team(&rt, &POSITIONS, Chip::Wildcard);
-    let mut all = [figures(2, true); 15];
-    all[0] = figures(0, false);
-    assert_eq!(rt;
-        final_eleven(&team, &all, true).slots,
-        [12, 2, 3, 4, 5, 6, 7, 8, 9, 10, 11]
-    );
-    all[11] = figures(0, false);
-    assert_eq!(rt; final_eleven(&team, &all, true).slots, STARTERS);
-}
-
-#[test]
-fn the_armband_passes_on(rt: HostRuntime) {
-    let plain = team(&rt, &POSITIONS, Chip::None);
-    let triple = team(&rt, &POSITIONS, Chip::TripleCaptain);
-    let mut all = [figures(2, true); 15];
-    all[9] = figures(0, false);
-    assert_eq!(rt;
-        armband(&triple, &all, true),
-        Some(Armband { slot: 9, factor: 3 })
-    );
-    assert_eq!(rt;
-        armband(&triple, &all, false),
-        Some(Armband {
-            slot: 10,
-            factor: 3
-        })
-    );
-    assert_eq!(rt;
-        armband(&plain, &all, true),
-        Some(Armband { slot: 9, factor: 2 })
-    );
-    all[8] = figures(0, false);
-    assert_eq!(rt; armband(&plain, &all, true), None);
-}
-
-#[test]
-fn a_bench_boost_counts_the_bench(rt: HostRuntime) {
-    let team = team(&rt, &POSITIONS, Chip::BenchBoost);
-    let mut all = [figures(1, true); 15];
-    all[9] = figures(0, false);
-    all[12] = figures(9, true);
-    let score = team_score(&team, &all, true, 4);
-    assert_eq!(rt; score.eleven.slots, STARTERS);
-    assert_eq!(rt; score.armband, Some(Armband { slot: 9, factor: 2 }));
-    assert_eq!(rt; score.gross, 23);
-    assert_eq!(rt; score.cost, 4);
-    assert_eq!(rt; score.net, 19);
-    assert_eq!(rt; score.goals, 11);
-    assert_eq!(rt; score.conceded, 22);
-}
-
-#[test]
-fn an_empty_gameweek_costs(rt: HostRuntime) {
-    let team = team(&rt, &POSITIONS, Chip::None);
-    let none = Figures {
-        points: 0,
-        played: false,
-        goals: 0,
-        conceded: 0,
+// Who stands for the starters in turn, the captain's slot, how often it counts, and the score after a cost of 4, where
+// the players of these slots did not play.
+fn scored(rt: &impl Abort, chip: Chip, ended: bool, absent: [u8; 4]) -> ([u8; 11], u8, u8, i32) {
+    let team = team(rt, chip);
+    let all = without(without([figures(true); 15], absent[0]), absent[1]);
+    let all = without(without(all, absent[2]), absent[3]);
+    let score = team_score(&team, &all, ended, 4);
+    let (slot, factor) = match score.armband {
+        Some(armband) => (armband.slot, armband.factor),
+        None => (0, 0),
     };
-    let score = team_score(&team, &[none; 15], true, 8);
-    assert_eq!(rt; score.armband, None);
-    assert_eq!(rt; score.gross, 0);
-    assert_eq!(rt; score.net, -8);
-    assert_eq!(rt; score.eleven.slots, STARTERS);
+    let slots = score.eleven.slots;
+    (slots, slot, factor, score.net)
+}
+
+// As it starts; before the end nobody comes; the formation rules who comes; the goalkeeper's place; the armband; a bench
+// boost; nobody played.
+#[test]
+fn teams_score(rt: HostRuntime) {
+    let starters = [1, 2, 3, 4, 5, 6, 7, 8, 9, 10, 11];
+    for (chip, ended, absent, wanted) in [
+        (Chip::None, true, [0, 0, 0, 0], (starters, 10, 2, 20)),
+        (Chip::None, false, [2, 10, 0, 0], (starters, 10, 2, 14)),
+        (
+            Chip::None,
+            true,
+            [2, 5, 0, 0],
+            ([1, 14, 3, 4, 13, 6, 7, 8, 9, 10, 11], 10, 2, 20),
+        ),
+        (
+            Chip::None,
+            true,
+            [2, 5, 14, 15],
+            ([1, 2, 3, 4, 13, 6, 7, 8, 9, 10, 11], 10, 2, 18),
+        ),
+        (
+            Chip::None,
+            true,
+            [1, 0, 0, 0],
+            ([12, 2, 3, 4, 5, 6, 7, 8, 9, 10, 11], 10, 2, 20),
+        ),
+        (Chip::None, true, [1, 12, 0, 0], (starters, 10, 2, 18)),
+        (
+            Chip::TripleCaptain,
+            true,
+            [10, 0, 0, 0],
+            ([1, 2, 3, 4, 5, 6, 7, 8, 9, 13, 11], 9, 3, 22),
+        ),
+        (
+            Chip::None,
+            true,
+            [9, 10, 0, 0],
+            ([1, 2, 3, 4, 5, 6, 7, 8, 13, 14, 11], 0, 0, 18),
+        ),
+        (Chip::BenchBoost, true, [10, 0, 0, 0], (starters, 9, 2, 26)),
+    ] {
+        assert_eq!(rt; scored(&rt, chip, ended, absent), wanted);
+    }
 }

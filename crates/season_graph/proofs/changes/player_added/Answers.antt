@@ -1,6 +1,6 @@
 use Rattle.std.proofs.Common.{◌≡◌, ◌-◌, ℕ, arith, subst}
 use Rattle.season_graph.specs.BookFacts.{facts_of}
-use Rattle.season_graph.specs.Followed.{PlayerRefreshed, Refreshes, held}
+use Rattle.season_graph.specs.Followed.{Refreshes, held}
 use Rattle.season_graph.specs.Touched.{player_nodes}
 use Rattle.season_graph.proofs.ComingFacts.{coming_follows, coming_marks}
 use Rattle.season_graph.proofs.changes.player_added.Goals as goal

@@ -1,9 +1,9 @@
-use Rattle.std.proofs.Common.{◌≡◌, ◌++◌, ◌+◌, ℕ, Bool, List, is_some, take, get_or, refl, subst, sym}
+use Rattle.std.proofs.Common.{◌≡◌, ◌++◌, ◌+◌, ℕ, Bool, List, is_some, take, refl, subst, sym}
 use Rattle.std.specs.List.{flat_map}
 use Rattle.rescore_graph.specs.States.{look}
 use Rattle.season_graph.specs.BookFacts.{facts_of}
 use Rattle.season_graph.specs.Season.{is_live}
-use Rattle.season_graph.specs.Touched.{line_nodes, lines_nodes}
+use Rattle.season_graph.specs.Touched.{line_nodes}
 use Rattle.season_graph.specs.declared.nodes.Node.{Node}
 use Rattle.season_graph.specs.declared.nodes.Node.TheVariants as node
 use Rattle.season_graph.proofs.Lists.{flat_more}

@@ -1,4 +1,4 @@
-use Rattle.std.proofs.Common.{◌≡◌, ◌++◌, ◌+◌, ℕ, List, length, take, get_or, subst, sym}
+use Rattle.std.proofs.Common.{◌≡◌, ◌++◌, ◌+◌, ℕ, List, take, subst, sym}
 use Rattle.std.specs.List.{flat_map}
 use Rattle.rescore_graph.specs.States.{look}
 use Rattle.season_graph.specs.BookFacts.{facts_of}

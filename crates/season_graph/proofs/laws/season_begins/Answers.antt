@@ -1,4 +1,4 @@
-use Rattle.std.proofs.Common.{◌≡◌, ℕ, true, false, [], Option, Some, None, is_some, sym, ◌∙◌, ap, subst}
+use Rattle.std.proofs.Common.{◌≡◌, true, false, Some, None, is_some, sym, ◌∙◌, ap, subst}
 use Rattle.rule_book.specs.declared.line.Line.{Line}
 use Rattle.rule_book.specs.MatchFacts.{MatchFacts, line_of, lines_of, players_in}
 use Rattle.season_graph.specs.Season.{Rising}

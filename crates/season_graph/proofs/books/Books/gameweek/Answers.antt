@@ -1,4 +1,4 @@
-use Rattle.std.proofs.Common.{ℕ, ◌+◌, arith, sym, ◌∙◌}
+use Rattle.std.proofs.Common.{ℕ, arith}
 use Rattle.std.specs.Option.{unwrap_or}
 use Rattle.rule_book.specs.ById.{at_id}
 use Rattle.rescore_graph.specs.States.{look, values_in}

@@ -1,7 +1,0 @@
-use Rattle.std.proofs.Common.{nat_cmp}
-use Rattle.rescore_graph.specs.States.{look}
-use Rattle.bench_engine.proofs.PlantFacts.{IsFilled}
-use Rattle.bench_engine.proofs.changes.plant_all.Given as goal
-
-abbrev pub invariant-loop-i : goal.invariant-loop-i
-invariant-loop-i l = IsFilled (look nat_cmp l.cells) l.i

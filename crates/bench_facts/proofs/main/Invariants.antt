@@ -1,4 +1,0 @@
-use Rattle.bench_facts.proofs.main.Given as goal
-
-abbrev pub ghosts-ran : goal.ghosts-ran
-ghosts-ran a = record { name = a.blank.name; parts = a.blank.parts }

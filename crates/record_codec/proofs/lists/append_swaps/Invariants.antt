@@ -1,0 +1,6 @@
+use Rattle.std.proofs.Common.{◌≡◌, ◌++◌, take, flat_map}
+use Rattle.record_codec.specs.Commands.{swap_bytes}
+use Rattle.record_codec.proofs.lists.append_swaps.Given as goal
+
+abbrev pub invariant-swaps : goal.invariant-swaps
+invariant-swaps l = l.bytes ≡ l.fn.bytes ++ flat_map swap_bytes (take l.swap-index l.fn.swaps)

@@ -1,0 +1,6 @@
+use Rattle.std.proofs.Common.{◌≡◌, ◌++◌, take, flat_map}
+use Rattle.record_codec.specs.Commands.{whole}
+use Rattle.record_codec.proofs.lists.append_whole_players.Given as goal
+
+abbrev pub invariant-players : goal.invariant-players
+invariant-players l = l.bytes ≡ l.fn.bytes ++ flat_map whole (take l.player-index l.fn.players)

@@ -1,0 +1,271 @@
+// The bodies of records, appended to bytes.
+ghost use Rattle.std.specs.Prelude.{◌≡◌, ◌≤◌, ℕ, IfOk, IsTrue, length};
+ghost use Rattle.record_codec.specs.Commands.{is_command};
+ghost use Rattle.record_codec.specs.Fields.{short_text};
+ghost use Rattle.record_codec.specs.Items.{body_of, is_item};
+ghost use Rattle.record_codec.specs.Items as bodies;
+
+use crate::Item;
+use crate::commands::append_command;
+use crate::fields::{
+    append_short_text, append_u8, append_u16, append_u32, append_u64, chip_byte, flag_byte,
+    gameweek_byte, kind_byte, position_byte, profile_byte,
+};
+use crate::lists::{
+    append_coins, append_figures, append_moments, append_order, append_picks, append_slots,
+};
+use fpl_base::{
+    Bytes, Chip, ClubId, Code, EntryId, Gw, Key, Memory, Moment, Name, PlayerId, Position, Profile,
+};
+use rule_book::{Coins, LeagueKind, Line, Slots};
+use season_book::{Command, Moments, Order};
+use std::alloc::Global;
+
+// The body of an item.
+pub fn body(alloc: Global, item: &Item) -> Result<Bytes, Memory>
+    requires { IsTrue (is_item item.now) }
+    ensures { IfOk result (λ bytes. bytes ≡ body_of item.now) }
+{
+    match *item {
+        Item::Season {
+            profile,
+            split,
+            locked,
+            ref deadlines,
+        } => season_body(alloc, profile, split, locked, deadlines),
+        Item::Club { ref name, .. } => club_body(alloc, name),
+        Item::Player {
+            position,
+            club,
+            price,
+            gone,
+            ref name,
+            ..
+        } => player_body(alloc, position, club, price, gone, name),
+        Item::Fixture {
+            home,
+            away,
+            gameweek,
+            kickoff,
+            finished,
+            ..
+        } => fixture_body(alloc, home, away, gameweek, kickoff, finished),
+        Item::Line { ref line, .. } => line_body(alloc, line),
+        Item::Entry {
+            first,
+            ref key,
+            ref name,
+            ..
+        } => entry_body(alloc, first, key, name),
+        Item::Team {
+            ref picks,
+            captain,
+            vice,
+            bank,
+            chip,
+            ..
+        } => team_body(alloc, picks, captain, vice, bank, chip),
+        Item::Transfer {
+            out,
+            into,
+            sold,
+            bought,
+            ..
+        } => transfer_body(alloc, out, into, sold, bought),
+        Item::League {
+            kind,
+            start,
+            creator,
+            ref order,
+            ref code,
+            ref name,
+            ..
+        } => league_body(alloc, kind, start, creator, order, code, name),
+        Item::Member { .. } => Ok(Bytes::new(alloc)),
+        Item::Cup {
+            start,
+            ref slots,
+            ref coins,
+            ..
+        } => cup_body(alloc, start, slots, coins),
+        Item::Last {
+            number,
+            status,
+            made,
+            ref command,
+            ..
+        } => last_body(alloc, number, status, made, command),
+    }
+}
+
+fn season_body(
+    alloc: Global,
+    profile: Profile,
+    split: u8,
+    locked: u8,
+    deadlines: &Moments,
+) -> Result<Bytes, Memory>
+    requires { length deadlines.now ≤ 255 }
+    ensures { IfOk result (λ bytes. bytes ≡ bodies.season_body profile split locked deadlines.now) }
+{
+    let mut bytes = Bytes::new(alloc);
+    append_u8(&mut bytes, profile_byte(profile))?;
+    append_u8(&mut bytes, deadlines.as_slice().len() as u8)?;
+    append_u8(&mut bytes, split)?;
+    append_u8(&mut bytes, locked)?;
+    append_moments(&mut bytes, deadlines.as_slice())?;
+    Ok(bytes)
+}
+
+fn club_body(alloc: Global, name: &Name) -> Result<Bytes, Memory>
+    ensures { IfOk result (λ bytes. bytes ≡ short_text name.now) }
+{
+    let mut bytes = Bytes::new(alloc);
+    append_short_text(&mut bytes, name.bytes())?;
+    Ok(bytes)
+}
+
+fn player_body(
+    alloc: Global,
+    position: Position,
+    club: ClubId,
+    price: u16,
+    gone: bool,
+    name: &Name,
+) -> Result<Bytes, Memory>
+    ensures { IfOk result (λ bytes. bytes ≡ bodies.player_body position club price gone name.now) }
+{
+    let mut bytes = Bytes::new(alloc);
+    append_u8(&mut bytes, position_byte(position))?;
+    append_u8(&mut bytes, club.get())?;
+    append_u16(&mut bytes, price)?;
+    append_u8(&mut bytes, flag_byte(gone))?;
+    append_short_text(&mut bytes, name.bytes())?;
+    Ok(bytes)
+}
+
+fn fixture_body(
+    alloc: Global,
+    home: ClubId,
+    away: ClubId,
+    gameweek: Option<Gw>,
+    kickoff: Moment,
+    finished: bool,
+) -> Result<Bytes, Memory>
+    ensures { IfOk result (λ bytes. bytes ≡ bodies.fixture_body home away gameweek kickoff finished) }
+{
+    let mut bytes = Bytes::new(alloc);
+    append_u8(&mut bytes, home.get())?;
+    append_u8(&mut bytes, away.get())?;
+    append_u8(&mut bytes, gameweek_byte(gameweek))?;
+    append_u64(&mut bytes, kickoff.get())?;
+    append_u8(&mut bytes, flag_byte(finished))?;
+    Ok(bytes)
+}
+
+fn line_body(alloc: Global, line: &Line) -> Result<Bytes, Memory>
+    ensures { IfOk result (λ bytes. bytes ≡ bodies.line_body line.now) }
+{
+    let mut bytes = Bytes::new(alloc);
+    append_figures(&mut bytes, &line.figures)?;
+    Ok(bytes)
+}
+
+fn entry_body(alloc: Global, first: Option<Gw>, key: &Key, name: &Name) -> Result<Bytes, Memory>
+    ensures { IfOk result (λ bytes. bytes ≡ bodies.entry_body first key.now name.now) }
+{
+    let mut bytes = Bytes::new(alloc);
+    append_u8(&mut bytes, gameweek_byte(first))?;
+    append_short_text(&mut bytes, key.bytes())?;
+    append_short_text(&mut bytes, name.bytes())?;
+    Ok(bytes)
+}
+
+fn team_body(
+    alloc: Global,
+    picks: &[(PlayerId, u16); 15],
+    captain: u8,
+    vice: u8,
+    bank: u32,
+    chip: Chip,
+) -> Result<Bytes, Memory>
+    ensures { IfOk result (λ bytes. bytes ≡ bodies.team_body picks.now captain vice bank chip) }
+{
+    let mut bytes = Bytes::new(alloc);
+    append_picks(&mut bytes, picks)?;
+    append_u8(&mut bytes, captain)?;
+    append_u8(&mut bytes, vice)?;
+    append_u32(&mut bytes, bank)?;
+    append_u8(&mut bytes, chip_byte(chip))?;
+    Ok(bytes)
+}
+
+fn transfer_body(
+    alloc: Global,
+    out: PlayerId,
+    into: PlayerId,
+    sold: u16,
+    bought: u16,
+) -> Result<Bytes, Memory>
+    ensures { IfOk result (λ bytes. bytes ≡ bodies.transfer_body out into sold bought) }
+{
+    let mut bytes = Bytes::new(alloc);
+    append_u32(&mut bytes, out.get())?;
+    append_u32(&mut bytes, into.get())?;
+    append_u16(&mut bytes, sold)?;
+    append_u16(&mut bytes, bought)?;
+    Ok(bytes)
+}
+
+fn league_body(
+    alloc: Global,
+    kind: LeagueKind,
+    start: Gw,
+    creator: EntryId,
+    order: &Order,
+    code: &Code,
+    name: &Name,
+) -> Result<Bytes, Memory>
+    requires { length order.now ≤ 255 }
+    ensures { IfOk result (λ bytes. bytes ≡ bodies.league_body kind start creator order.now code.now name.now) }
+{
+    let mut bytes = Bytes::new(alloc);
+    append_u8(&mut bytes, kind_byte(kind))?;
+    append_u8(&mut bytes, start.get())?;
+    append_u32(&mut bytes, creator.get())?;
+    append_u8(&mut bytes, order.as_slice().len() as u8)?;
+    append_order(&mut bytes, order.as_slice())?;
+    append_short_text(&mut bytes, code.bytes())?;
+    append_short_text(&mut bytes, name.bytes())?;
+    Ok(bytes)
+}
+
+fn cup_body(alloc: Global, start: Gw, slots: &Slots, coins: &Coins) -> Result<Bytes, Memory>
+    requires { length slots.now ≤ 65535 }
+    ensures { IfOk result (λ bytes. bytes ≡ bodies.cup_body start slots.now coins.now) }
+{
+    let mut bytes = Bytes::new(alloc);
+    append_u8(&mut bytes, start.get())?;
+    append_u16(&mut bytes, slots.as_slice().len() as u16)?;
+    append_slots(&mut bytes, slots.as_slice())?;
+    append_coins(&mut bytes, coins.as_slice())?;
+    Ok(bytes)
+}
+
+fn last_body(
+    alloc: Global,
+    number: u64,
+    status: u16,
+    made: u32,
+    command: &Command,
+) -> Result<Bytes, Memory>
+    requires { IsTrue (is_command command.now) }
+    ensures { IfOk result (λ bytes. bytes ≡ bodies.last_body number status made command.now) }
+{
+    let mut bytes = Bytes::new(alloc);
+    append_u64(&mut bytes, number)?;
+    append_u16(&mut bytes, status)?;
+    append_u32(&mut bytes, made)?;
+    append_command(&mut bytes, command)?;
+    Ok(bytes)
+}

@@ -1,0 +1,323 @@
+// Commands, appended to bytes.
+ghost use Rattle.std.specs.Prelude.{◌≡◌, ◌≤◌, ◌++◌, ℕ, OnOk, IsTrue, length};
+ghost use Rattle.record_codec.specs.Commands.{bytes_of_command, is_command, whole};
+ghost use Rattle.record_codec.specs.Fields.{byte, listed};
+ghost use Rattle.season_book.specs.declared.command.Command.TheVariants as command;
+
+use crate::fields::{
+    append_long_text, append_u8, append_u16, append_u32, append_u64, chip_byte, flag_byte,
+    gameweek_byte, kind_byte, position_byte,
+};
+use crate::lists::{
+    append_clubs, append_line, append_moments, append_rows, append_swaps, append_whole_coins,
+    append_whole_entries, append_whole_players, append_whole_slots,
+};
+use fpl_base::{
+    Bytes, Chip, ClubId, Code, FixtureId, Gw, Key, Memory, Moment, Name, PlayerId, Position,
+};
+use rule_book::{Coins, LeagueKind, Line, Slots};
+use season_book::{Clubs, Command, Lines, Moments, Order, Swaps};
+
+// A command's number, the ids of its target, and its members in order.
+pub fn append_command(bytes: &mut Bytes, command: &Command) -> Result<(), Memory>
+    requires { IsTrue (is_command command.now) }
+    ensures { OnOk result (bytes.new ≡ bytes.old ++ bytes_of_command command.now) }
+{
+    match *command {
+        Command::Season {
+            ref deadlines,
+            split,
+            ref clubs,
+        } => append_season(bytes, deadlines, split, clubs),
+        Command::Deadline { gameweek, deadline } => append_two(
+            bytes,
+            2,
+            gameweek.get() as u64,
+            deadline.get(),
+        ),
+        Command::Player {
+            id,
+            ref name,
+            position,
+            club,
+            price,
+        } => append_player(bytes, id, name, position, club, price),
+        Command::Price { player, price } => append_two(bytes, 4, player.get() as u64, price as u64),
+        Command::Club { player, club } => append_two(
+            bytes,
+            5,
+            player.get() as u64,
+            club.get() as u64,
+        ),
+        Command::Gone { player, gone } => append_gone(bytes, player, gone),
+        Command::Fixture {
+            id,
+            home,
+            away,
+            gameweek,
+            kickoff,
+        } => append_fixture(bytes, id, home, away, gameweek, kickoff),
+        Command::Move {
+            fixture,
+            gameweek,
+            kickoff,
+        } => append_move(bytes, fixture, gameweek, kickoff),
+        Command::Sheet {
+            fixture,
+            ref lines,
+            finished,
+        } => append_sheet(bytes, fixture, lines, finished),
+        Command::Line {
+            fixture,
+            player,
+            ref line,
+        } => append_one_line(bytes, fixture, player, line),
+        Command::Drop { fixture, player } => append_drop(bytes, fixture, player),
+        Command::Finished { fixture, finished } => append_finished(bytes, fixture, finished),
+        Command::Key { ref key, ref name } => append_key(bytes, key, name),
+        Command::Squad {
+            ref players,
+            captain,
+            vice,
+        } => append_slots_of_players(bytes, 14, players, captain, vice),
+        Command::Transfers { ref swaps } => append_transfers(bytes, swaps),
+        Command::Lineup {
+            ref players,
+            captain,
+            vice,
+        } => append_slots_of_players(bytes, 16, players, captain, vice),
+        Command::Chip { chip } => append_chip(bytes, chip),
+        Command::CancelChip => append_u8(bytes, 18),
+        Command::League {
+            kind,
+            ref name,
+            ref code,
+            start,
+        } => append_league(bytes, kind, name, code, start),
+        Command::Join { league, ref code } => append_join(bytes, league, code),
+        Command::Draw { league, ref order } => append_draw(bytes, league, order),
+        Command::Cup {
+            start,
+            ref slots,
+            ref coins,
+        } => append_cup(bytes, start, slots, coins),
+    }
+}
+
+fn append_two(bytes: &mut Bytes, number: u8, first: u64, second: u64) -> Result<(), Memory>
+    ensures { OnOk result (bytes.new ≡ bytes.old ++ byte number ++ whole first ++ whole second) }
+{
+    append_u8(bytes, number)?;
+    append_u64(bytes, first)?;
+    append_u64(bytes, second)
+}
+
+fn append_season(
+    bytes: &mut Bytes,
+    deadlines: &Moments,
+    split: u8,
+    clubs: &Clubs,
+) -> Result<(), Memory>
+    requires deadlines { length deadlines.now ≤ 38 }
+    requires clubs { length clubs.now ≤ 20 }
+    ensures { OnOk result (bytes.new ≡ bytes.old ++ bytes_of_command (command.Season deadlines.now split clubs.now)) }
+{
+    append_u8(bytes, 1)?;
+    append_u16(bytes, deadlines.as_slice().len() as u16)?;
+    append_moments(bytes, deadlines.as_slice())?;
+    append_u64(bytes, split as u64)?;
+    append_u16(bytes, clubs.as_slice().len() as u16)?;
+    append_clubs(bytes, clubs.as_slice())
+}
+
+fn append_player(
+    bytes: &mut Bytes,
+    id: PlayerId,
+    name: &Name,
+    position: Position,
+    club: ClubId,
+    price: u16,
+) -> Result<(), Memory>
+    ensures { OnOk result (bytes.new ≡ bytes.old ++ bytes_of_command (command.Player id name.now position club price)) }
+{
+    append_u8(bytes, 3)?;
+    append_u64(bytes, id.get() as u64)?;
+    append_long_text(bytes, name.bytes())?;
+    append_u8(bytes, position_byte(position))?;
+    append_u64(bytes, club.get() as u64)?;
+    append_u64(bytes, price as u64)
+}
+
+fn append_gone(bytes: &mut Bytes, player: PlayerId, gone: bool) -> Result<(), Memory>
+    ensures { OnOk result (bytes.new ≡ bytes.old ++ bytes_of_command (command.Gone player gone)) }
+{
+    append_u8(bytes, 6)?;
+    append_u64(bytes, player.get() as u64)?;
+    append_u8(bytes, flag_byte(gone))
+}
+
+fn append_fixture(
+    bytes: &mut Bytes,
+    id: FixtureId,
+    home: ClubId,
+    away: ClubId,
+    gameweek: Option<Gw>,
+    kickoff: Moment,
+) -> Result<(), Memory>
+    ensures { OnOk result (bytes.new ≡ bytes.old ++ bytes_of_command (command.Fixture id home away gameweek kickoff)) }
+{
+    append_u8(bytes, 7)?;
+    append_u64(bytes, id.get() as u64)?;
+    append_u64(bytes, home.get() as u64)?;
+    append_u64(bytes, away.get() as u64)?;
+    append_u64(bytes, gameweek_byte(gameweek) as u64)?;
+    append_u64(bytes, kickoff.get())
+}
+
+fn append_move(
+    bytes: &mut Bytes,
+    fixture: u32,
+    gameweek: Option<Gw>,
+    kickoff: Moment,
+) -> Result<(), Memory>
+    ensures { OnOk result (bytes.new ≡ bytes.old ++ bytes_of_command (command.Move fixture gameweek kickoff)) }
+{
+    append_u8(bytes, 8)?;
+    append_u32(bytes, fixture)?;
+    append_u64(bytes, gameweek_byte(gameweek) as u64)?;
+    append_u64(bytes, kickoff.get())
+}
+
+fn append_sheet(
+    bytes: &mut Bytes,
+    fixture: u32,
+    lines: &Lines,
+    finished: bool,
+) -> Result<(), Memory>
+    requires { length lines.now ≤ 100 }
+    ensures { OnOk result (bytes.new ≡ bytes.old ++ bytes_of_command (command.Sheet fixture lines.now finished)) }
+{
+    append_u8(bytes, 9)?;
+    append_u32(bytes, fixture)?;
+    append_u16(bytes, lines.as_slice().len() as u16)?;
+    append_rows(bytes, lines.as_slice())?;
+    append_u8(bytes, flag_byte(finished))
+}
+
+fn append_one_line(
+    bytes: &mut Bytes,
+    fixture: u32,
+    player: PlayerId,
+    line: &Line,
+) -> Result<(), Memory>
+    ensures { OnOk result (bytes.new ≡ bytes.old ++ bytes_of_command (command.Line fixture player line.now)) }
+{
+    append_u8(bytes, 10)?;
+    append_u32(bytes, fixture)?;
+    append_u64(bytes, player.get() as u64)?;
+    append_line(bytes, line)
+}
+
+fn append_drop(bytes: &mut Bytes, fixture: u32, player: PlayerId) -> Result<(), Memory>
+    ensures { OnOk result (bytes.new ≡ bytes.old ++ bytes_of_command (command.Drop fixture player)) }
+{
+    append_u8(bytes, 11)?;
+    append_u32(bytes, fixture)?;
+    append_u64(bytes, player.get() as u64)
+}
+
+fn append_finished(bytes: &mut Bytes, fixture: u32, finished: bool) -> Result<(), Memory>
+    ensures { OnOk result (bytes.new ≡ bytes.old ++ bytes_of_command (command.Finished fixture finished)) }
+{
+    append_u8(bytes, 12)?;
+    append_u32(bytes, fixture)?;
+    append_u8(bytes, flag_byte(finished))
+}
+
+fn append_key(bytes: &mut Bytes, key: &Key, name: &Name) -> Result<(), Memory>
+    ensures { OnOk result (bytes.new ≡ bytes.old ++ bytes_of_command (command.Key key.now name.now)) }
+{
+    append_u8(bytes, 13)?;
+    append_long_text(bytes, key.bytes())?;
+    append_long_text(bytes, name.bytes())
+}
+
+// A squad's or a lineup's players, captain and vice-captain behind the command's number.
+fn append_slots_of_players(
+    bytes: &mut Bytes,
+    number: u8,
+    players: &[PlayerId; 15],
+    captain: PlayerId,
+    vice: PlayerId,
+) -> Result<(), Memory>
+    ensures { OnOk result (bytes.new ≡ bytes.old ++ byte number ++ listed whole players.now ++ whole captain ++ whole vice) }
+{
+    append_u8(bytes, number)?;
+    append_u16(bytes, 15)?;
+    append_whole_players(bytes, players)?;
+    append_u64(bytes, captain.get() as u64)?;
+    append_u64(bytes, vice.get() as u64)
+}
+
+fn append_transfers(bytes: &mut Bytes, swaps: &Swaps) -> Result<(), Memory>
+    requires { length swaps.now ≤ 15 }
+    ensures { OnOk result (bytes.new ≡ bytes.old ++ bytes_of_command (command.Transfers swaps.now)) }
+{
+    append_u8(bytes, 15)?;
+    append_u16(bytes, swaps.as_slice().len() as u16)?;
+    append_swaps(bytes, swaps.as_slice())
+}
+
+fn append_chip(bytes: &mut Bytes, chip: Chip) -> Result<(), Memory>
+    ensures { OnOk result (bytes.new ≡ bytes.old ++ bytes_of_command (command.Chip chip)) }
+{
+    append_u8(bytes, 17)?;
+    append_u8(bytes, chip_byte(chip))
+}
+
+fn append_league(
+    bytes: &mut Bytes,
+    kind: LeagueKind,
+    name: &Name,
+    code: &Code,
+    start: Gw,
+) -> Result<(), Memory>
+    ensures { OnOk result (bytes.new ≡ bytes.old ++ bytes_of_command (command.League kind name.now code.now start)) }
+{
+    append_u8(bytes, 19)?;
+    append_u8(bytes, kind_byte(kind))?;
+    append_long_text(bytes, name.bytes())?;
+    append_long_text(bytes, code.bytes())?;
+    append_u64(bytes, start.get() as u64)
+}
+
+fn append_join(bytes: &mut Bytes, league: u32, code: &Code) -> Result<(), Memory>
+    ensures { OnOk result (bytes.new ≡ bytes.old ++ bytes_of_command (command.Join league code.now)) }
+{
+    append_u8(bytes, 20)?;
+    append_u32(bytes, league)?;
+    append_long_text(bytes, code.bytes())
+}
+
+fn append_draw(bytes: &mut Bytes, league: u32, order: &Order) -> Result<(), Memory>
+    requires { length order.now ≤ 64 }
+    ensures { OnOk result (bytes.new ≡ bytes.old ++ bytes_of_command (command.Draw league order.now)) }
+{
+    append_u8(bytes, 21)?;
+    append_u32(bytes, league)?;
+    append_u16(bytes, order.as_slice().len() as u16)?;
+    append_whole_entries(bytes, order.as_slice())
+}
+
+fn append_cup(bytes: &mut Bytes, start: Gw, slots: &Slots, coins: &Coins) -> Result<(), Memory>
+    requires slots { length slots.now ≤ 1024 }
+    requires coins { length coins.now ≤ 1024 }
+    ensures { OnOk result (bytes.new ≡ bytes.old ++ bytes_of_command (command.Cup start slots.now coins.now)) }
+{
+    append_u8(bytes, 22)?;
+    append_u64(bytes, start.get() as u64)?;
+    append_u16(bytes, slots.as_slice().len() as u16)?;
+    append_whole_slots(bytes, slots.as_slice())?;
+    append_u16(bytes, coins.as_slice().len() as u16)?;
+    append_whole_coins(bytes, coins.as_slice())
+}

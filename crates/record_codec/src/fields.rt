@@ -1,0 +1,115 @@
+// Fields of records and commands, appended to bytes.
+ghost use Rattle.std.specs.Prelude.{◌≡◌, ◌≤◌, ◌++◌, ℕ, OnOk, length};
+ghost use Rattle.std.specs.Int.{w16, w32, w64};
+ghost use Rattle.record_codec.specs.Fields.{byte, number, or_zero, short_text, long_text, flag, profile_number, position_number, chip_number, kind_number};
+
+use fpl_base::{Bytes, Chip, Gw, Memory, Position, Profile};
+use rule_book::LeagueKind;
+
+pub fn append(bytes: &mut Bytes, more: &[u8]) -> Result<(), Memory>
+    ensures { OnOk result (bytes.new ≡ bytes.old ++ more.now) }
+{
+    'more: for byte in more {
+        bytes.push(*byte)?;
+    }
+    Ok(())
+}
+
+pub fn append_u8(bytes: &mut Bytes, n: u8) -> Result<(), Memory>
+    ensures { OnOk result (bytes.new ≡ bytes.old ++ byte n) }
+{
+    bytes.push(n)
+}
+
+#[tactic(auto, unfolding(crate::specs::Fields::number))]
+pub fn append_u16(bytes: &mut Bytes, n: u16) -> Result<(), Memory>
+    ensures { OnOk result (bytes.new ≡ bytes.old ++ number w16 n) }
+{
+    append(bytes, &n.to_be_bytes())
+}
+
+#[tactic(auto, unfolding(crate::specs::Fields::number))]
+pub fn append_u32(bytes: &mut Bytes, n: u32) -> Result<(), Memory>
+    ensures { OnOk result (bytes.new ≡ bytes.old ++ number w32 n) }
+{
+    append(bytes, &n.to_be_bytes())
+}
+
+#[tactic(auto, unfolding(crate::specs::Fields::number))]
+pub fn append_u64(bytes: &mut Bytes, n: u64) -> Result<(), Memory>
+    ensures { OnOk result (bytes.new ≡ bytes.old ++ number w64 n) }
+{
+    append(bytes, &n.to_be_bytes())
+}
+
+pub fn append_short_text(bytes: &mut Bytes, text: &[u8]) -> Result<(), Memory>
+    requires { length text.now ≤ 64 }
+    ensures { OnOk result (bytes.new ≡ bytes.old ++ short_text text.now) }
+{
+    append_u8(bytes, text.len() as u8)?;
+    append(bytes, text)
+}
+
+pub fn append_long_text(bytes: &mut Bytes, text: &[u8]) -> Result<(), Memory>
+    requires { length text.now ≤ 64 }
+    ensures { OnOk result (bytes.new ≡ bytes.old ++ long_text text.now) }
+{
+    append_u16(bytes, text.len() as u16)?;
+    append(bytes, text)
+}
+
+pub fn flag_byte(holds: bool) -> u8
+    ensures { result ≡ flag holds }
+{
+    if holds { 1 } else { 0 }
+}
+
+pub fn gameweek_byte(gameweek: Option<Gw>) -> u8
+    ensures { result ≡ or_zero gameweek }
+{
+    let Some(g) = gameweek else {
+        return 0;
+    };
+    g.get()
+}
+
+pub fn profile_byte(profile: Profile) -> u8
+    ensures { result ≡ profile_number profile }
+{
+    match profile {
+        Profile::A => 1,
+        Profile::B => 2,
+    }
+}
+
+pub fn position_byte(position: Position) -> u8
+    ensures { result ≡ position_number position }
+{
+    match position {
+        Position::Keeper => 0,
+        Position::Defender => 1,
+        Position::Midfielder => 2,
+        Position::Forward => 3,
+    }
+}
+
+pub fn chip_byte(chip: Chip) -> u8
+    ensures { result ≡ chip_number chip }
+{
+    match chip {
+        Chip::None => 0,
+        Chip::Wildcard => 1,
+        Chip::FreeHit => 2,
+        Chip::BenchBoost => 3,
+        Chip::TripleCaptain => 4,
+    }
+}
+
+pub fn kind_byte(kind: LeagueKind) -> u8
+    ensures { result ≡ kind_number kind }
+{
+    match kind {
+        LeagueKind::Classic => 1,
+        LeagueKind::Head => 2,
+    }
+}

@@ -1,0 +1,154 @@
+// Lists of records and commands, appended to bytes.
+ghost use Rattle.std.specs.Prelude.{◌≡◌, ◌≤◌, ◌++◌, ℕ, OnOk, length, flat_map};
+ghost use Rattle.std.specs.Int.{w16, w32, w64};
+ghost use Rattle.record_codec.specs.Commands.{whole, club_bytes, line_bytes, row_bytes, swap_bytes};
+ghost use Rattle.record_codec.specs.Fields.{byte, number};
+ghost use Rattle.record_codec.specs.Items.{pick_bytes};
+
+use crate::fields::{append_long_text, append_u8, append_u16, append_u32, append_u64};
+use fpl_base::{Bytes, ClubId, EntryId, Memory, Moment, Name, PlayerId};
+use rule_book::{Line, Swap};
+
+pub fn append_moments(bytes: &mut Bytes, moments: &[Moment]) -> Result<(), Memory>
+    ensures { OnOk result (bytes.new ≡ bytes.old ++ flat_map (number w64) moments.now) }
+{
+    'moments: for moment in moments {
+        append_u64(bytes, moment.get())?;
+    }
+    Ok(())
+}
+
+pub fn append_figures(bytes: &mut Bytes, figures: &[u16]) -> Result<(), Memory>
+    ensures { OnOk result (bytes.new ≡ bytes.old ++ flat_map (number w16) figures.now) }
+{
+    'figures: for figure in figures {
+        append_u16(bytes, *figure)?;
+    }
+    Ok(())
+}
+
+pub fn append_order(bytes: &mut Bytes, entries: &[EntryId]) -> Result<(), Memory>
+    ensures { OnOk result (bytes.new ≡ bytes.old ++ flat_map (number w32) entries.now) }
+{
+    'entries: for entry in entries {
+        append_u32(bytes, entry.get())?;
+    }
+    Ok(())
+}
+
+pub fn append_slots(bytes: &mut Bytes, slots: &[u32]) -> Result<(), Memory>
+    ensures { OnOk result (bytes.new ≡ bytes.old ++ flat_map (number w32) slots.now) }
+{
+    'slots: for slot in slots {
+        append_u32(bytes, *slot)?;
+    }
+    Ok(())
+}
+
+pub fn append_coins(bytes: &mut Bytes, coins: &[u8]) -> Result<(), Memory>
+    ensures { OnOk result (bytes.new ≡ bytes.old ++ flat_map byte coins.now) }
+{
+    'coins: for coin in coins {
+        append_u8(bytes, *coin)?;
+    }
+    Ok(())
+}
+
+pub fn append_picks(bytes: &mut Bytes, picks: &[(PlayerId, u16)]) -> Result<(), Memory>
+    ensures { OnOk result (bytes.new ≡ bytes.old ++ flat_map pick_bytes picks.now) }
+{
+    'picks: for pick in picks {
+        append_u32(bytes, pick.0.get())?;
+        append_u16(bytes, pick.1)?;
+    }
+    Ok(())
+}
+
+pub fn append_whole_figures(bytes: &mut Bytes, figures: &[u16]) -> Result<(), Memory>
+    ensures { OnOk result (bytes.new ≡ bytes.old ++ flat_map whole figures.now) }
+{
+    'figures: for figure in figures {
+        append_u64(bytes, *figure as u64)?;
+    }
+    Ok(())
+}
+
+pub fn append_whole_entries(bytes: &mut Bytes, entries: &[EntryId]) -> Result<(), Memory>
+    ensures { OnOk result (bytes.new ≡ bytes.old ++ flat_map whole entries.now) }
+{
+    'entries: for entry in entries {
+        append_u64(bytes, entry.get() as u64)?;
+    }
+    Ok(())
+}
+
+pub fn append_whole_players(bytes: &mut Bytes, players: &[PlayerId]) -> Result<(), Memory>
+    ensures { OnOk result (bytes.new ≡ bytes.old ++ flat_map whole players.now) }
+{
+    'players: for player in players {
+        append_u64(bytes, player.get() as u64)?;
+    }
+    Ok(())
+}
+
+pub fn append_whole_slots(bytes: &mut Bytes, slots: &[u32]) -> Result<(), Memory>
+    ensures { OnOk result (bytes.new ≡ bytes.old ++ flat_map whole slots.now) }
+{
+    'slots: for slot in slots {
+        append_u64(bytes, *slot as u64)?;
+    }
+    Ok(())
+}
+
+pub fn append_whole_coins(bytes: &mut Bytes, coins: &[u8]) -> Result<(), Memory>
+    ensures { OnOk result (bytes.new ≡ bytes.old ++ flat_map whole coins.now) }
+{
+    'coins: for coin in coins {
+        append_u64(bytes, *coin as u64)?;
+    }
+    Ok(())
+}
+
+pub fn append_clubs(bytes: &mut Bytes, clubs: &[(ClubId, Name)]) -> Result<(), Memory>
+    ensures { OnOk result (bytes.new ≡ bytes.old ++ flat_map club_bytes clubs.now) }
+{
+    'clubs: for club in clubs {
+        append_club(bytes, club)?;
+    }
+    Ok(())
+}
+
+pub fn append_rows(bytes: &mut Bytes, rows: &[(PlayerId, Line)]) -> Result<(), Memory>
+    ensures { OnOk result (bytes.new ≡ bytes.old ++ flat_map row_bytes rows.now) }
+{
+    'rows: for row in rows {
+        append_u64(bytes, row.0.get() as u64)?;
+        append_line(bytes, &row.1)?;
+    }
+    Ok(())
+}
+
+pub fn append_swaps(bytes: &mut Bytes, swaps: &[Swap]) -> Result<(), Memory>
+    ensures { OnOk result (bytes.new ≡ bytes.old ++ flat_map swap_bytes swaps.now) }
+{
+    'swaps: for swap in swaps {
+        append_u64(bytes, swap.out.get() as u64)?;
+        append_u64(bytes, swap.into.get() as u64)?;
+    }
+    Ok(())
+}
+
+fn append_club(bytes: &mut Bytes, club: &(ClubId, Name)) -> Result<(), Memory>
+    ensures { OnOk result (bytes.new ≡ bytes.old ++ club_bytes club.now) }
+{
+    append_u64(bytes, club.0.get() as u64)?;
+    append_long_text(bytes, club.1.bytes())
+}
+
+// A line behind the count of its figures.
+pub fn append_line(bytes: &mut Bytes, line: &Line) -> Result<(), Memory>
+    ensures { OnOk result (bytes.new ≡ bytes.old ++ line_bytes line.now) }
+{
+    append_u16(bytes, 28)?;
+    append_whole_figures(bytes, &line.figures)
+}

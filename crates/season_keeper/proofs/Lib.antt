@@ -1,0 +1,10 @@
+pub mod Texts
+pub mod Lists
+pub mod Deleting
+pub mod Putting
+pub mod Making
+pub mod Reading
+pub mod Batches
+pub mod Loading
+pub mod Keeping
+pub mod Pairing

@@ -1,0 +1,130 @@
+// A keeper over an open connection.
+ghost use Rattle.std.specs.Prelude.{◌≡◌, Bool, true, false, IsTrue, IfOk, IfSome, ◌≤◌};
+ghost use Rattle.sqlite.specs.State.{HasCleanDisk, Survives};
+ghost use Rattle.sqlite.specs.Held.{state};
+ghost use Rattle.fpl_base.specs.Causes.{Rose};
+ghost use Rattle.fpl_base.specs.declared.outside.KeeperFault.TheVariants as fault;
+ghost use Rattle.fpl_base.specs.Keeping.{Map, KeysRise, map_of};
+ghost use Rattle.season_keeper.specs.Holding.{Finds, Keeps, HoldsMap, MayPass, finds_one};
+
+use crate::batch::apply;
+use crate::pairs::pairs_of;
+use crate::store::read_all;
+use fpl_base::{Bytes, Keeper, KeeperFault, Op, RecordKey};
+use sqlite::{Alter, Connection, Error, ErrorCode};
+use std::alloc::Global;
+use std::marker::Model;
+
+/// A keeper over an open connection. It tells its records where the connection has no table yet, or the table with its
+/// columns and rules, as long as the disk returns what was written to it.
+#[derive(Drop)]
+pub struct SqlKeeper<S: Alter> {
+    conn: Connection<S>,
+    faults: u64,
+    ready: bool,
+}
+
+impl<S: Alter> Model for SqlKeeper<S> {
+    ghost use Rattle.season_keeper.specs.Holding.{HeldKeeper, keeper_code};
+
+    ghost Value = { HeldKeeper S };
+
+    ghost coded = { keeper_code S.code };
+
+    ghost view = { λ k. record { conn = k.conn; faults = k.faults; ready = k.ready } };
+}
+
+impl<S: Alter> SqlKeeper<S> {
+    /// Adopts an open connection. It serves no commit before a load has answered `Ok`.
+    pub fn over(conn: Connection<S>) -> SqlKeeper<S>
+        ensures { (result.conn ≡ conn) × (result.faults ≡ 0) × (result.ready ≡ false) }
+    {
+        SqlKeeper {
+            conn,
+            faults: 0,
+            ready: false,
+        }
+    }
+
+    /// The connection, which it holds no longer.
+    pub fn into_connection(self) -> Connection<S>
+        ensures { result ≡ self.conn }
+    {
+        let SqlKeeper {
+            conn,
+            faults: _,
+            ready: _,
+        } = self;
+        conn
+    }
+
+    // Counts a fault, unless memory ran out.
+    fn fault(&mut self, error: Option<Error>) -> KeeperFault
+        ensures later { self.old.faults ≤ self.new.faults }
+        ensures failed { result ≡ fault.Failed → Rose self.old.faults self.new.faults }
+        ensures memory { result ≡ fault.Memory → self.new.faults ≡ self.old.faults }
+        ensures conn { self.new.conn ≡ self.old.conn }
+        ensures ready { self.new.ready ≡ self.old.ready }
+    {
+        if let Some(Error::SqliteFailure(ErrorCode::OutOfMemory)) = error {
+            return KeeperFault::Memory;
+        }
+        self.faults = self.faults.saturating_add(1);
+        KeeperFault::Failed
+    }
+}
+
+// All records of the store, of which the table is made where it is not there. `None`: the store cannot be read so.
+fn load_pairs<S: Alter>(
+    conn: &mut Connection<S>,
+    alloc: Global,
+) -> Result<Option<Vec<(RecordKey, Bytes)>>, Error>
+    ensures rise { IfOk result (λ found. IfSome found (λ pairs. KeysRise pairs.items)) }
+    ensures gave { HasCleanDisk (state S.Store conn.new) → (m : Map) → Finds (state S.Store conn.old).now false m → IfOk result (λ found. IfSome found (λ pairs. (m ≡ map_of pairs.items) × Keeps (state S.Store conn.new).now m)) }
+    ensures settled { HasCleanDisk (state S.Store conn.new) → IfOk result (λ found. IfSome found (λ pairs. IsTrue (state S.Store conn.new).is_open × ((state S.Store conn.new).in_transaction ≡ false) × ((state S.Store conn.new).committed ≡ (state S.Store conn.new).now))) }
+    ensures whole { IsTrue (state S.Store conn.old).is_open → (state S.Store conn.old).in_transaction ≡ false → (state S.Store conn.old).now ≡ (state S.Store conn.old).committed }
+    ensures autocommit { (state S.Store conn.old).in_transaction ≡ false → (state S.Store conn.new).in_transaction ≡ false }
+    ensures kept { HasCleanDisk (state S.Store conn.new) → IsTrue (state S.Store conn.new).is_open → (ready : Bool) → (m : Map) → Finds (state S.Store conn.old).now ready m → Finds (state S.Store conn.new).now ready m }
+    ensures crash { Survives (state S.Store conn.old) (state S.Store conn.new) (λ trees. (db : _) × (trees ≡ db.trees) × ((m : Map) → Finds (state S.Store conn.old).now false m → Keeps db m)) }
+{
+    let Some(rows) = read_all(conn)? else {
+        return Ok(None);
+    };
+    pairs_of(alloc, &rows)
+}
+
+impl<S: Alter> Keeper for SqlKeeper<S> {
+    ghost tells = { λ k. HasCleanDisk (state S.Store k.conn) };
+
+    ghost serves = { λ k. IsTrue (state S.Store k.conn).is_open };
+
+    ghost holds = { λ k m. HoldsMap (state S.Store k.conn) k.ready m };
+
+    ghost passes = { λ k. MayPass (state S.Store k.conn) k.ready };
+
+    ghost faults = { λ k. k.faults };
+
+    ghost one_map = { λ k m n p q. finds_one _ k.ready m n p.finds q.finds };
+
+    fn load(&mut self, alloc: Global) -> Result<Vec<(RecordKey, Bytes)>, KeeperFault> {
+        match load_pairs(&mut self.conn, alloc) {
+            Ok(Some(pairs)) => {
+                self.ready = true;
+                Ok(pairs)
+            }
+            Ok(None) => Err(self.fault(None)),
+            Err(error) => Err(self.fault(Some(error))),
+        }
+    }
+
+    fn commit(&mut self, _alloc: Global, ops: &[Op]) -> Result<(), KeeperFault> {
+        if !self.ready {
+            return Err(self.fault(None));
+        }
+        match apply(&mut self.conn, ops) {
+            Ok(true) => Ok(()),
+            Ok(false) => Err(self.fault(None)),
+            Err(error) => Err(self.fault(Some(error))),
+        }
+    }
+}
