@@ -83,8 +83,8 @@ impl MatchFacts {
         Ok(())
     }
 
-    // Whether a line may be put in.
-    fn judge_line(
+    /// Whether a line may be put in. `locked` says whether the fixture stands in a locked gameweek.
+    pub fn judge_line(
         &self,
         fixture: FixtureId,
         locked: bool,

@@ -13,7 +13,7 @@ use rule_book::Line;
 /// At most so many lines stand in a fixture.
 pub const MOST_LINES: usize = 64;
 
-/// Whether facts of a fixture may be handed in.
+/// Whether facts of a fixture may be handed in. `locked` says whether it stands in a locked gameweek.
 pub fn judge_lock(fixture: FixtureId, locked: bool) -> Result<(), Rule>
     ensures { IsJudged (not_locked fixture locked) result }
 {
@@ -24,7 +24,7 @@ pub fn judge_lock(fixture: FixtureId, locked: bool) -> Result<(), Rule>
     }
 }
 
-/// Whether a sheet may be handed in.
+/// Whether a sheet may be handed in. `locked` says whether its fixture stands in a locked gameweek.
 pub fn judge_sheet(fixture: FixtureId, locked: bool, lines: &[(PlayerId, Line)]) -> Result<(), Rule>
     ensures judged { IsJudged (sheet_refusal fixture locked lines.now) result }
     ensures few { OnOk result (length lines.now ≤ 64) }

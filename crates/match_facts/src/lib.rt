@@ -15,6 +15,7 @@ mod table;
 mod tests;
 
 pub use facts::MatchFacts;
+pub use judge::{judge_lock, judge_sheet};
 pub use laws::facts_are_maps;
 pub use ranges::line_ok;
 pub use rule_book::Line;

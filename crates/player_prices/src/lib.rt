@@ -4,7 +4,7 @@
 mod players;
 mod prices;
 
-pub use players::Players;
+pub use players::{Players, judge_price};
 pub use prices::selling_price;
 pub use rule_book::Player;
 

@@ -1,6 +1,7 @@
 // The players of a season, by ascending id in one table.
 ghost use Rattle.std.specs.Prelude.{◌≡◌, ◌<◌, ◌↔◌, None, IsTrue, [], length, slice_get, option_copied, OnOk, OnErr, IfOk, IfErr, IfSome};
-ghost use Rattle.rule_book.specs.Players.{ArePlayers, IsPrice, player_of, with_player, with_price, with_club, with_gone, price_refusal, player_refusal};
+ghost use Rattle.rule_book.specs.Players.{ArePlayers, IsPrice, most_players, player_of, with_player, with_price, with_club, with_gone, price_refusal, player_refusal};
+ghost use Rattle.rule_book.specs.declared.player.Player.{Player};
 ghost use Rattle.rule_book.specs.Refusals.{IsJudged, IsJudgedOrOut};
 ghost use Rattle.player_prices.specs.Places.{StandsAt, IsPlaceFor};
 
@@ -50,16 +51,10 @@ impl Players {
         ensures err { OnErr result (self.new ≡ self.old) }
         ensures judged { IsJudgedOrOut (player_refusal self.old player) result }
     {
-        let place = match self.search(player.id) {
-            Ok(_) => return Err(Refused::Rule(Rule::PlayerThere { player: player.id })),
-            Err(place) => place,
+        let place = match self.place_of_new(player.id, player.price) {
+            Ok(place) => place,
+            Err(rule) => return Err(Refused::Rule(rule)),
         };
-        if self.rows.len() >= MOST_PLAYERS {
-            return Err(Refused::Rule(Rule::PlayersFull));
-        }
-        if !is_price(player.price) {
-            return Err(Refused::Rule(Rule::PriceRange));
-        }
         let row = match Box::new(*self.rows.allocator(), player) {
             Ok(row) => row,
             Err(_) => return Err(Refused::Memory),
@@ -70,6 +65,37 @@ impl Players {
         Ok(())
     }
 
+    /// Whether a player of this id and price may be added: what `add` refuses for.
+    pub fn judge_new(&self, id: PlayerId, price: Tenths) -> Result<(), Rule>
+        ensures { (new : Player) → new.id ≡ id → new.price ≡ price → IsJudged (player_refusal self.now new) result }
+    {
+        match self.place_of_new(id, price) {
+            Ok(_) => Ok(()),
+            Err(rule) => Err(rule),
+        }
+    }
+
+    // Where a player of this id and price would stand.
+    fn place_of_new(&self, id: PlayerId, price: Tenths) -> Result<usize, Rule>
+        ensures judged { (new : Player) → new.id ≡ id → new.price ≡ price → IsJudged (player_refusal self.now new) result }
+        ensures place { IfOk result (IsPlaceFor self.now id) }
+        ensures room { OnOk result (length self.now < most_players) }
+        ensures price { OnOk result (IsPrice price) }
+    {
+        let has_room = self.rows.len() < MOST_PLAYERS;
+        let place = match self.search(id) {
+            Ok(_) => return Err(Rule::PlayerThere { player: id }),
+            Err(place) => place,
+        };
+        if !has_room {
+            return Err(Rule::PlayersFull);
+        }
+        match judge_price(price) {
+            Ok(()) => Ok(place),
+            Err(rule) => Err(rule),
+        }
+    }
+
     /// Sets a player's present price. A price is refused where no player can have it. Where the player is not there
     /// nothing changes.
     pub fn set_price(&mut self, player: PlayerId, price: Tenths) -> Result<(), Rule>
@@ -77,9 +103,7 @@ impl Players {
         ensures err { OnErr result (self.new ≡ self.old) }
         ensures judged { IsJudged (price_refusal price) result }
     {
-        if !is_price(price) {
-            return Err(Rule::PriceRange);
-        }
+        judge_price(price)?;
         if let Ok(place) = self.search(player) {
             self.rows[place].price = price;
         }
@@ -156,6 +180,18 @@ impl Players {
         } else {
             None
         }
+    }
+}
+
+/// Whether a player can have this price.
+pub fn judge_price(price: Tenths) -> Result<(), Rule>
+    ensures judged { IsJudged (price_refusal price) result }
+    ensures price { OnOk result (IsPrice price) }
+{
+    if is_price(price) {
+        Ok(())
+    } else {
+        Err(Rule::PriceRange)
     }
 }
 

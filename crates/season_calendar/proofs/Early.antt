@@ -1,5 +1,5 @@
 -- The first fixture of a gameweek that kicks off too early, looked for among those of the gameweek alone.
-use Rattle.std.proofs.Common.{◌≡◌, ◌∙◌, sym, ap, refl, ℕ, ◌+◌, ◌<◌, ◌≤◌, Bool, true, false, cond, eqb, ◌&&◌, List, [], ◌∷◌, length, get_or, take, drop, map, filter, find, Option, Some, None, arith, inl, inr}
+use Rattle.std.proofs.Common.{◌≡◌, ◌∙◌, sym, ap, refl, ℕ, ◌+◌, ◌<◌, Bool, true, false, cond, eqb, ◌&&◌, List, [], ◌∷◌, length, get_or, take, drop, map, filter, find, Some, arith, inl, inr}
 use Rattle.std.specs.List.{All, AllPairs}
 use Rattle.std.specs.Option.{option_map}
 use Rattle.std.proofs.lemmas.List.Elements.{All-cons, All-head, All-tail, All-filter}
@@ -7,7 +7,7 @@ use Rattle.std.proofs.lemmas.Bool.{cases_Bool, eq-eqb, ne_eqb}
 use Rattle.rule_book.specs.declared.season.Fixture.{Fixture}
 use Rattle.rule_book.specs.Calendar.{standing_among, is_gameweek, is_early}
 use Rattle.season_calendar.specs.Kept.{is_there_early}
-use Rattle.season_calendar.proofs.Around.{All-take_from, AllPairs-head, AllPairs-tail, find_none, find_behind, parts_at}
+use Rattle.season_calendar.proofs.Around.{All-take_from, AllPairs-head, AllPairs-tail, find_behind, parts_at}
 
 -- the first of a list of numbers that passes
 pub first_passes : (p : ℕ → Bool) (ns : List ℕ) (k d : ℕ) → k < length ns → ((j e : ℕ) → j < k → p (get_or ns j e) ≡ false) → p (get_or ns k d) ≡ true → find p ns ≡ Some (get_or ns k d)

@@ -1,8 +1,8 @@
 -- The calendar stays lawful, and its lists are kept, through each change.
-use Rattle.std.proofs.Common.{◌≡◌, ◌≢◌, ◌∙◌, sym, ap, subst, refl, ℕ, zero, suc, ◌+◌, ◌-◌, ◌<◌, ◌≤◌, true, false, not, ltb, leb, eqb, ◌&&◌, List, [], ◌∷◌, ◌++◌, length, get_or, set, take, drop, replicate, map, filter, find, Option, Some, None, IfSome, MatchOption, arith, inl, inr}
+use Rattle.std.proofs.Common.{◌≡◌, ◌≢◌, ◌∙◌, sym, ap, subst, refl, ℕ, zero, suc, ◌+◌, ◌-◌, ◌<◌, ◌≤◌, true, false, not, ltb, leb, eqb, ◌&&◌, List, [], ◌∷◌, ◌++◌, length, get_or, set, take, drop, map, filter, find, Option, Some, None, IfSome, MatchOption, arith, inl, inr}
 use Rattle.std.specs.Bool.{⊤}
 use Rattle.std.specs.List.{All, AllPairs, insert}
-use Rattle.std.proofs.lemmas.List.{length-set, get_or-set_same, get_or-set_other, take-append-drop, length-replicate, get_or-replicate}
+use Rattle.std.proofs.lemmas.List.{length-set, get_or-set_same, get_or-set_other, take-append-drop}
 use Rattle.std.proofs.lemmas.List.Edits.{length-insert}
 use Rattle.std.proofs.lemmas.List.Elements.{All-cons, All-append, All-map, All-take, All-drop, All-set, All-weaker, All-get_or}
 use Rattle.std.proofs.lemmas.List.Kept.{AllPairs-cons, AllPairs-filter}
@@ -13,7 +13,7 @@ use Rattle.std.proofs.lemmas.Bool.Decides.{nat_tests, leb_tells}
 use Rattle.fpl_base.specs.declared.rule.Rule.{Rule}
 use Rattle.rule_book.specs.declared.season.Fixture.{Fixture}
 use Rattle.rule_book.specs.Refusals.{first_broken}
-use Rattle.rule_book.specs.Calendar.{CalendarFacts, IsCalendar, StandsRightly, standing, standing_among, is_gameweek, is_early, is_after_previous, is_before_next, with_deadline, with_fixture, new_calendar, gameweek_full, kickoff_early}
+use Rattle.rule_book.specs.Calendar.{CalendarFacts, IsCalendar, StandsRightly, standing, standing_among, is_gameweek, is_early, is_after_previous, is_before_next, with_deadline, with_fixture, gameweek_full, kickoff_early}
 use Rattle.season_calendar.specs.Kept.{AreStanding, IsKept, IsAt, IsGap, ids_with, ids_without, put_in, taken_out}
 use Rattle.rule_book.specs.CalendarCalls.{place_refusal}
 use Rattle.season_calendar.proofs.Around.{filter_none, filter_front, filter_back, none_found, AllPairs-head, AllPairs-tail, AllPairs-middle, parts_at, set_parts}

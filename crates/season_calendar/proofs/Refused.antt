@@ -1,5 +1,5 @@
 -- Which refusal comes, from what was found.
-use Rattle.std.proofs.Common.{◌≡◌, ◌∙◌, ap, refl, ℕ, ◌+◌, ◌-◌, ◌<◌, ◌≤◌, Bool, true, false, cond, ltb, leb, eqb, List, length, get_or, drop, Option, Some, None, IfSome, arith, inl, inr, length-drop}
+use Rattle.std.proofs.Common.{◌≡◌, ◌∙◌, ap, refl, ℕ, ◌+◌, ◌-◌, ◌<◌, ◌≤◌, ◌&&◌, ◌∷◌, [], Bool, true, false, cond, find, ltb, leb, eqb, List, length, get_or, drop, Option, Some, None, IfSome, arith, inl, inr, length-drop}
 use Rattle.std.specs.Prelude.{is_some}
 use Rattle.std.specs.List.{AllPairs, zip, position_or_len}
 use Rattle.std.specs.Option.{option_map}
@@ -8,17 +8,41 @@ use Rattle.std.proofs.lemmas.List.Kept.{AllPairs-from_increasing}
 use Rattle.std.proofs.lemmas.List.Sums.{position_or_len_is, fails_before_first}
 use Rattle.std.proofs.lemmas.Slice.Zip.{length-zip, get_or-zip}
 use Rattle.std.proofs.lemmas.Bool.{cases_lt, le-leb, lt-leb, leb-false, lt-ltb, le-ltb}
+use Rattle.fpl_base.specs.declared.rule.Rule.{Rule}
 use Rattle.fpl_base.specs.declared.rule.Rule.TheVariants as rule
 use Rattle.rule_book.specs.declared.season.Fixture.{Fixture}
-use Rattle.rule_book.specs.Calendar.{CalendarFacts, standing, is_early, first_out_of_order}
+use Rattle.rule_book.specs.Calendar.{CalendarFacts, deadline_late, deadline_order, deadline_passed, first_out_of_order, is_after_previous, is_before_next, is_early, is_gameweek, standing}
+use Rattle.rule_book.specs.Refusals.{first_broken}
 use Rattle.season_calendar.specs.Kept.{IsAt, IsGap, ids_without}
-use Rattle.rule_book.specs.CalendarCalls.{place_refusal, fixture_refusal}
+use Rattle.rule_book.specs.CalendarCalls.{deadline_refusal, place_refusal, fixture_refusal}
 use Rattle.season_calendar.proofs.Places.{found_at, none_there, any_found, none_any}
 
 -- a place that is free
 
 pub place_free : (c : CalendarFacts) (f g k : ℕ) (gw : Option ℕ) → gw ≡ Some g → length (ids_without f (standing c g)) < 20 → is_early (get_or c.deadlines (g - 1) 0) k ≡ false → place_refusal c f gw k ≡ None
 place_free c f g k gw e room late = ap (λ w. place_refusal c f w k) e ∙ rw (lt-leb 20 (length (ids_without f (standing c g))) room, late) refl
+
+-- a new deadline that nothing refuses
+
+none_first : (broken : Option Rule) (more : List (Option Rule)) → first_broken (broken ∷ more) ≡ None → (broken ≡ None) × (first_broken more ≡ None)
+none_first None more none = (refl, none)
+none_first (Some broken) more none = cc
+
+holds_unless : (b : Bool) (broken : Rule) → cond b None (Some broken) ≡ None → b ≡ true
+holds_unless true broken none = refl
+holds_unless false broken none = cc
+
+nothing_found : (o : Option Fixture) → option_map (λ (x : Fixture). rule.KickoffEarly x.id) o ≡ None → o ≡ None
+nothing_found None e = refl
+nothing_found (Some x) e = cc
+
+pub deadline_fits : (c : CalendarFacts) (g t now : ℕ) → deadline_refusal c g t now ≡ None
+    → ((is_after_previous c.deadlines g t && is_before_next c.deadlines g t) ≡ true) × (find (λ (x : Fixture). is_gameweek g x.gw && is_early t x.kickoff) c.fixtures ≡ None)
+deadline_fits c g t now none =
+    let first = none_first (deadline_passed c g t now) (deadline_order c g t ∷ deadline_late c g t ∷ []) none in
+    let second = none_first (deadline_order c g t) (deadline_late c g t ∷ []) first.1 in
+    let third = none_first (deadline_late c g t) [] second.1 in
+    (holds_unless (is_after_previous c.deadlines g t && is_before_next c.deadlines g t) (rule.DeadlineOrder g) second.0, nothing_found _ third.0)
 
 -- a new fixture: there, one too many, or judged by its place
 pub refused_there : (c : CalendarFacts) (x : Fixture) (i : ℕ) → IsAt c.fixtures x.id i → fixture_refusal c x ≡ Some (rule.FixtureThere x.id)

@@ -39,7 +39,7 @@ impl Model for Calendar {
 }
 
 impl Calendar {
-    ghost use Rattle.rule_book.specs.Calendar.{IsCalendar, new_calendar, deadlines_order, next_gameweek, deadline_of, fixture_of, stands_in, standing, after_pass, with_deadline, with_fixture, with_move};
+    ghost use Rattle.rule_book.specs.Calendar.{IsCalendar, new_calendar, deadlines_order, next_gameweek, deadline_of, fixture_of, is_locked_place, stands_in, standing, after_pass, with_deadline, with_fixture, with_move};
     ghost use Rattle.rule_book.specs.CalendarCalls.{deadline_refusal, place_refusal, fixture_refusal, move_refusal};
 
     /// The calendar of a season that has not begun: no gameweek is locked, and no fixture is there. The first `split`
@@ -165,6 +165,16 @@ impl Calendar {
         ensures ok { OnOk result (self.new ≡ with_deadline self.old g t) }
         ensures err { OnErr result (self.new ≡ self.old) }
     {
+        self.judge_deadline(g, t, now)?;
+        self.deadlines[usize::from(g.get() - 1)] = t;
+        Ok(())
+    }
+
+    /// Whether a gameweek may have this deadline, when the moment told is `now`: what `set_deadline` refuses for.
+    pub fn judge_deadline(&self, g: Gw, t: Moment, now: Moment) -> Result<(), Rule>
+        requires in_season { g ≤ length self.now.deadlines }
+        ensures judged { IsJudged (deadline_refusal self.now g t now) result }
+    {
         if g.get() <= self.locked || t <= now {
             return Err(Rule::DeadlinePassed { gameweek: g });
         }
@@ -173,10 +183,7 @@ impl Calendar {
         }
         match first_early(&self.fixtures, self.standing.get(g), t) {
             Some(fixture) => Err(Rule::KickoffEarly { fixture }),
-            None => {
-                self.deadlines[usize::from(g.get() - 1)] = t;
-                Ok(())
-            }
+            None => Ok(()),
         }
     }
 
@@ -189,23 +196,50 @@ impl Calendar {
         ensures ok { OnOk result (self.new ≡ with_fixture self.old fixture) }
         ensures err { OnErr result (self.new ≡ self.old) }
     {
+        let at = match self.place_of_new(&fixture) {
+            Ok(at) => at,
+            Err(rule) => return Err(Refused::Rule(rule)),
+        };
+        match self.insert(at, fixture) {
+            Ok(()) => Ok(()),
+            Err(Memory) => Err(Refused::Memory),
+        }
+    }
+
+    /// Whether a fixture may be added: what `add_fixture` refuses for.
+    pub fn judge_fixture(&self, fixture: &Fixture) -> Result<(), Rule>
+        requires in_season { IfSome fixture.now.gw (λ g. g ≤ length self.now.deadlines) }
+        ensures judged { IsJudged (fixture_refusal self.now fixture.now) result }
+    {
+        match self.place_of_new(fixture) {
+            Ok(_) => Ok(()),
+            Err(rule) => Err(rule),
+        }
+    }
+
+    // Where a new fixture would go.
+    fn place_of_new(&self, fixture: &Fixture) -> Result<usize, Rule>
+        requires in_season { IfSome fixture.now.gw (λ g. g ≤ length self.now.deadlines) }
+        ensures judged { IsJudged (fixture_refusal self.now fixture.now) result }
+        ensures gap { IfOk result (IsGap self.now.fixtures fixture.now.id) }
+        ensures from_1 { OnOk result (IfSome fixture.now.gw (λ g. 1 ≤ g)) }
+        ensures not_full { OnOk result (length self.now.fixtures < 380) }
+        ensures can_stand { OnOk result (place_refusal self.now fixture.now.id fixture.now.gw fixture.now.kickoff ≡ None) }
+    {
         let at = match place_of(&self.fixtures, fixture.id) {
             Ok(_) => {
-                return Err(Refused::Rule(Rule::FixtureThere {
+                return Err(Rule::FixtureThere {
                     fixture: fixture.id,
-                }));
+                });
             }
             Err(at) => at,
         };
         if self.fixtures.len() >= MOST_FIXTURES {
-            return Err(Refused::Rule(Rule::FixturesFull));
+            return Err(Rule::FixturesFull);
         }
-        if let Err(rule) = self.judge_place(&fixture) {
-            return Err(Refused::Rule(rule));
-        }
-        match self.insert(at, fixture) {
-            Ok(()) => Ok(()),
-            Err(Memory) => Err(Refused::Memory),
+        match self.judge_place(fixture.id, &fixture.gw, fixture.kickoff) {
+            Ok(()) => Ok(at),
+            Err(rule) => Err(rule),
         }
     }
 
@@ -243,12 +277,8 @@ impl Calendar {
         ensures err { OnErr result (self.new ≡ self.old) }
         ensures no_memory { IfErr result (λ e. e ≢ Refused.Memory) }
     {
-        let to_locked = match to {
-            Some(g) => g.get() <= self.locked,
-            None => false,
-        };
-        if has_facts && !to_locked {
-            return Err(Refused::Rule(Rule::HasFacts { fixture: f }));
+        if let Err(rule) = self.judge_move(f, &to, kickoff, has_facts) {
+            return Err(Refused::Rule(rule));
         }
         let at = match place_of(&self.fixtures, f) {
             Ok(at) => at,
@@ -260,11 +290,36 @@ impl Calendar {
             kickoff,
             ..fixture
         };
-        if let Err(rule) = self.judge_place(&moved) {
-            return Err(Refused::Rule(rule));
-        }
         self.replace(at, moved);
         Ok(())
+    }
+
+    /// Whether a fixture may go to a gameweek, or to none, and have this kick-off: what `move_fixture` refuses for.
+    pub fn judge_move(
+        &self,
+        f: FixtureId,
+        to: &Option<Gw>,
+        kickoff: Moment,
+        has_facts: bool,
+    ) -> Result<(), Rule>
+        requires in_season { IfSome to.now (λ g. g ≤ length self.now.deadlines) }
+        ensures judged { IsJudged (move_refusal self.now f to.now kickoff has_facts) result }
+        ensures from_1 { IfSome to.now (λ g. 1 ≤ g) }
+    {
+        if has_facts && !self.is_locked_place(to) {
+            return Err(Rule::HasFacts { fixture: f });
+        }
+        self.judge_place(f, to, kickoff)
+    }
+
+    // Whether a place is a locked gameweek.
+    fn is_locked_place(&self, to: &Option<Gw>) -> bool
+        ensures { result ≡ is_locked_place self.now to.now }
+    {
+        match to {
+            Some(g) => g.get() <= self.locked,
+            None => false,
+        }
     }
 
     // Puts a fixture in the place of the one of its id.
@@ -289,23 +344,21 @@ impl Calendar {
         self.standing(g).iter().filter(|id| **id != f).count()
     }
 
-    // Whether a fixture may stand and kick off as it says.
-    fn judge_place(&self, fixture: &Fixture) -> Result<(), Rule>
-        requires { IfSome fixture.now.gw (λ g. g ≤ length self.now.deadlines) }
-        ensures judged { IsJudged (place_refusal self.now fixture.now.id fixture.now.gw fixture.now.kickoff) result }
-        ensures from_1 { IfSome fixture.now.gw (λ g. 1 ≤ g) }
+    // Whether a fixture may stand at a place and kick off then.
+    fn judge_place(&self, f: FixtureId, to: &Option<Gw>, kickoff: Moment) -> Result<(), Rule>
+        requires { IfSome to.now (λ g. g ≤ length self.now.deadlines) }
+        ensures judged { IsJudged (place_refusal self.now f to.now kickoff) result }
+        ensures from_1 { IfSome to.now (λ g. 1 ≤ g) }
     {
-        let Some(g) = fixture.gw else {
+        let Some(g) = *to else {
             return Ok(());
         };
         let deadline = self.deadlines[usize::from(g.get() - 1)];
-        if self.count_others(g, fixture.id) >= MOST_IN_A_GAMEWEEK {
+        if self.count_others(g, f) >= MOST_IN_A_GAMEWEEK {
             return Err(Rule::GameweekFull { gameweek: g });
         }
-        if is_early(deadline, fixture.kickoff) {
-            return Err(Rule::KickoffEarly {
-                fixture: fixture.id,
-            });
+        if is_early(deadline, kickoff) {
+            return Err(Rule::KickoffEarly { fixture: f });
         }
         Ok(())
     }

@@ -1,13 +1,14 @@
-// The commands that change the calendar.
-ghost use Rattle.std.specs.Prelude.{◌≡◌, Some};
-ghost use Rattle.season_book.specs.Doing.{IsDone};
-ghost use Rattle.season_book.specs.Verdict.{judged, locked_at};
-ghost use Rattle.season_book.specs.declared.command.Command.TheVariants as command;
+// The commands that change the calendar. Each was judged before.
+ghost use Rattle.std.specs.Prelude.{◌≡◌, None, OnOk, OnErr, true};
+ghost use Rattle.rule_book.specs.Calendar.{with_deadline, with_fixture, with_move};
+ghost use Rattle.rule_book.specs.CalendarCalls.{deadline_refusal, fixture_refusal, move_refusal};
+ghost use Rattle.rule_book.specs.MatchFacts.{has_facts};
+ghost use Rattle.season_book.specs.Commands.{has_fixture, has_gameweek, has_place};
+ghost use Rattle.season_book.specs.Verdict.{locked_at};
 
 use crate::Season;
-use fpl_base::{Gw, Moment, Refused};
+use fpl_base::{Gw, Memory, Moment, Refused};
 use rule_book::Fixture;
-use season_book::Answer;
 
 impl Season {
     /// Locks the gameweeks whose deadlines have passed at this moment, and opens none.
@@ -17,60 +18,46 @@ impl Season {
         self.calendar.pass(now);
     }
 
-    pub(crate) fn set_deadline(
-        &mut self,
-        now: Moment,
-        gameweek: Gw,
-        deadline: Moment,
-    ) -> Result<(), Answer>
-        ensures { IsDone (judged (Some self.old) now (command.Deadline gameweek deadline)) self.old self.new result }
+    pub(crate) fn set_deadline(&mut self, now: Moment, gameweek: Gw, deadline: Moment)
+        requires there { has_gameweek self.old gameweek ≡ true }
+        requires unbroken { deadline_refusal self.old.calendar gameweek deadline now ≡ None }
+        ensures { self.new ≡ record self.old { calendar = with_deadline self.old.calendar gameweek deadline } }
     {
-        if !self.has_gameweek(gameweek) {
-            return Err(Answer::Unknown);
-        }
         match self.calendar.set_deadline(gameweek, deadline, now) {
-            Ok(()) => Ok(()),
-            Err(rule) => Err(Answer::Rule(rule)),
+            Ok(()) => {}
+            Err(_) => unreachable!(),
         }
     }
 
-    pub(crate) fn add_fixture(&mut self, now: Moment, fixture: Fixture) -> Result<(), Answer>
-        ensures { IsDone (judged (Some self.old) now (command.Fixture fixture.id fixture.home fixture.away fixture.gw fixture.kickoff)) self.old self.new result }
+    pub(crate) fn add_fixture(&mut self, fixture: Fixture) -> Result<(), Memory>
+        requires there { has_place self.old fixture.gw ≡ true }
+        requires unbroken { fixture_refusal self.old.calendar fixture ≡ None }
+        ensures ok { OnOk result (self.new ≡ record self.old { calendar = with_fixture self.old.calendar fixture }) }
+        ensures err { OnErr result (self.new ≡ self.old) }
     {
-        if !self.has_sides(&fixture) {
-            return Err(Answer::Unknown);
-        }
+        // For the prover, which learns by it that the id is one.
         let _ = fixture.id.get();
         match self.calendar.add_fixture(fixture) {
             Ok(()) => Ok(()),
-            Err(Refused::Rule(rule)) => Err(Answer::Rule(rule)),
-            Err(Refused::Memory) => Err(Answer::Memory),
+            Err(Refused::Memory) => Err(Memory),
+            Err(Refused::Rule(_)) => unreachable!(),
         }
     }
 
-    pub(crate) fn move_fixture(
-        &mut self,
-        now: Moment,
-        number: u32,
-        gameweek: Option<Gw>,
-        kickoff: Moment,
-    ) -> Result<(), Answer>
-        ensures { IsDone (judged (Some self.old) now (command.Move number gameweek kickoff)) self.old self.new result }
+    pub(crate) fn move_fixture(&mut self, number: u32, gameweek: Option<Gw>, kickoff: Moment)
+        requires there { has_fixture self.old number ≡ true }
+        requires place { has_place self.old gameweek ≡ true }
+        requires unbroken { move_refusal self.old.calendar number gameweek kickoff (has_facts self.old.matches number) ≡ None }
+        ensures { self.new ≡ record self.old { calendar = with_move self.old.calendar number gameweek kickoff } }
     {
-        let Some(fixture) = self.fixture_there(number) else {
-            return Err(Answer::Unknown);
-        };
-        if !self.has_place(&gameweek) {
-            return Err(Answer::Unknown);
-        }
+        let fixture = self.the_fixture(number);
         let has_facts = self.matches.has_facts(fixture);
         match self
             .calendar
             .move_fixture(fixture, gameweek, kickoff, has_facts)
         {
-            Ok(()) => Ok(()),
-            Err(Refused::Rule(rule)) => Err(Answer::Rule(rule)),
-            Err(Refused::Memory) => Err(Answer::Memory),
+            Ok(()) => {}
+            Err(_) => unreachable!(),
         }
     }
 }

@@ -1,28 +1,24 @@
 // A command on a season.
-ghost use Rattle.std.specs.Prelude.{Some};
-ghost use Rattle.season_book.specs.Doing.{IsDone};
-ghost use Rattle.season_book.specs.Verdict.{judged};
+ghost use Rattle.std.specs.Prelude.{◌≡◌, IfOk, OnOk, OnErr, false};
+ghost use Rattle.season_book.specs.Commands.{changed_by};
+ghost use Rattle.season_book.specs.Doing.{IsGranted};
 
 use crate::Season;
-use fpl_base::{Moment, Rule, Steps};
-use rule_book::Fixture;
-use season_book::{Answer, Command};
-use std::sync::ledger::Ledger;
+use fpl_base::{ClubId, Memory, Moment, Name, PlayerId, Position, Tenths};
+use rule_book::{Fixture, Player};
+use season_book::Command;
 
 impl Season {
-    /// Judges a command at a moment and does it; unchanged where it is refused or memory is wanting.
-    pub fn change<L: Ledger>(
-        &mut self,
-        now: Moment,
-        command: &Command,
-        steps: &mut Steps<L>,
-    ) -> Result<(), Answer>
-        ensures { IsDone (judged (Some self.old) now command.now) self.old self.new result }
+    /// Does a command that nothing refuses at this moment, as `judge` says; unchanged where memory is wanting.
+    pub fn change(&mut self, now: Moment, command: &Command) -> Result<(), Memory>
+        requires { IsGranted self.old now command.now }
+        ensures ok { OnOk result (self.new ≡ changed_by self.old command.now) }
+        ensures err { OnErr result (self.new ≡ self.old) }
     {
         match command {
-            Command::Season { .. } => Err(Answer::Rule(Rule::SeasonThere)),
             Command::Deadline { gameweek, deadline } => {
-                self.set_deadline(now, *gameweek, *deadline)
+                self.set_deadline(now, *gameweek, *deadline);
+                Ok(())
             }
             Command::Player {
                 id,
@@ -30,45 +26,58 @@ impl Season {
                 position,
                 club,
                 price,
-            } => self.add_named(now, *id, name, *position, *club, *price),
-            Command::Price { player, price } => self.set_price(now, *player, *price),
-            Command::Club { player, club } => self.set_club(now, *player, *club),
-            Command::Gone { player, gone } => self.set_gone(now, *player, *gone),
+            } => self.add_player(new_player(*id, name, *position, *club, *price)?),
+            Command::Price { player, price } => {
+                self.set_price(*player, *price);
+                Ok(())
+            }
+            Command::Club { player, club } => {
+                self.set_club(*player, *club);
+                Ok(())
+            }
+            Command::Gone { player, gone } => {
+                self.set_gone(*player, *gone);
+                Ok(())
+            }
             Command::Fixture {
                 id,
                 home,
                 away,
                 gameweek,
                 kickoff,
-            } => self.add_fixture(
-                now,
-                Fixture {
-                    id: *id,
-                    home: *home,
-                    away: *away,
-                    gw: *gameweek,
-                    kickoff: *kickoff,
-                },
-            ),
+            } => self.add_fixture(Fixture {
+                id: *id,
+                home: *home,
+                away: *away,
+                gw: *gameweek,
+                kickoff: *kickoff,
+            }),
             Command::Move {
                 fixture,
                 gameweek,
                 kickoff,
-            } => self.move_fixture(now, *fixture, *gameweek, *kickoff),
+            } => {
+                self.move_fixture(*fixture, *gameweek, *kickoff);
+                Ok(())
+            }
             Command::Sheet {
                 fixture,
                 lines,
                 finished,
-            } => self.put_sheet(now, *fixture, lines.as_slice(), *finished),
+            } => self.put_sheet(*fixture, lines.as_slice(), *finished),
             Command::Line {
                 fixture,
                 player,
                 line,
-            } => self.put_line(now, *fixture, *player, line),
-            Command::Drop { fixture, player } => self.drop_line(now, *fixture, *player, steps),
-            Command::Finished { fixture, finished } => self.set_finished(now, *fixture, *finished),
-            // No route orders these yet.
-            Command::Key { .. }
+            } => self.put_line(*fixture, *player, line),
+            Command::Drop { fixture, player } => {
+                self.drop_line(*fixture, *player);
+                Ok(())
+            }
+            Command::Finished { fixture, finished } => self.set_finished(*fixture, *finished),
+            // A season begins another way, and no route orders the others yet.
+            Command::Season { .. }
+            | Command::Key { .. }
             | Command::Squad { .. }
             | Command::Transfers { .. }
             | Command::Lineup { .. }
@@ -77,7 +86,27 @@ impl Season {
             | Command::League { .. }
             | Command::Join { .. }
             | Command::Draw { .. }
-            | Command::Cup { .. } => Err(Answer::Unknown),
+            | Command::Cup { .. } => unreachable!(),
         }
     }
+}
+
+// A new player is not gone.
+fn new_player(
+    id: PlayerId,
+    name: &Name,
+    position: Position,
+    club: ClubId,
+    price: u16,
+) -> Result<Player, Memory>
+    ensures { IfOk result (λ player. player ≡ record { id = id; name = name.now; position = position; club = club; price = price; gone = false }) }
+{
+    Ok(Player {
+        id,
+        name: name.copy()?,
+        position,
+        club,
+        price: Tenths::new(u32::from(price)).unwrap(),
+        gone: false,
+    })
 }

@@ -4,6 +4,7 @@
 mod begin;
 mod calendar_commands;
 mod commands;
+mod judge;
 mod match_commands;
 mod player_commands;
 mod reads;

@@ -1,102 +1,79 @@
-// The commands that change the figures of the matches.
-ghost use Rattle.std.specs.Prelude.{Some};
-ghost use Rattle.season_book.specs.Doing.{IsDone};
-ghost use Rattle.season_book.specs.Verdict.{judged};
-ghost use Rattle.season_book.specs.declared.command.Command.TheVariants as command;
+// The commands that change the figures of the matches. Each was judged before.
+ghost use Rattle.std.specs.Prelude.{◌≡◌, None, OnOk, OnErr, true};
+ghost use Rattle.rule_book.specs.MatchCalls.{drop_line, line_refusal, not_locked, put_line, put_sheet, set_finished, sheet_refusal};
+ghost use Rattle.season_book.specs.Commands.{has_fixture, is_in_locked};
 
 use crate::Season;
-use fpl_base::{Moment, PlayerId, Refused, Steps};
+use fpl_base::{Memory, PlayerId, Refused};
 use match_facts::facts_are_maps;
 use rule_book::Line;
-use season_book::Answer;
-use std::sync::ledger::Ledger;
 
+// In each of them the law `facts_are_maps` tells the prover which lines stand behind the change, all in their ranges.
 impl Season {
     pub(crate) fn put_sheet(
         &mut self,
-        now: Moment,
         number: u32,
         lines: &[(PlayerId, Line)],
         finished: bool,
-    ) -> Result<(), Answer>
-        ensures { IsDone (judged (Some self.old) now (command.Sheet number lines.now finished)) self.old self.new result }
+    ) -> Result<(), Memory>
+        requires there { has_fixture self.old number ≡ true }
+        requires unbroken { sheet_refusal number (is_in_locked self.old number) lines.now ≡ None }
+        ensures ok { OnOk result (self.new ≡ record self.old { matches = put_sheet self.old.matches number lines.now finished }) }
+        ensures err { OnErr result (self.new ≡ self.old) }
     {
-        let Some(fixture) = self.fixture_there(number) else {
-            return Err(Answer::Unknown);
-        };
-        if !self.has_players(lines) {
-            return Err(Answer::Unknown);
-        }
+        let fixture = self.the_fixture(number);
         let locked = self.is_in_locked(fixture);
         facts_are_maps();
         match self.matches.put_sheet(fixture, locked, lines, finished) {
             Ok(()) => Ok(()),
-            Err(Refused::Rule(rule)) => Err(Answer::Rule(rule)),
-            Err(Refused::Memory) => Err(Answer::Memory),
+            Err(Refused::Memory) => Err(Memory),
+            Err(Refused::Rule(_)) => unreachable!(),
         }
     }
 
     pub(crate) fn put_line(
         &mut self,
-        now: Moment,
         number: u32,
         player: PlayerId,
         line: &Line,
-    ) -> Result<(), Answer>
-        ensures { IsDone (judged (Some self.old) now (command.Line number player line.now)) self.old self.new result }
+    ) -> Result<(), Memory>
+        requires there { has_fixture self.old number ≡ true }
+        requires unbroken { line_refusal self.old.matches number (is_in_locked self.old number) player line.now ≡ None }
+        ensures ok { OnOk result (self.new ≡ record self.old { matches = put_line self.old.matches number player line.now }) }
+        ensures err { OnErr result (self.new ≡ self.old) }
     {
-        let Some(fixture) = self.fixture_there(number) else {
-            return Err(Answer::Unknown);
-        };
-        if !self.has_player(player) {
-            return Err(Answer::Unknown);
-        }
+        let fixture = self.the_fixture(number);
         let locked = self.is_in_locked(fixture);
         facts_are_maps();
         match self.matches.put_line(fixture, locked, player, line) {
             Ok(()) => Ok(()),
-            Err(Refused::Rule(rule)) => Err(Answer::Rule(rule)),
-            Err(Refused::Memory) => Err(Answer::Memory),
+            Err(Refused::Memory) => Err(Memory),
+            Err(Refused::Rule(_)) => unreachable!(),
         }
     }
 
-    pub(crate) fn drop_line<L: Ledger>(
-        &mut self,
-        now: Moment,
-        number: u32,
-        player: PlayerId,
-        steps: &mut Steps<L>,
-    ) -> Result<(), Answer>
-        ensures { IsDone (judged (Some self.old) now (command.Drop number player)) self.old self.new result }
+    pub(crate) fn drop_line(&mut self, number: u32, player: PlayerId)
+        requires there { has_fixture self.old number ≡ true }
+        ensures { self.new ≡ record self.old { matches = drop_line self.old.matches number player } }
     {
-        let Some(fixture) = self.fixture_there(number) else {
-            return Err(Answer::Unknown);
-        };
-        if self.matches.line(fixture, player, steps).is_none() {
-            return Err(Answer::Unknown);
-        }
+        let fixture = self.the_fixture(number);
         facts_are_maps();
         self.matches.drop_line(fixture, player);
-        Ok(())
     }
 
-    pub(crate) fn set_finished(
-        &mut self,
-        now: Moment,
-        number: u32,
-        finished: bool,
-    ) -> Result<(), Answer>
-        ensures { IsDone (judged (Some self.old) now (command.Finished number finished)) self.old self.new result }
+    pub(crate) fn set_finished(&mut self, number: u32, finished: bool) -> Result<(), Memory>
+        requires there { has_fixture self.old number ≡ true }
+        requires unbroken { not_locked number (is_in_locked self.old number) ≡ None }
+        ensures ok { OnOk result (self.new ≡ record self.old { matches = set_finished self.old.matches number finished }) }
+        ensures err { OnErr result (self.new ≡ self.old) }
     {
-        let Some(fixture) = self.fixture_there(number) else {
-            return Err(Answer::Unknown);
-        };
+        let fixture = self.the_fixture(number);
         let locked = self.is_in_locked(fixture);
         facts_are_maps();
         match self.matches.set_finished(fixture, locked, finished) {
             Ok(()) => Ok(()),
-            Err(Refused::Rule(rule)) => Err(Answer::Rule(rule)),
-            Err(Refused::Memory) => Err(Answer::Memory),
+            Err(Refused::Memory) => Err(Memory),
+            Err(Refused::Rule(_)) => unreachable!(),
         }
     }
 }

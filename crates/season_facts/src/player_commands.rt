@@ -1,105 +1,46 @@
-// The commands that change the players.
-ghost use Rattle.std.specs.Prelude.{◌≡◌, Some, false};
-ghost use Rattle.season_book.specs.Doing.{IsDone};
-ghost use Rattle.season_book.specs.Verdict.{judged};
-ghost use Rattle.season_book.specs.declared.command.Command.TheVariants as command;
+// The commands that change the players. Each was judged before.
+ghost use Rattle.std.specs.Prelude.{◌≡◌, None, OnOk, OnErr};
+ghost use Rattle.rule_book.specs.Players.{player_refusal, price_refusal, with_club, with_gone, with_player, with_price};
 
 use crate::Season;
-use fpl_base::{ClubId, Moment, Name, PlayerId, Position, Refused, Tenths};
+use fpl_base::{ClubId, Memory, PlayerId, Refused, Tenths};
 use rule_book::Player;
-use season_book::Answer;
 
 impl Season {
-    // Adds a player of this name, who is not gone.
-    pub(crate) fn add_named(
-        &mut self,
-        now: Moment,
-        id: PlayerId,
-        name: &Name,
-        position: Position,
-        club: ClubId,
-        price: u16,
-    ) -> Result<(), Answer>
-        ensures { IsDone (judged (Some self.old) now (command.Player id name.now position club price)) self.old self.new result }
+    pub(crate) fn add_player(&mut self, player: Player) -> Result<(), Memory>
+        requires unbroken { player_refusal self.old.players player ≡ None }
+        ensures ok { OnOk result (self.new ≡ record self.old { players = with_player self.old.players player }) }
+        ensures err { OnErr result (self.new ≡ self.old) }
     {
-        let Ok(name) = name.copy() else {
-            return Err(Answer::Memory);
-        };
-        let price = Tenths::new(u32::from(price)).unwrap();
-        self.add_player(
-            now,
-            Player {
-                id,
-                name,
-                position,
-                club,
-                price,
-                gone: false,
-            },
-        )
-    }
-
-    // A new player is not gone.
-    pub(crate) fn add_player(&mut self, now: Moment, player: Player) -> Result<(), Answer>
-        requires { player.gone ≡ false }
-        ensures { IsDone (judged (Some self.old) now (command.Player player.id player.name player.position player.club player.price)) self.old self.new result }
-    {
-        if !self.has_club(player.club) {
-            return Err(Answer::Unknown);
-        }
+        // For the prover, which learns by it that the id is one.
         let _ = player.id.get();
         match self.players.add(player) {
             Ok(()) => Ok(()),
-            Err(Refused::Rule(rule)) => Err(Answer::Rule(rule)),
-            Err(Refused::Memory) => Err(Answer::Memory),
+            Err(Refused::Memory) => Err(Memory),
+            Err(Refused::Rule(_)) => unreachable!(),
         }
     }
 
-    pub(crate) fn set_price(
-        &mut self,
-        now: Moment,
-        player: PlayerId,
-        price: u16,
-    ) -> Result<(), Answer>
-        ensures { IsDone (judged (Some self.old) now (command.Price player price)) self.old self.new result }
+    pub(crate) fn set_price(&mut self, player: PlayerId, price: u16)
+        requires unbroken { price_refusal price ≡ None }
+        ensures { self.new ≡ record self.old { players = with_price self.old.players player price } }
     {
-        if !self.has_player(player) {
-            return Err(Answer::Unknown);
-        }
         let tenths = Tenths::new(u32::from(price)).unwrap();
         match self.players.set_price(player, tenths) {
-            Ok(()) => Ok(()),
-            Err(rule) => Err(Answer::Rule(rule)),
+            Ok(()) => {}
+            Err(_) => unreachable!(),
         }
     }
 
-    pub(crate) fn set_club(
-        &mut self,
-        now: Moment,
-        player: PlayerId,
-        club: ClubId,
-    ) -> Result<(), Answer>
-        ensures { IsDone (judged (Some self.old) now (command.Club player club)) self.old self.new result }
+    pub(crate) fn set_club(&mut self, player: PlayerId, club: ClubId)
+        ensures { self.new ≡ record self.old { players = with_club self.old.players player club } }
     {
-        if !(self.has_player(player) && self.has_club(club)) {
-            return Err(Answer::Unknown);
-        }
         self.players.set_club(player, club);
-        Ok(())
     }
 
-    pub(crate) fn set_gone(
-        &mut self,
-        now: Moment,
-        player: PlayerId,
-        gone: bool,
-    ) -> Result<(), Answer>
-        ensures { IsDone (judged (Some self.old) now (command.Gone player gone)) self.old self.new result }
+    pub(crate) fn set_gone(&mut self, player: PlayerId, gone: bool)
+        ensures { self.new ≡ record self.old { players = with_gone self.old.players player gone } }
     {
-        if !self.has_player(player) {
-            return Err(Answer::Unknown);
-        }
         self.players.set_gone(player, gone);
-        Ok(())
     }
 }

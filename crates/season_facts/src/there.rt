@@ -39,6 +39,17 @@ impl Season {
         }
     }
 
+    // The id of the fixture of this number, which is there.
+    pub(crate) fn the_fixture(&self, number: u32) -> FixtureId
+        requires { has_fixture self.now number ≡ true }
+        ensures { result ≡ number }
+    {
+        match self.fixture_there(number) {
+            Some(fixture) => fixture,
+            None => unreachable!(),
+        }
+    }
+
     pub(crate) fn has_gameweek(&self, gameweek: Gw) -> bool
         ensures { result ≡ has_gameweek self.now gameweek }
     {

@@ -1,6 +1,7 @@
 -- From a command that was done and kept to what may be answered.
 use Rattle.std.proofs.Common.{◌≡◌, ℕ, Bool, true, false, if◌then◌else◌, List, Option, Some, None, sym, ap, subst, ◌∙◌, inl, inr}
-use Rattle.std.specs.Prelude.{Result, Ok, Err, IfErr, MatchResult, is_some}
+use Rattle.std.specs.Prelude.{Result, Ok, Err, IfErr, IsOk, IsSome, MatchResult, is_some, ⊤}
+use Rattle.std.proofs.lemmas.Bool.{false≢true}
 use Rattle.fpl_base.specs.declared.kinds.Caller.{Caller}
 use Rattle.fpl_base.specs.declared.rule.Rule.{Rule}
 use Rattle.fpl_base.specs.declared.rule.Rule.TheVariants as rule
@@ -10,45 +11,70 @@ use Rattle.season_book.specs.declared.command.Command.{Command}
 use Rattle.season_book.specs.declared.made.Made.{Made}
 use Rattle.season_book.specs.declared.made.Made.TheVariants as made
 use Rattle.season_book.specs.Commands.{are_there, begun_by, changed_by, refusal_of}
-use Rattle.season_book.specs.Doing.{IsRefused, IsStoreless, MayAnswerIn, with_facts}
-use Rattle.season_book.specs.Verdict.{Failures, IsRepeat, IsVerdictIn, MayAnswer, Verdict, begun, fresh_verdict, judged, number_refusal, pass, ruled_by, settled, unless_misnumbered, unless_refused}
+use Rattle.season_book.specs.Doing.{IsGrant, IsGranted, IsGrantedIn, IsOutLate, IsRefused, IsStoreless, MayAnswerIn, with_facts}
+use Rattle.season_book.specs.Verdict.{Failures, IsRepeat, IsVerdictIn, MayAnswer, Verdict, begun, fresh_verdict, judged, number_refusal, pass, ruled_by, settled, shown_or_unknown, unless_misnumbered, unless_refused}
 use Rattle.season_book.specs.declared.answer.Answer.{Answer}
 use Rattle.season_book.specs.declared.answer.Answer.TheVariants as answer
 use Rattle.season_book.specs.declared.request.Request.{Request}
 use Rattle.season_book.specs.declared.request.Request.TheVariants as request
+use Rattle.season_book.specs.declared.shown.Shown.{Shown}
 
--- no verdict speaks of a store
+-- a command is refused by a rule or an id that is not there
 
-chosen : (b : Bool) (P : Result Facts Answer → Type 0) (x y : Result Facts Answer) → P x → P y → P (if b then x else y)
-chosen true P x y px py = px
-chosen false P x y px py = py
+abbrev IsRuling : Answer → Type 0
+IsRuling (answer.Rule rule) = ⊤
+IsRuling answer.Unknown = ⊤
+IsRuling reply = ⊥
 
-abbrev Storeless : Result Facts Answer → Type 0
-Storeless verdict = IfErr verdict IsStoreless
+abbrev Rules : Result Facts Answer → Type 0
+Rules verdict = IfErr verdict IsRuling
 
-storeless_unless : (broken : Option Rule) (facts : Facts) → Storeless (unless_refused broken facts)
-storeless_unless None facts = tt
-storeless_unless (Some rule) facts = tt
+chosen : (b : Bool) (x y : Result Facts Answer) → Rules x → Rules y → Rules (if b then x else y)
+chosen true x y px py = px
+chosen false x y px py = py
 
-storeless_begun : (facts : Option Facts) → Storeless (begun facts)
-storeless_begun None = tt
-storeless_begun (Some facts) = storeless_unless (deadlines_order facts.calendar.deadlines) facts
+rules_unless : (broken : Option Rule) (facts : Facts) → Rules (unless_refused broken facts)
+rules_unless None facts = tt
+rules_unless (Some rule) facts = tt
 
-pub storeless_judged : (facts : Option Facts) (now : ℕ) (command : Command) → Storeless (judged facts now command)
-storeless_judged None now command = storeless_begun (begun_by command)
-storeless_judged (Some facts) now command =
+rules_begun : (facts : Option Facts) → Rules (begun facts)
+rules_begun None = tt
+rules_begun (Some facts) = rules_unless (deadlines_order facts.calendar.deadlines) facts
+
+pub rules_judged : (facts : Option Facts) (now : ℕ) (command : Command) → Rules (judged facts now command)
+rules_judged None now command = rules_begun (begun_by command)
+rules_judged (Some facts) now command =
     let behind = unless_refused (refusal_of facts now command) (changed_by facts command) in
-    chosen (is_some (begun_by command)) Storeless (Err (answer.Rule rule.SeasonThere)) (if are_there facts command then behind else Err answer.Unknown) tt
-    (chosen (are_there facts command) Storeless behind (Err answer.Unknown) (storeless_unless (refusal_of facts now command) (changed_by facts command)) tt)
+    chosen (is_some (begun_by command)) (Err (answer.Rule rule.SeasonThere)) (if are_there facts command then behind else Err answer.Unknown) tt
+    (chosen (are_there facts command) behind (Err answer.Unknown) (rules_unless (refusal_of facts now command) (changed_by facts command)) tt)
 
-pub storeless_refused : (verdict : Result Facts Answer) (reply : Answer) → Storeless verdict → IsRefused verdict reply → IsStoreless reply
-storeless_refused verdict (answer.Done number made) storeless refused = tt
-storeless_refused verdict (answer.Shown shown) storeless refused = tt
-storeless_refused verdict (answer.Rule rule) storeless refused = tt
-storeless_refused verdict answer.Unknown storeless refused = tt
-storeless_refused verdict answer.Keeper storeless refused = subst Storeless refused storeless
-storeless_refused verdict (answer.Damaged key) storeless refused = subst Storeless refused storeless
-storeless_refused verdict answer.Memory storeless refused = tt
+-- so no refusal speaks of a store
+pub storeless_refused : (verdict : Result Facts Answer) (reply : Answer) → Rules verdict → IsRefused verdict reply → IsStoreless reply
+storeless_refused verdict (answer.Done number made) rules refused = tt
+storeless_refused verdict (answer.Shown shown) rules refused = tt
+storeless_refused verdict (answer.Rule rule) rules refused = tt
+storeless_refused verdict answer.Unknown rules refused = tt
+storeless_refused verdict answer.Keeper rules refused = subst Rules refused rules
+storeless_refused verdict (answer.Damaged key) rules refused = subst Rules refused rules
+storeless_refused verdict answer.Memory rules refused = tt
+
+-- nor of memory
+pub refused_as : (verdict : Result Facts Answer) (reply : Answer) → Rules verdict → verdict ≡ Err reply → IsRefused verdict reply
+refused_as verdict (answer.Done number made) rules is = is
+refused_as verdict (answer.Shown shown) rules is = is
+refused_as verdict (answer.Rule rule) rules is = is
+refused_as verdict answer.Unknown rules is = is
+refused_as verdict answer.Keeper rules is = is
+refused_as verdict (answer.Damaged key) rules is = is
+refused_as verdict answer.Memory rules is = absurd (subst Rules is rules)
+
+-- a command that nothing refuses leads to the facts that it changes
+pub granted_is : (facts : Facts) (now : ℕ) (command : Command) → IsGranted facts now command → judged (Some facts) now command ≡ Ok (changed_by facts command)
+granted_is facts now command granted =
+    ap (λ (o : Option Facts). if is_some o then Err (answer.Rule rule.SeasonThere)
+    else if are_there facts command then unless_refused (refusal_of facts now command) (changed_by facts command) else Err answer.Unknown) granted.begins_none
+    ∙ ap (λ b. if b then unless_refused (refusal_of facts now command) (changed_by facts command) else Err answer.Unknown) granted.there
+    ∙ ap (λ o. unless_refused o (changed_by facts command)) granted.unbroken
 
 -- the verdict on a command that is no repeat
 
@@ -69,6 +95,36 @@ module _ (operator : List ℕ) (book : Book) (caller : Caller) (now number : ℕ
       → MatchResult due (λ facts. after ≡ with_facts book caller number command facts) (λ refused. ⊥)
       → MayAnswerIn operator book caller now (request.Command number command) (answer.Done number made.Nothing) after
   done_answer after none done = inl (inr (fresh, settled_ok after due done ∙ numbered none))
+
+  -- memory runs out only where the command is judged well
+
+  granted_by : (verdict : Result Facts Answer) → IsOk verdict → IsGrant (settled book caller number command (ruled_by book verdict)).answer
+  granted_by (Ok facts) ok = tt
+  granted_by (Err refused) ok = absurd (false≢true ok)
+
+  granted_in : number_refusal (last_number book caller) number ≡ None → IsOk due → IsGrantedIn operator book caller now (request.Command number command)
+  granted_in none ok verdict (inl (made, again, same)) = subst (λ (v : Verdict). IsGrant v.answer) (sym same) tt
+  granted_in none ok verdict (inr (new, same)) = subst (λ (v : Verdict). IsGrant v.answer) (numbered none ∙ sym same) (granted_by due ok)
+
+  pub late_refused : number_refusal (last_number book caller) number ≡ None → (reply : Answer) → IsRefused due reply → IsOutLate operator book caller now (request.Command number command) reply
+  late_refused none (answer.Done number made) refused = tt
+  late_refused none (answer.Shown shown) refused = tt
+  late_refused none (answer.Rule rule) refused = tt
+  late_refused none answer.Unknown refused = tt
+  late_refused none answer.Keeper refused = tt
+  late_refused none (answer.Damaged key) refused = tt
+  late_refused none answer.Memory refused = granted_in none refused
+
+-- what is shown is no refusal
+pub shown_grants : (shown : Option Shown) → IsSome shown → IsGrant (shown_or_unknown shown)
+shown_grants None there = absurd (false≢true there)
+shown_grants (Some what) there = tt
+
+-- what is so in the book with the moment's locks is so in the same book
+pub late_in : (operator other : List ℕ) (passed book : Book) (caller : Caller) (now : ℕ) (asked : Request) (reply : Answer) → other ≡ operator → passed ≡ book
+    → IsOutLate other passed caller now asked reply → IsOutLate operator book caller now asked reply
+late_in operator other passed book caller now asked reply same is late =
+    subst (λ b. IsOutLate operator b caller now asked reply) is (subst (λ o. IsOutLate o passed caller now asked reply) same late)
 
 -- what may be answered in the book with the moment's locks may be answered in the book before
 pub may_answer : (operator : List ℕ) (failures : Failures) (book passed : Book) (caller : Caller) (now : ℕ) (asked : Request) (reply : Answer) (after : Book) → passed ≡ pass book now

@@ -1,7 +1,7 @@
 // A command that is judged, done, and kept as its caller's last one.
 ghost use Rattle.std.specs.Prelude.{Some, None};
 ghost use Rattle.season_book.specs.Commands.{IsCommand};
-ghost use Rattle.season_book.specs.Doing.{IsBegunAndKept, IsDoneAndKept, IsKept};
+ghost use Rattle.season_book.specs.Doing.{IsBegunAndKept, IsDoneAndKept, IsGranted, IsKept};
 ghost use Rattle.season_book.specs.Verdict.{judged};
 
 use crate::lasts::{LastCommand, Lasts};
@@ -11,8 +11,8 @@ use season_facts::Season;
 use std::alloc::Global;
 use std::sync::ledger::Ledger;
 
-// Does a command on a season. It is put among the last commands before the season is changed, since the change may not
-// be taken back, and what stood there is put back where the command is refused.
+// Does a command on a season. It is judged before memory is asked for. Then it is put among the last commands before the
+// season is changed, since the change may not be taken back, and what stood there is put back where memory is wanting.
 pub fn accept<L: Ledger>(
     season: &mut Season,
     lasts: &mut Lasts,
@@ -24,15 +24,33 @@ pub fn accept<L: Ledger>(
 ) -> Result<(), Answer>
     ensures { IsDoneAndKept (judged (Some season.old) now command.now) caller.now number command.now season.old season.new lasts.old lasts.new result }
 {
+    match season.judge(now, command, steps) {
+        Ok(()) => change(season, lasts, caller, now, number, command),
+        Err(refused) => Err(refused),
+    }
+}
+
+// Does a command that nothing refuses on a season, and keeps it.
+fn change(
+    season: &mut Season,
+    lasts: &mut Lasts,
+    caller: &Caller,
+    now: Moment,
+    number: u64,
+    command: &Command,
+) -> Result<(), Answer>
+    requires { IsGranted season.old now command.now }
+    ensures { IsDoneAndKept (judged (Some season.old) now command.now) caller.now number command.now season.old season.new lasts.old lasts.new result }
+{
     let before = keep(lasts, caller, number, command)?;
-    match season.change(now, command, steps) {
+    match season.change(now, command) {
         Ok(()) => {
             drop(before);
             Ok(())
         }
-        Err(refused) => {
+        Err(Memory) => {
             lasts.put_back(caller, before);
-            Err(refused)
+            Err(Answer::Memory)
         }
     }
 }

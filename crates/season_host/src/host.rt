@@ -3,7 +3,7 @@ ghost use Rattle.std.specs.Prelude.{◌≡◌, ◌≤◌, Some, MatchResult, IsO
 ghost use Rattle.rule_book.specs.Refusals.{IsJudged};
 ghost use Rattle.season_book.specs.Book.{empty_book, last_number};
 ghost use Rattle.season_book.specs.Commands.{IsCommand};
-ghost use Rattle.season_book.specs.Doing.{IsAccepted, IsShown, IsStoreless, MayAnswerIn};
+ghost use Rattle.season_book.specs.Doing.{IsAccepted, IsOutLate, IsShown, IsStoreless, MayAnswerIn};
 ghost use Rattle.season_book.specs.Hosts.{IsRequest, caller_with, owner_of};
 ghost use Rattle.season_book.specs.Verdict.{MayAnswer, judged, fact_shown, number_refusal, pass};
 ghost use Rattle.season_book.specs.declared.request.Request.TheVariants as request_of;
@@ -105,8 +105,8 @@ impl Host {
         self.lasts.number(&caller)
     }
 
-    /// Answers a request of a caller at a moment. After `Answer::Memory` the command was done once or not at all, and
-    /// its repeat tells.
+    /// Answers a request of a caller at a moment. `Answer::Memory` comes only where nothing refuses the request; the
+    /// command was done once or not at all, and its repeat tells.
     pub fn answer<K: Keeper, L: Ledger>(
         &mut self,
         keeper: &mut K,
@@ -117,6 +117,7 @@ impl Host {
     ) -> Answer
         requires { IsRequest request.now }
         ensures answered { MayAnswer self.old.operator (record { before = K.faults keeper.old; behind = K.faults keeper.new }) self.old.book caller now request.now result self.new.book }
+        ensures late { IsOutLate self.old.operator (pass self.old.book now) caller now request.now result }
         ensures keeper { keeper.new ≡ keeper.old }
         ensures operator { self.new.operator ≡ self.old.operator }
         ensures storeless { IsStoreless result }
@@ -149,6 +150,7 @@ impl Host {
         steps: &mut Steps<L>,
     ) -> Answer
         ensures answered { MayAnswerIn self.old.operator self.old.book caller.now now (request_of.View view) result self.new.book }
+        ensures late { IsOutLate self.old.operator self.old.book caller.now now (request_of.View view) result }
         ensures operator { self.new.operator ≡ self.old.operator }
         ensures storeless { IsStoreless result }
     {
@@ -169,6 +171,7 @@ impl Host {
         requires numbered { 1 ≤ number }
         requires command { IsCommand command.now }
         ensures answered { MayAnswerIn self.old.operator self.old.book caller.now now (request_of.Command number command.now) result self.new.book }
+        ensures late { IsOutLate self.old.operator self.old.book caller.now now (request_of.Command number command.now) result }
         ensures operator { self.new.operator ≡ self.old.operator }
         ensures storeless { IsStoreless result }
     {

@@ -23,6 +23,10 @@ fn opened_by<L: Ledger>(rt: &impl Abort, alloc: Global, blank: Blank) -> Host
     Host::open(alloc, &mut Quiet, &operator, &mut steps).expect(rt, "a host")
 }
 
+fn opened(rt: &impl Abort, alloc: Global) -> Host {
+    opened_by::<Brand>(rt, alloc, Blank::new(1))
+}
+
 fn answer_by<L: Ledger>(host: &mut Host, now: Moment, request: &Request, blank: Blank) -> Answer
     requires name { blank.name ≡ L.name }
     requires parts { blank.parts ≡ L.parts }
@@ -93,7 +97,7 @@ fn command(rt: &impl Abort, alloc: Global, word: u8) -> Command
 #[test]
 fn commands_get_their_verdicts(rt: HostRuntime) {
     let alloc = rt.alloc();
-    let mut host = opened_by::<Brand>(&rt, alloc, Blank::new(1));
+    let mut host = opened(&rt, alloc);
     let now = Moment::new(500).expect(&rt, "a moment");
     for (number, word, wanted) in [
         (2, 2, 1),

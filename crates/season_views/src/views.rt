@@ -1,5 +1,5 @@
 // What views show.
-ghost use Rattle.std.specs.Prelude.{◌≡◌, ◌≤◌, ◌<◌, ◌&&◌, Some, None, IfOk, length, nat_le, slice_get, if◌then◌else◌};
+ghost use Rattle.std.specs.Prelude.{◌≡◌, ◌≤◌, ◌<◌, ◌&&◌, Some, None, IfOk, IsSome, OnErr, length, nat_le, slice_get, if◌then◌else◌};
 ghost use Rattle.std.specs.Option.{option_map};
 ghost use Rattle.rule_book.specs.Calendar.{is_locked};
 ghost use Rattle.season_book.specs.Views.{shown_of, season_shown, fixture_shown};
@@ -15,15 +15,16 @@ use season_facts::Season;
 use std::alloc::Global;
 use std::sync::ledger::Ledger;
 
-/// What a view shows; `None` exactly where an id is not there, or the gameweek is not locked. Each line of a match that
-/// it reads is a counted read.
+/// What a view shows; `None` exactly where an id is not there, or the gameweek is not locked. Memory runs out only where
+/// something is to be shown. Each line of a match that it reads is a counted read.
 pub fn show<L: Ledger>(
     alloc: Global,
     season: &Season,
     view: View,
     steps: &mut Steps<L>,
 ) -> Result<Option<Shown>, Memory>
-    ensures { IfOk result (λ shown. shown ≡ shown_of season.now view) }
+    ensures shown { IfOk result (λ shown. shown ≡ shown_of season.now view) }
+    ensures out { OnErr result (IsSome (shown_of season.now view)) }
 {
     match view {
         View::Season => Ok(Some(Shown::Season(season_shown(alloc, season)?))),
@@ -67,7 +68,8 @@ fn deadline_at(calendar: &Calendar, place: u8) -> Moment
 }
 
 fn player_shown(season: &Season, player: u32) -> Result<Option<Shown>, Memory>
-    ensures { IfOk result (λ shown. shown ≡ shown_of season.now (view.Player player)) }
+    ensures shown { IfOk result (λ shown. shown ≡ shown_of season.now (view.Player player)) }
+    ensures out { OnErr result (IsSome (shown_of season.now (view.Player player))) }
 {
     match season.player(player) {
         Some(there) => Ok(Some(Shown::Player(copy_of_player(there)?))),
@@ -120,7 +122,8 @@ fn fixture_shown<L: Ledger>(
     fixture: u32,
     steps: &mut Steps<L>,
 ) -> Result<Option<Shown>, Memory>
-    ensures { IfOk result (λ shown. shown ≡ shown_of season.now (view.Fixture fixture)) }
+    ensures shown { IfOk result (λ shown. shown ≡ shown_of season.now (view.Fixture fixture)) }
+    ensures out { OnErr result (IsSome (shown_of season.now (view.Fixture fixture))) }
 {
     match season.fixture(fixture) {
         Some(there) => Ok(Some(Shown::Fixture(ShownFixture {

@@ -15,4 +15,4 @@ deadline_is c =
 
 pub returns-clause-judged : goal.returns-clause-judged
 returns-clause-judged c =
-    place_free c.args.self.now c.args.fixture.now.id c.in-Some.g c.args.fixture.now.kickoff c.args.fixture.now.gw c.in-Some.is (omega (arith, c.count_others.ensures, c.if-count_others-ge-MOST_IN_A_GAMEWEEK.false)) (ap (λ d. is_early d c.args.fixture.now.kickoff) (sym (deadline_is c)) ∙ (sym c.is_early.ensures ∙ c.if-is_early.false))
+    place_free c.args.self.now c.args.f c.in-Some.g c.args.kickoff c.args.to.now c.in-Some.is (omega (arith, c.count_others.ensures, c.if-count_others-ge-MOST_IN_A_GAMEWEEK.false)) (ap (λ d. is_early d c.args.kickoff) (sym (deadline_is c)) ∙ (sym c.is_early.ensures ∙ c.if-is_early.false))

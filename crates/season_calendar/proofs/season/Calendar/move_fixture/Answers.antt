@@ -1,4 +1,4 @@
-use Rattle.std.proofs.Common.{◌≡◌, ◌∙◌, ℕ, Option, true, get_or, set, ap, sym, subst}
+use Rattle.std.proofs.Common.{◌≡◌, ◌∙◌, true, get_or, set, ap, sym, subst}
 use Rattle.std.specs.Prelude.{is_some}
 use Rattle.rule_book.specs.declared.season.Fixture.{Fixture}
 use Rattle.rule_book.specs.Calendar.{CalendarFacts, fixture_of}
@@ -7,12 +7,11 @@ use Rattle.season_calendar.specs.contracts.season.Calendar.{the_view}
 use Rattle.season_calendar.proofs.Lawful.{fixtures_are}
 use Rattle.season_calendar.proofs.Places.{moved_at, none_found_at}
 use Rattle.season_calendar.proofs.season.Calendar.move_fixture.Goals as goal
-use Rattle.season_calendar.proofs.season.Calendar.move_fixture.Goals.{in-Some, in-None}
 
 pub unreachable-requires : goal.unreachable-requires
 unreachable-requires c =
-    let gap = rw c.deref.ensures.value at c.in-Err.ensures.absent in
-    let none = none_found_at c.self.inside.fixtures.items c.args.f c.in-Err.field-0 gap in
+    let gap = rw c.deref.ensures.value at c.in-Err-place_of.ensures.absent in
+    let none = none_found_at c.self.inside.fixtures.items c.args.f c.in-Err-place_of.field-0 gap in
     let there : is_some (fixture_of (the_view c.self.inside) c.args.f) ≡ true = let P : CalendarFacts → Type 0 = λ v. is_some (fixture_of v c.args.f) ≡ true in subst P (sym c.self.view_is) c.requires.there in
     cc (rw none at there)
 
@@ -23,7 +22,6 @@ returns-clause-ok c =
     let here : IsAt c.self.inside.fixtures.items c.args.f at = rw c.deref.ensures.value at c.in-Ok.ensures.found in
     let there : IsAt now.fixtures c.args.f at = let P : CalendarFacts → Type 0 = λ v. IsAt v.fixtures c.args.f at in subst P c.self.view_is here in
     let read = c.index-fixture.ensures ∙ ap (λ (v : CalendarFacts). get_or v.fixtures at c.index-fixture.result.now) c.self.view_is in
-    let to : c.match-to.to ≡ c.args.to = elim c.match-to.branch [ in-Some w ↦ w.to-is ∙ sym w.in-Some.is | in-None w ↦ w.to-is ] in
-    let moved = ap (λ (y : Fixture). set now.fixtures at (record y { gw = c.match-to.to; kickoff = c.args.kickoff })) read
-    ∙ (ap (λ (p : Option ℕ). set now.fixtures at (record (get_or now.fixtures at c.index-fixture.result.now) { gw = p; kickoff = c.args.kickoff })) to ∙ sym (moved_at now.fixtures c.args.f at there c.args.to c.args.kickoff c.index-fixture.result.now)) in
+    let moved = ap (λ (y : Fixture). set now.fixtures at (record y { gw = c.args.to; kickoff = c.args.kickoff })) read
+    ∙ sym (moved_at now.fixtures c.args.f at there c.args.to c.args.kickoff c.index-fixture.result.now) in
     c.replace.ensures ∙ fixtures_are now _ _ moved

@@ -4,9 +4,9 @@ use Rattle.season_facts.proofs.KeptFacts.{AllRanged, ranged_with_sheet, ranged_w
 use Rattle.season_facts.proofs.season.Season.drop_line.Goals as goal
 
 pub invariant_of-self : goal.invariant_of-self
-invariant_of-self g c =
+invariant_of-self c =
     let matches = c.self.inside.matches in
-    let fixture = c.in-Some.fixture in
+    let fixture = c.the_fixture-fixture.result in
     let player = c.args.player in
     let laws = c.facts_are_maps.ensures in
     let ranged = c.self.invariant.lines_in_range in

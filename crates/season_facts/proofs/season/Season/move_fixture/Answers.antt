@@ -8,7 +8,7 @@ use Rattle.season_facts.proofs.season.Season.move_fixture.Goals as goal
 pub invariant_of-self : goal.invariant_of-self
 invariant_of-self c =
     let calendar = c.self.inside.calendar in
-    let fixture = c.in-Some.fixture in
+    let fixture = c.the_fixture-fixture.result in
     let ids = ids_with_move calendar fixture c.args.gameweek c.args.kickoff c.self.invariant.fixture_ids in
     record {
       player_ids = c.self.invariant.player_ids;

@@ -6,7 +6,7 @@ use Rattle.season_facts.proofs.season.Season.put_sheet.Goals as goal
 pub invariant_of-self : goal.invariant_of-self
 invariant_of-self c =
     let matches = c.self.inside.matches in
-    let fixture = c.in-Some.fixture in
+    let fixture = c.the_fixture-fixture.result in
     let locked = c.is_in_locked-locked.result in
     let lines = c.args.lines.now in
     let laws = c.facts_are_maps.ensures in

@@ -6,7 +6,7 @@ use Rattle.season_facts.proofs.season.Season.set_finished.Goals as goal
 pub invariant_of-self : goal.invariant_of-self
 invariant_of-self c =
     let matches = c.self.inside.matches in
-    let fixture = c.in-Some.fixture in
+    let fixture = c.the_fixture-fixture.result in
     let finished = c.args.finished in
     let laws = c.facts_are_maps.ensures in
     let ranged = c.self.invariant.lines_in_range in
