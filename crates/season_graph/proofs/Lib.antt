@@ -8,6 +8,7 @@ pub mod GameweekFacts
 pub mod LockFacts
 pub mod ToldFacts
 pub mod SheetFacts
+pub mod TestFacts
 pub mod ComingFacts
 pub mod WholeFacts
 pub mod MatchChanges

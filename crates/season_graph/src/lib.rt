@@ -16,6 +16,8 @@ mod evaluation;
 mod laws;
 mod nodes;
 mod rules;
+#[cfg(test)]
+mod tests;
 mod worth;
 
 pub use books::Books;

@@ -1,0 +1,29 @@
+-- A change of the matches' facts that was taken leaves a season.
+use Rattle.std.proofs.Common.{◌≡◌, ℕ, Bool, true, Result, Ok, Err, is_some, OnOk, subst, sym}
+use Rattle.std.proofs.lemmas.Bool.{false≢true}
+use Rattle.std.specs.Result.{is_ok}
+use Rattle.rule_book.specs.declared.line.Line.{Line}
+use Rattle.rule_book.specs.Figures.{IsLine}
+use Rattle.rule_book.specs.MatchCalls.{put_line, set_finished}
+use Rattle.rule_book.specs.MatchFacts.{MatchFacts}
+use Rattle.rule_book.specs.Players.{player_of}
+use Rattle.season_graph.specs.BookChanges.{LineIsPut, MarkIsSet, with_matches}
+use Rattle.season_graph.specs.Changes.{DifferInLine, DifferInMark}
+use Rattle.season_graph.specs.Season.{SeasonFacts, IsSeason}
+
+-- what holds on Ok
+held_on_ok : {T E P : Type 0} (r : Result T E) → is_ok r ≡ true → OnOk r P → P
+held_on_ok (Ok t) ok p = p
+held_on_ok (Err refused) ok p = absurd (false≢true ok)
+
+pub line_taken : {T E : Type 0} → LineIsPut → (b : SeasonFacts) (f p : ℕ) (line : Line) (left : MatchFacts) (r : Result T E)
+    → IsSeason b → IsLine line → is_some (player_of b.players p) ≡ true → is_ok r ≡ true → OnOk r (left ≡ put_line b.matches f p line)
+    → IsSeason (with_matches b left) × DifferInLine b (with_matches b left) f p
+line_taken put b f p line left r is ranges there ok done =
+    subst (λ m. IsSeason (with_matches b m) × DifferInLine b (with_matches b m) f p) (sym (held_on_ok r ok done)) (put b f p line is ranges there)
+
+pub mark_taken : {T E : Type 0} → MarkIsSet → (b : SeasonFacts) (f : ℕ) (finished : Bool) (left : MatchFacts) (r : Result T E)
+    → IsSeason b → is_ok r ≡ true → OnOk r (left ≡ set_finished b.matches f finished)
+    → IsSeason (with_matches b left) × DifferInMark b (with_matches b left) f
+mark_taken marked b f finished left r is ok done =
+    subst (λ m. IsSeason (with_matches b m) × DifferInMark b (with_matches b m) f) (sym (held_on_ok r ok done)) (marked b f finished is)

@@ -1,0 +1,314 @@
+// A match of three lines, by hand: what is evaluated, and what the cells hold.
+ghost use Rattle.std.specs.Prelude.{◌≡◌, ◌<◌, [], true, is_ok, is_some, IfOk, OnOk};
+ghost use Rattle.fpl_base.specs.declared.kinds.Profile.TheVariants as profile;
+ghost use Rattle.rule_book.specs.Figures.{IsLine};
+ghost use Rattle.rule_book.specs.Players.{player_of};
+ghost use Rattle.season_graph.specs.BookFacts.{facts_with};
+ghost use Rattle.season_graph.specs.Followed.{AreSound};
+ghost use Rattle.season_graph.specs.Season.{IsSeason};
+
+use crate::{
+    Books, Node, SeasonCells, SeasonRules, Value, evaluate_all, fact_changed, mark_changed,
+    matches_change, season_begins, settle_season,
+};
+use fpl_base::{
+    ClubId, FixtureId, Gw, Moment, Name, PlayerId, Position, Profile, Refused, Steps, Tenths,
+};
+use match_facts::{Line, MatchFacts, line_ok};
+use player_prices::Players;
+use rule_book::{Fixture, Player};
+use season_calendar::Calendar;
+use std::alloc::Global;
+use std::marker::Brand;
+use std::process::Abort;
+use std::sync::ledger::{Blank, Ledger};
+use std::test::Fail;
+
+fn id(number: u32) -> Result<PlayerId, Fail> {
+    Ok(PlayerId::new(number).ok_or("a player")?)
+}
+
+fn fixture() -> Result<FixtureId, Fail> {
+    Ok(FixtureId::new(1).ok_or("a fixture")?)
+}
+
+fn gameweek() -> Result<Gw, Fail> {
+    Ok(Gw::new(1).ok_or("a gameweek")?)
+}
+
+// An error where a call was refused.
+fn taken(answer: Result<(), Refused>) -> Result<(), Fail>
+    ensures { OnOk result (is_ok answer ≡ true) }
+{
+    match answer {
+        Ok(()) => Ok(()),
+        Err(_) => Err("a call is refused")?,
+    }
+}
+
+// One gameweek, in which fixture 1 stands, and which is locked.
+fn calendar(alloc: Global) -> Result<Calendar, Fail> {
+    let deadline = Moment::new(1000).ok_or("a moment")?;
+    let mut calendar = Calendar::new(alloc, &[deadline], 1)?;
+    let first = gameweek()?;
+    if calendar.gameweeks() < first.get() {
+        Err("no gameweek")?;
+    }
+    calendar.add_fixture(Fixture {
+        id: fixture()?,
+        home: ClubId::new(1).ok_or("a club")?,
+        away: ClubId::new(2).ok_or("a club")?,
+        gw: Some(first),
+        kickoff: Moment::new(9000).ok_or("a moment")?,
+    })?;
+    calendar.pass(deadline);
+    Ok(calendar)
+}
+
+// Midfielders 1, 2 and 3.
+fn players(alloc: Global) -> Result<Players, Fail> {
+    let mut players = Players::new(alloc);
+    for number in 1..=3 {
+        taken(players.add(Player {
+            id: id(number)?,
+            name: Name::new(alloc, b"Saka")?.ok_or("a name")?,
+            position: Position::Midfielder,
+            club: ClubId::new(1).ok_or("a club")?,
+            price: Tenths::new(55).ok_or("a price")?,
+            gone: false,
+        }))?;
+    }
+    Ok(players)
+}
+
+// A line of 90 minutes with so many goals, assists and key passes.
+fn line(goals: u16, assists: u16, key_passes: u16) -> Line {
+    let mut line = Line { figures: [0; 28] };
+    line.figures[0] = 90;
+    line.figures[1] = goals;
+    line.figures[2] = assists;
+    line.figures[14] = key_passes;
+    line
+}
+
+// Puts a line in, and tells how many nodes were evaluated. So a change of the books, the cells that follow it, and their
+// evaluation fit together by their contracts.
+fn put_line<L: Ledger>(
+    calendar: &Calendar,
+    players: &Players,
+    matches: &mut MatchFacts,
+    cells: &mut SeasonCells,
+    player: PlayerId,
+    line: &Line,
+    steps: &mut Steps<L>,
+) -> Result<usize, Fail>
+    requires season { IsSeason (facts_with profile.A calendar.now players.now matches.old) }
+    requires sound { AreSound (facts_with profile.A calendar.now players.now matches.old) cells.old }
+    requires ranges { IsLine line.now }
+    requires there { is_some (player_of players.now player) ≡ true }
+    ensures season { OnOk result (IsSeason (facts_with profile.A calendar.now players.now matches.new)) }
+    ensures sound { OnOk result (AreSound (facts_with profile.A calendar.now players.now matches.new) cells.new) }
+{
+    let fixture = fixture()?;
+    taken(matches.put_line(fixture, true, player, line))?;
+    matches_change();
+    let rules = SeasonRules {
+        books: Books {
+            profile: Profile::A,
+            calendar,
+            players,
+            matches: &*matches,
+        },
+    };
+    fact_changed(cells, &rules.books, fixture, player)?;
+    let report = settle_season(cells, &rules, steps)?;
+    Ok(report.evaluated.as_slice().len())
+}
+
+// Marks the fixture as finished.
+fn finish<L: Ledger>(
+    calendar: &Calendar,
+    players: &Players,
+    matches: &mut MatchFacts,
+    cells: &mut SeasonCells,
+    steps: &mut Steps<L>,
+) -> Result<usize, Fail>
+    requires season { IsSeason (facts_with profile.A calendar.now players.now matches.old) }
+    requires sound { AreSound (facts_with profile.A calendar.now players.now matches.old) cells.old }
+    ensures season { OnOk result (IsSeason (facts_with profile.A calendar.now players.now matches.new)) }
+    ensures sound { OnOk result (AreSound (facts_with profile.A calendar.now players.now matches.new) cells.new) }
+{
+    let fixture = fixture()?;
+    taken(matches.set_finished(fixture, true, true))?;
+    matches_change();
+    let rules = SeasonRules {
+        books: Books {
+            profile: Profile::A,
+            calendar,
+            players,
+            matches: &*matches,
+        },
+    };
+    mark_changed(cells, &rules.books, fixture)?;
+    let report = settle_season(cells, &rules, steps)?;
+    Ok(report.evaluated.as_slice().len())
+}
+
+// A line that is put in: whose it is, his goals, assists and key passes; how many nodes are then evaluated; and the
+// points of the gameweeks of the three players.
+#[derive(Clone, Copy)]
+struct Case {
+    player: u32,
+    figures: [u16; 3],
+    evaluated: usize,
+    points: [i32; 3],
+}
+
+fn row(player: u32, figures: [u16; 3], evaluated: usize, points: [i32; 3]) -> Case {
+    Case {
+        player,
+        figures,
+        evaluated,
+        points,
+    }
+}
+
+// The points of a player's gameweek.
+fn points_of<L: Ledger>(
+    cells: &SeasonCells,
+    number: u32,
+    steps: &mut Steps<L>,
+) -> Result<i32, Fail> {
+    match cells.get(Node::PlayerGw(id(number)?, gameweek()?), steps) {
+        Some(Value::PlayerGw(figures)) => Ok(figures.points),
+        _ => Ok(-1),
+    }
+}
+
+// The points of the three gameweeks.
+fn points<L: Ledger>(cells: &SeasonCells, steps: &mut Steps<L>) -> Result<[i32; 3], Fail> {
+    let first = points_of(cells, 1, steps)?;
+    let second = points_of(cells, 2, steps)?;
+    let third = points_of(cells, 3, steps)?;
+    Ok([first, second, third])
+}
+
+// Puts the line of a row in.
+fn put_row<L: Ledger>(
+    calendar: &Calendar,
+    players: &Players,
+    matches: &mut MatchFacts,
+    cells: &mut SeasonCells,
+    row: &Case,
+    steps: &mut Steps<L>,
+) -> Result<usize, Fail>
+    requires season { IsSeason (facts_with profile.A calendar.now players.now matches.old) }
+    requires sound { AreSound (facts_with profile.A calendar.now players.now matches.old) cells.old }
+    ensures season { OnOk result (IsSeason (facts_with profile.A calendar.now players.now matches.new)) }
+    ensures sound { OnOk result (AreSound (facts_with profile.A calendar.now players.now matches.new) cells.new) }
+{
+    let player = id(row.player)?;
+    let line = line(row.figures[0], row.figures[1], row.figures[2]);
+    if line_ok(&line).is_err() || players.get(player).is_none() {
+        return Ok(0);
+    }
+    Ok(put_line(calendar, players, matches, cells, player, &line, steps)?)
+}
+
+// Puts the lines of some rows in, one after another.
+fn put_rows<L: Ledger>(
+    rt: &impl Abort,
+    calendar: &Calendar,
+    players: &Players,
+    matches: &mut MatchFacts,
+    cells: &mut SeasonCells,
+    rows: &[Case],
+    steps: &mut Steps<L>,
+) -> Result<(), Fail>
+    requires season { IsSeason (facts_with profile.A calendar.now players.now matches.old) }
+    requires sound { AreSound (facts_with profile.A calendar.now players.now matches.old) cells.old }
+    ensures season { OnOk result (IsSeason (facts_with profile.A calendar.now players.now matches.new)) }
+    ensures sound { OnOk result (AreSound (facts_with profile.A calendar.now players.now matches.new) cells.new) }
+{
+    for row in rows {
+        let evaluated = put_row(calendar, players, matches, cells, row, steps)?;
+        assert_eq!(rt; evaluated, row.evaluated);
+        assert_eq!(rt; points(cells, steps)?, row.points);
+    }
+    Ok(())
+}
+
+// The cells of a season without lines.
+fn begin<L: Ledger>(
+    alloc: Global,
+    calendar: &Calendar,
+    players: &Players,
+    matches: &MatchFacts,
+    steps: &mut Steps<L>,
+) -> Result<SeasonCells, Fail>
+    requires { matches.now ≡ [] }
+    ensures season { OnOk result (IsSeason (facts_with profile.A calendar.now players.now matches.now)) }
+    ensures sound { IfOk result (λ cells. AreSound (facts_with profile.A calendar.now players.now matches.now) cells) }
+{
+    let _locked = calendar.locked();
+    season_begins();
+    let books = Books {
+        profile: Profile::A,
+        calendar,
+        players,
+        matches,
+    };
+    Ok(evaluate_all(alloc, &books, steps)?)
+}
+
+#[test]
+fn a_correction_evaluates_what_hangs_on_it(rt: HostRuntime) -> Result<(), Fail> {
+    corrects::<Brand>(&rt, rt.alloc(), Blank::new(1))
+}
+
+// The first three lines come before the match is finished. Then player 2 has the most of the bonus points system's
+// number, where player 1 had; a key pass more leaves the bonus; and an equal line changes nothing.
+fn corrects<L: Ledger>(rt: &impl Abort, alloc: Global, blank: Blank) -> Result<(), Fail>
+    requires name { blank.name ≡ L.name }
+    requires parts { blank.parts ≡ L.parts }
+    requires some { 0 < blank.parts }
+{
+    let mut steps = Steps::<L>::open(blank);
+    let calendar = calendar(alloc)?;
+    let players = players(alloc)?;
+    let mut matches = MatchFacts::new(alloc);
+    let mut cells = begin(alloc, &calendar, &players, &matches, &mut steps)?;
+    assert_eq!(rt; points(&cells, &mut steps)?, [0, 0, 0]);
+    let before = [
+        row(1, [1, 0, 0], 3, [8, 0, 0]),
+        row(2, [0, 1, 0], 3, [8, 6, 0]),
+        row(3, [0, 0, 0], 3, [8, 6, 3]),
+    ];
+    put_rows(
+        rt,
+        &calendar,
+        &players,
+        &mut matches,
+        &mut cells,
+        &before,
+        &mut steps,
+    )?;
+    let evaluated = finish(&calendar, &players, &mut matches, &mut cells, &mut steps)?;
+    assert_eq!(rt; evaluated, 4);
+    assert_eq!(rt; points(&cells, &mut steps)?, [11, 8, 4]);
+    let after = [
+        row(2, [2, 0, 0], 5, [10, 16, 4]),
+        row(3, [0, 0, 1], 3, [10, 16, 4]),
+        row(3, [0, 0, 1], 1, [10, 16, 4]),
+    ];
+    put_rows(
+        rt,
+        &calendar,
+        &players,
+        &mut matches,
+        &mut cells,
+        &after,
+        &mut steps,
+    )?;
+    Ok(())
+}
