@@ -1,0 +1,73 @@
+-- The commands with their options, as clap sees them.
+use Rattle.std.specs.Prelude.{◌≡◌, ℕ, List, [], ◌∷◌, codes, Option, Some, None, Result, MatchResult, true}
+use Rattle.clap.specs.Kinds.{Kinds}
+use Rattle.clap.specs.Words.{App, Row, Rule, Text, fault_of, new_app, new_rule, subcommand_of, subcommand_rows_of, with_rule, with_subcommand}
+use Rattle.clap.specs.Simple.{on_top}
+use Rattle.clap.specs.declared.parser.matches.ArgMatches.{ArgMatches}
+use Rattle.fpl_words.specs.declared.words.WordFault.{WordFault}
+use Rattle.fpl_words.specs.declared.words.WordFault.TheVariants as fault
+
+-- an option `--name value` or `--name=value` that has to be given
+abbrev pub wanted : List ℕ → Rule
+wanted name = record (new_rule name) { long = Some name; required = true }
+
+-- an option that may be left out
+abbrev pub offered : List ℕ → Rule
+offered name = record (new_rule name) { long = Some name }
+
+-- score [--profile N]
+abbrev pub score : App
+score = with_rule (new_app (codes "score")) (offered (codes "profile"))
+
+-- pipe --key K [--store PATH]
+abbrev pub pipe : App
+pipe = with_rule (with_rule (new_app (codes "pipe")) (wanted (codes "key"))) (offered (codes "store"))
+
+-- serve --key K --port N --connections N [--store PATH]
+abbrev pub serve : App
+serve =
+    let key = with_rule (new_app (codes "serve")) (wanted (codes "key")) in
+    let connections = with_rule (with_rule key (wanted (codes "port"))) (wanted (codes "connections")) in
+    with_rule connections (offered (codes "store"))
+
+-- load --key K --store PATH --dir PATH --split N [--profile N]
+abbrev pub load : App
+load =
+    let key = with_rule (new_app (codes "load")) (wanted (codes "key")) in
+    let dir = with_rule (with_rule key (wanted (codes "store"))) (wanted (codes "dir")) in
+    with_rule (with_rule dir (wanted (codes "split"))) (offered (codes "profile"))
+
+-- report --key K --store PATH --what W [--id N] [--gameweek N]
+abbrev pub report : App
+report =
+    let key = with_rule (new_app (codes "report")) (wanted (codes "key")) in
+    let what = with_rule (with_rule key (wanted (codes "store"))) (wanted (codes "what")) in
+    with_rule (with_rule what (offered (codes "id"))) (offered (codes "gameweek"))
+
+-- generate --seed N [--store PATH]
+abbrev pub generate : App
+generate = with_rule (with_rule (new_app (codes "generate")) (wanted (codes "seed"))) (offered (codes "store"))
+
+-- a command is wanted, and no word asks for help or a version
+abbrev pub bare : App
+bare = on_top (λ s. record s { no_binary_name = true; disable_help_flag = true; disable_help_subcommand = true; disable_version_flag = true; subcommand_required = true }) (new_app (codes "kowhirupe"))
+
+-- the host with its commands
+abbrev pub season_host : App
+season_host =
+    let front = with_subcommand (with_subcommand (with_subcommand bare score.top) pipe.top) serve.top in
+    with_subcommand (with_subcommand (with_subcommand front load.top) report.top) generate.top
+
+-- what is said where there is no fault
+abbrev pub unless_faulty : {T : Type 0} → Kinds → Option T → Option T
+unless_faulty [] said = said
+unless_faulty (k ∷ more) said = None
+
+-- the command that a line names, with what clap finds for it; none where clap finds a fault in the line
+abbrev pub entered_in : List Text → Option (Text × List Row)
+entered_in line = unless_faulty (fault_of season_host line) (subcommand_of season_host line)
+
+-- clap read the line, and entered this command; or it is not read, or memory ran out
+abbrev pub IsParsed : List Text → Result ArgMatches WordFault → Type 0
+IsParsed line result =
+    MatchResult result (λ m. entered_in line ≡ subcommand_rows_of m) (λ e. e ≡ fault.Unread → entered_in line ≡ None)

@@ -1,0 +1,59 @@
+-- What words order.
+use Rattle.std.specs.Prelude.{◌^◌, ◌-◌, Bool, ◌||◌, List, codes, if◌then◌else◌, Option, Some, None}
+use Rattle.std.specs.List.{list_any}
+use Rattle.std.specs.Str.{bytes_eq}
+use Rattle.clap.specs.Words.{Row, Text}
+use Rattle.fpl_words.specs.declared.words.Words.{Words}
+use Rattle.fpl_words.specs.declared.words.Words.TheVariants as words
+use Rattle.fpl_words.specs.Options.{entered_in}
+use Rattle.fpl_words.specs.Values.{◌>>=◌, key, number, path, profile, report_of, store}
+
+-- What each command says by the values of its options.
+
+abbrev pub score : List Row → Option Words
+score given = profile given >>= λ rules. Some (words.Score rules)
+
+abbrev pub pipe : List Row → Option Words
+pipe given = key given >>= λ k. store given >>= λ kept. Some (words.Pipe k kept)
+
+abbrev pub serve : List Row → Option Words
+serve given =
+    key given >>= λ k. number (codes "port") 1 65535 given >>= λ port. number (codes "connections") 1 65535 given >>= λ connections.
+    store given >>= λ kept. Some (words.Serve k port connections kept)
+
+abbrev pub load : List Row → Option Words
+load given =
+    key given >>= λ k. path (codes "store") given >>= λ kept. path (codes "dir") given >>= λ folder.
+    number (codes "split") 0 38 given >>= λ split. profile given >>= λ rules. Some (words.Load k kept folder split rules)
+
+abbrev pub report : List Row → Option Words
+report given = key given >>= λ k. path (codes "store") given >>= λ kept. report_of given >>= λ shown. Some (words.Report k kept shown)
+
+abbrev pub generate : List Row → Option Words
+generate given = number (codes "seed") 0 (2 ^ 64 - 1) given >>= λ seed. store given >>= λ kept. Some (words.Generate seed kept)
+
+-- what a command of this name says
+abbrev pub order_named : Text → List Row → Option Words
+order_named name given =
+    if bytes_eq name (codes "score") then score given
+    else (if bytes_eq name (codes "pipe") then pipe given
+    else (if bytes_eq name (codes "serve") then serve given
+    else (if bytes_eq name (codes "load") then load given
+    else (if bytes_eq name (codes "report") then report given
+    else (if bytes_eq name (codes "generate") then generate given else None)))))
+
+-- a word that is dashes alone
+abbrev pub is_dash : Text → Bool
+is_dash word = bytes_eq word (codes "-") || bytes_eq word (codes "--")
+
+-- what a command that was entered says
+abbrev pub order_of : Option (Text × List Row) → Option Words
+order_of entered = entered >>= λ command. order_named command.0 command.1
+
+-- what words order where clap reads them: the command that they name, by the values of its options
+abbrev pub read : List Text → Option Words
+read line = order_of (entered_in line)
+
+-- what words order: none of them is dashes alone, clap finds no fault in them, and the values say something
+abbrev pub ordered : List Text → Option Words
+ordered line = if list_any is_dash line then None else read line
