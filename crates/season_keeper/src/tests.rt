@@ -5,7 +5,12 @@ use std::alloc::Global;
 use std::test::Fail;
 
 fn key(kind: u8, c: u32) -> RecordKey {
-    RecordKey { kind, a: 1, b: 2, c }
+    RecordKey {
+        kind,
+        a: 1,
+        b: 2,
+        c,
+    }
 }
 
 fn put(alloc: Global, kind: u8, c: u32, byte: u8) -> Result<Op, Fail> {
@@ -27,8 +32,13 @@ fn kept<K: Keeper>(keeper: &mut K, alloc: Global) -> Result<Vec<(u8, u32, u8)>, 
 // What a new keeper shows of three batches, the second of which puts, deletes and names a key twice.
 fn shows_batches<K: Keeper>(keeper: &mut K, alloc: Global) -> Result<bool, Fail> {
     let first = vec![in alloc; put(alloc, 6, 1, 1)?, put(alloc, 5, 2, 2)?]?;
-    let second = vec![in alloc; Op::Delete(key(6, 1)), put(alloc, 5, 2, 3)?, put(alloc, 5, 9, 4)?,
-        put(alloc, 5, 9, 5)?, Op::Delete(key(7, 7))]?;
+    let second = vec![in alloc;
+        Op::Delete(key(6, 1)),
+        put(alloc, 5, 2, 3)?,
+        put(alloc, 5, 9, 4)?,
+        put(alloc, 5, 9, 5)?,
+        Op::Delete(key(7, 7)),
+    ]?;
     if keeper.commit(alloc, &first) != Err(KeeperFault::Failed) {
         return Ok(false);
     }

@@ -25,7 +25,7 @@ returns-in-Ok-true-clause-stops g c clean m held x left =
     let same : c.self.inside.conn ≡ c.args.self.now.conn = search rules in
     let read : c.self.inside.ready ≡ true = search rules in
     let P = λ (h : Held g.row.S.Denot). Keeps (state g.S.Store h).now m → MayPass (state g.S.Store h) c.args.self.now.ready x ⊎ (x ≡ applied m c.args.ops.now) in
-    subst P same (λ it. weaker _ c.args.self.now.ready x (stops_of (state g.S.Store c.self.inside.conn) new c.args.ops.now m c.apply.ensures.crash clean it x (read_passes new c.self.inside.ready x read left)) ) keeps
+    subst P same (λ it. weaker _ c.args.self.now.ready x (stops_of (state g.S.Store c.self.inside.conn) new c.args.ops.now m c.apply.ensures.crash clean it x (read_passes new c.self.inside.ready x read left))) keeps
 
 pub returns-in-Err-clause-stops : goal.returns-in-Err-clause-stops
 returns-in-Err-clause-stops g c clean m held x left =
