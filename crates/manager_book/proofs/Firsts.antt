@@ -14,7 +14,8 @@ use Rattle.rule_book.specs.Players.{ArePlayers, IsPrice, player_of}
 use Rattle.season_ledger.specs.Rows.{IsFitTeam}
 use Rattle.season_ledger.specs.Batches.{IsFirstTeam}
 use Rattle.season_ledger.specs.Stands.{IsPlaced}
-use Rattle.manager_book.specs.Calls.{pick_from, picks_from, IsFirstOf}
+use Rattle.rule_book.specs.EntryCalls.{pick_from, picks_from}
+use Rattle.manager_book.specs.Calls.{IsFirstOf}
 use Rattle.manager_book.proofs.Entries.{all_each}
 use Rattle.manager_book.proofs.Lined.{find_has, apart_times, apart_players, each_placed}
 

@@ -26,7 +26,8 @@ use Rattle.season_ledger.specs.Rows.{IsFitTeam, FitsIn, team_in}
 use Rattle.season_ledger.specs.Batches.{rearranged, AfterLineup, LineupOn}
 use Rattle.season_ledger.specs.Stands.{IsPlaced}
 use Rattle.season_ledger.proofs.Pigeons.{pigeons}
-use Rattle.manager_book.specs.Calls.{first_not_held, lined_picks, IsLined}
+use Rattle.rule_book.specs.EntryCalls.{first_stranger, lined_picks}
+use Rattle.manager_book.specs.Calls.{IsLined}
 
 -- one more of the order
 abbrev found_of : (ℕ → Option Pick) → List ℕ → List Pick
@@ -68,25 +69,25 @@ lost_held (x ∷ picks) p e = step (nat_eq x.player p) (λ f. lost_held picks p 
     step false ih e = ih e
 
 -- the first who is not held, from a place on
-pub not_held_here : (picks : List Pick) (order : List ℕ) (i : ℕ) → i < length order → pick_of picks (get_or order i 0) ≡ None → first_not_held picks (drop i order) ≡ Some (get_or order i 0)
-not_held_here picks order i lt e = let h : is_held picks (get_or order i 0) ≡ false = lost_held picks (get_or order i 0) e in ap (first_not_held picks) (drop_more order i 0 lt) ∙ (rw h refl)
+pub not_held_here : (picks : List Pick) (order : List ℕ) (i : ℕ) → i < length order → pick_of picks (get_or order i 0) ≡ None → first_stranger picks (drop i order) ≡ Some (get_or order i 0)
+not_held_here picks order i lt e = let h : is_held picks (get_or order i 0) ≡ false = lost_held picks (get_or order i 0) e in ap (first_stranger picks) (drop_more order i 0 lt) ∙ (rw h refl)
 
-pub not_held_more : (picks : List Pick) (order : List ℕ) (i : ℕ) (k : Pick) → i < length order → pick_of picks (get_or order i 0) ≡ Some k → first_not_held picks (drop (i + 1) order) ≡ first_not_held picks (drop i order)
-not_held_more picks order i k lt e = let h : is_held picks (get_or order i 0) ≡ true = found_held picks (get_or order i 0) k e in sym (ap (first_not_held picks) (drop_more order i 0 lt) ∙ (rw h refl))
+pub not_held_more : (picks : List Pick) (order : List ℕ) (i : ℕ) (k : Pick) → i < length order → pick_of picks (get_or order i 0) ≡ Some k → first_stranger picks (drop (i + 1) order) ≡ first_stranger picks (drop i order)
+not_held_more picks order i k lt e = let h : is_held picks (get_or order i 0) ≡ true = found_held picks (get_or order i 0) k e in sym (ap (first_stranger picks) (drop_more order i 0 lt) ∙ (rw h refl))
 
-pub not_held_end : (picks : List Pick) (order : List ℕ) (i : ℕ) → length order ≤ i → first_not_held picks (drop i order) ≡ None
-not_held_end picks order i le = ap (first_not_held picks) (drop_all i order le)
+pub not_held_end : (picks : List Pick) (order : List ℕ) (i : ℕ) → length order ≤ i → first_stranger picks (drop i order) ≡ None
+not_held_end picks order i le = ap (first_stranger picks) (drop_all i order le)
 
 -- all are held where none is not
-all_held : (picks : List Pick) (order : List ℕ) → first_not_held picks order ≡ None → Each (λ p. is_held picks p ≡ true) order
+all_held : (picks : List Pick) (order : List ℕ) → first_stranger picks order ≡ None → Each (λ p. is_held picks p ≡ true) order
 all_held picks [] e = tt
 all_held picks (p ∷ order) e = (here (is_held picks p) e, all_held picks order (rest (is_held picks p) e))
   where
-    here : (b : Bool) → cond (not b) (Some p) (first_not_held picks order) ≡ None → b ≡ true
+    here : (b : Bool) → cond (not b) (Some p) (first_stranger picks order) ≡ None → b ≡ true
     here true e = refl
     here false e = cc
 
-    rest : (b : Bool) → cond (not b) (Some p) (first_not_held picks order) ≡ None → first_not_held picks order ≡ None
+    rest : (b : Bool) → cond (not b) (Some p) (first_stranger picks order) ≡ None → first_stranger picks order ≡ None
     rest true e = e
     rest false e = cc
 

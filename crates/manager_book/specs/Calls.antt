@@ -1,138 +1,22 @@
--- What refuses a manager's calls, by what his entry has.
-use Rattle.std.specs.Prelude.{◌≡◌, ◌≢◌, AllPairs, ◌+◌, ◌-◌, ℕ, Bool, true, false, not, ◌&&◌, ◌||◌, ◌==◌, List, [], ◌∷◌, length, map, find, Option, Some, None, nat_le, nat_lt, is_some, if◌then◌else◌}
-use Rattle.std.specs.List.{flat_map}
-use Rattle.std.specs.Option.{option_map, option_map_or, option_to_list}
+-- What refuses a manager's calls, by the rows that his entry has.
+use Rattle.std.specs.Prelude.{◌≡◌, ◌≢◌, AllPairs, ◌+◌, ℕ, Bool, false, ◌==◌, List, length, Option, Some, None, is_some}
+use Rattle.std.specs.Option.{option_map_or}
 use Rattle.fpl_base.specs.declared.kinds.Chip.{Chip}
 use Rattle.fpl_base.specs.declared.kinds.Chip.TheVariants.{None as NoChip}
 use Rattle.fpl_base.specs.declared.rule.Rule.{Rule}
-use Rattle.fpl_base.specs.declared.rule.Rule.TheVariants as rule
 use Rattle.rule_book.specs.declared.player.Player.{Player}
-use Rattle.rule_book.specs.declared.team.Pick.{Pick}
 use Rattle.rule_book.specs.declared.team.Team.{Team}
 use Rattle.rule_book.specs.declared.transfers.Swap.{Swap}
 use Rattle.rule_book.specs.declared.transfers.Sale.{Sale}
-use Rattle.rule_book.specs.Batch.{sales_of, IsTeamAfter, is_gone, club_of, is_held, pick_of, batch_refusal}
-use Rattle.rule_book.specs.HistoryRules.{can_cancel}
-use Rattle.rule_book.specs.HistorySquad.{sum_bought}
-use Rattle.rule_book.specs.HistoryTeam.{holdings}
-use Rattle.rule_book.specs.HistoryTransfers.{makes_free, is_same_chip, used_before}
-use Rattle.rule_book.specs.Lineups.{lineup_refusal}
-use Rattle.rule_book.specs.Players.{player_of}
-use Rattle.rule_book.specs.Refusals.{first_broken, unless}
+use Rattle.rule_book.specs.Batch.{sales_of, IsTeamAfter}
+use Rattle.rule_book.specs.EntryCalls.{cancel_refusal, cost_of, first_stranger, lined_picks, lineup_call_refusal, picks_from, play_refusal, register_refusal, transfer_limit, transfer_refusal}
+use Rattle.rule_book.specs.HistoryTransfers.{used_before}
 use Rattle.rule_book.specs.Repeats.{first_repeat}
-use Rattle.rule_book.specs.Squads.{players_of, positions_of, squad_refusal}
-use Rattle.season_ledger.specs.declared.row.Standing.{Standing}
+use Rattle.rule_book.specs.Squads.{players_of}
 use Rattle.season_ledger.specs.declared.row.Row.{Row}
 use Rattle.season_ledger.specs.Rows.{standing_at, team_in, chip_by, used_by, first_in, put_row}
 
--- where every gameweek is locked a call is refused; else it is judged in the next one
-abbrev pub in_next : Option ℕ → (ℕ → Option Rule) → Option Rule
-in_next None judged = Some rule.SeasonOver
-in_next (Some g) judged = judged g
-
--- by the team that stands, if one does
-abbrev pub of_team : (Team → Option Rule) → Option Team → Option Rule
-of_team judged None = None
-of_team judged (Some t) = judged t
-
--- the slot in which a player stands, from 1 on; 0 where he is not among them
-abbrev pub slot_from : ℕ → List ℕ → ℕ → ℕ
-slot_from n [] p = 0
-slot_from n (q ∷ players) p = if q == p then n else slot_from (n + 1) players p
-
-abbrev pub slot_of : List ℕ → ℕ → ℕ
-slot_of players p = slot_from 1 players p
-
--- a player bought at his present price
-abbrev pub pick_from : Player → Pick
-pick_from p = record { player = p.id; position = p.position; bought = p.price }
-
--- the picks of a first squad, and their clubs
-abbrev pub picks_from : List Player → List ℕ → List Pick
-picks_from players squad = flat_map (λ id. option_to_list (option_map pick_from (player_of players id))) squad
-
-abbrev pub clubs_of : List Player → List ℕ → List ℕ
-clubs_of players squad = map (club_of players) squad
-
--- what picks cost
-abbrev pub cost_of : List Pick → ℕ
-cost_of picks = sum_bought (holdings picks)
-
--- the cost is over 100.0 million
-abbrev pub over_budget : ℕ → Option Rule
-over_budget cost = if nat_lt 1000 cost then Some (rule.OverBudget (cost - 1000)) else None
-
--- why fifteen players are refused as a first squad
-abbrev pub first_refusal : List Player → List ℕ → ℕ → ℕ → Option Rule
-first_refusal players squad captain vice =
-    let picks = picks_from players squad in
-    first_broken (
-    option_map rule.PlayerGone (find (is_gone players) squad)
-    ∷ squad_refusal picks (clubs_of players squad)
-    ∷ over_budget (cost_of picks)
-    ∷ lineup_refusal (positions_of picks) captain vice
-    ∷ [])
-
--- why a manager's first squad is refused
-abbrev pub register_refusal : Bool → List Player → List ℕ → ℕ → ℕ → Option Rule
-register_refusal registered players squad captain vice =
-    first_broken (unless (not registered) rule.Registered ∷ first_refusal players squad captain vice ∷ [])
-
--- so many transfers are made in a gameweek at most
-abbrev pub transfer_limit : Bool → Chip → ℕ
-transfer_limit first chip = if first || makes_free chip then 1000 else 20
-
--- why a batch is refused, by the transfers that the gameweek had, its limit and the team that stands
-abbrev pub transfer_refusal : Bool → ℕ → ℕ → Option Team → List Player → List Swap → Option Rule
-transfer_refusal registered made limit team players swaps =
-    first_broken (
-    unless registered rule.NotRegistered
-    ∷ unless (nat_le (made + length swaps) limit) rule.TransferLimit
-    ∷ of_team (λ t. batch_refusal players t swaps) team
-    ∷ [])
-
--- the first of the players whom the team does not have
-abbrev pub first_not_held : List Pick → List ℕ → Option ℕ
-first_not_held picks order = find (λ p. not (is_held picks p)) order
-
--- the picks of the players, in their order
-abbrev pub lined_picks : List Pick → List ℕ → List Pick
-lined_picks picks order = flat_map (λ p. option_to_list (pick_of picks p)) order
-
--- why an order of the fifteen is refused, by the team that stands
-abbrev pub order_refusal : Team → List ℕ → ℕ → ℕ → Option Rule
-order_refusal team order captain vice =
-    first_broken (
-    option_map rule.NotHeld (first_not_held team.picks order)
-    ∷ option_map rule.Twice (first_repeat order)
-    ∷ lineup_refusal (positions_of (lined_picks team.picks order)) captain vice
-    ∷ [])
-
-abbrev pub lineup_call_refusal : Bool → Option Team → List ℕ → ℕ → ℕ → Option Rule
-lineup_call_refusal registered team order captain vice =
-    first_broken (unless registered rule.NotRegistered ∷ of_team (λ t. order_refusal t order captain vice) team ∷ [])
-
--- Why a chip is refused: a wildcard or a free hit in the first gameweek, any where one stands, and one that was played
--- in the gameweek `used`.
-abbrev pub play_refusal : Bool → Bool → Chip → Option ℕ → Chip → Option Rule
-play_refusal registered first standing used chip =
-    first_broken (
-    unless registered rule.NotRegistered
-    ∷ unless (not (first && makes_free chip)) rule.ChipEarly
-    ∷ unless (is_same_chip standing NoChip) rule.ChipPlayed
-    ∷ option_map rule.ChipUsed used
-    ∷ [])
-
--- why a chip is not taken back: none stands, or one that stays
-abbrev pub cancel_refusal : Bool → Chip → Option Rule
-cancel_refusal registered standing =
-    first_broken (
-    unless registered rule.NotRegistered
-    ∷ unless (not (is_same_chip standing NoChip)) rule.NoChip
-    ∷ unless (can_cancel standing) rule.ChipFixed
-    ∷ [])
-
--- the same by an entry's rows
+-- an entry is registered once it has a row
 abbrev pub is_registered : List Row → Bool
 is_registered rows = is_some (first_in rows)
 
@@ -162,7 +46,7 @@ cancel_broken rows g = cancel_refusal (is_registered rows) (chip_by rows g)
 
 -- a team in another order: its own picks, each once
 pub record IsLined (order : List ℕ) (c v : ℕ) (t u : Team) : Type 0 where
-  pub held : first_not_held t.picks order ≡ None
+  pub held : first_stranger t.picks order ≡ None
   pub once : first_repeat order ≡ None
   pub picks : u.picks ≡ lined_picks t.picks order
   pub captain : u.captain ≡ c

@@ -5,6 +5,7 @@ use Rattle.std.specs.Str.{bytes_eq}
 use Rattle.fpl_base.specs.declared.kinds.Profile.{Profile}
 use Rattle.fpl_base.specs.declared.rule.Rule.{Rule}
 use Rattle.fpl_base.specs.declared.rule.Rule.TheVariants as rule
+use Rattle.rule_book.specs.Entries.{most_entries}
 use Rattle.rule_book.specs.Refusals.{first_broken, unless}
 use Rattle.season_ledger.specs.declared.row.Row.{Row}
 use Rattle.manager_book.specs.declared.manager.Manager.{Manager}
@@ -13,10 +14,6 @@ use Rattle.manager_book.specs.declared.manager.Manager.{Manager}
 pub record Managers : Type 0 where
   pub profile : Profile
   pub managers : List Manager
-
--- so many entries are in a season at most
-abbrev pub most_entries : ℕ
-most_entries = 2048
 
 -- what there is of an entry that was not issued
 abbrev pub nobody : Manager

@@ -13,7 +13,8 @@ ghost use Rattle.rule_book.specs.HistoryTransfers.{FreeTold, cost_at, counted_th
 ghost use Rattle.rule_book.specs.Refusals.{IsJudged, IsJudgedOrOut};
 ghost use Rattle.season_ledger.specs.Rows.{AllUpTo, put_chip, used_by, first_in, free_in, cost_by, counted_by, rows_of_records};
 ghost use Rattle.season_ledger.specs.Stands.{StandsFor};
-ghost use Rattle.manager_book.specs.Calls.{in_next, slot_of, team_at, picks_from, register_broken, transfer_broken, Moves, LinesUp, Registers, lineup_broken, play_broken, cancel_broken};
+ghost use Rattle.rule_book.specs.EntryCalls.{in_next, slot_of, picks_from};
+ghost use Rattle.manager_book.specs.Calls.{team_at, register_broken, transfer_broken, Moves, LinesUp, Registers, lineup_broken, play_broken, cancel_broken};
 ghost use Rattle.manager_book.specs.Managers.{Managers, IsSameBut, season_of, key_of, name_of, entry_with, issue_refusal};
 
 use crate::batch::transfer;

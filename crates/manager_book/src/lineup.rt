@@ -7,7 +7,8 @@ ghost use Rattle.rule_book.specs.History.Deed.{Lineup};
 ghost use Rattle.rule_book.specs.Refusals.{IsJudged, IsJudgedOrOut};
 ghost use Rattle.season_ledger.specs.Rows.{AllUpTo};
 ghost use Rattle.season_ledger.specs.Stands.{StandsFor};
-ghost use Rattle.manager_book.specs.Calls.{slot_of, first_not_held, lined_picks, order_refusal, lineup_broken, IsLined, LinesUp};
+ghost use Rattle.rule_book.specs.EntryCalls.{slot_of, first_stranger, lined_picks, order_refusal};
+ghost use Rattle.manager_book.specs.Calls.{lineup_broken, IsLined, LinesUp};
 
 use fpl_base::{Gw, PlayerId, Refused, Rule};
 use rule_book::{Pick, Team};
@@ -40,7 +41,7 @@ pub fn slot_of(players: &[PlayerId; 15], player: PlayerId) -> u8
 
 // The picks of the players in their order, or the first of them whom the team does not have.
 fn lined(picks: &[Pick; 15], order: &[PlayerId; 15]) -> Result<[Pick; 15], PlayerId>
-    ensures { MatchResult result (λ ks. (first_not_held picks.now order.now ≡ None) × (ks ≡ lined_picks picks.now order.now)) (λ p. first_not_held picks.now order.now ≡ Some p) }
+    ensures { MatchResult result (λ ks. (first_stranger picks.now order.now ≡ None) × (ks ≡ lined_picks picks.now order.now)) (λ p. first_stranger picks.now order.now ≡ Some p) }
 {
     let mut lined = [picks[0]; 15];
     for i in 0..15usize {

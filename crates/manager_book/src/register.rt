@@ -9,7 +9,8 @@ ghost use Rattle.rule_book.specs.HistoryTeam.{holdings};
 ghost use Rattle.rule_book.specs.Players.{player_of};
 ghost use Rattle.rule_book.specs.Refusals.{IsJudged, IsJudgedOrOut};
 ghost use Rattle.season_ledger.specs.Stands.{StandsFor};
-ghost use Rattle.manager_book.specs.Calls.{pick_from, picks_from, clubs_of, cost_of, slot_of, first_refusal, register_broken, IsFirstOf, Registers};
+ghost use Rattle.rule_book.specs.EntryCalls.{pick_from, picks_from, clubs_of, cost_of, slot_of, first_refusal};
+ghost use Rattle.manager_book.specs.Calls.{register_broken, IsFirstOf, Registers};
 
 use crate::lineup::slot_of;
 use fpl_base::{Chip, ClubId, Gw, PlayerId, Refused, Rule, Tenths};

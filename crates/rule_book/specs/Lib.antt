@@ -11,6 +11,7 @@ pub mod CupRounds
 pub mod Cups
 pub mod Elevens
 pub mod Entries
+pub mod EntryCalls
 pub mod EntryRecords
 pub mod EntryScores
 pub mod FigureRange

@@ -1,6 +1,7 @@
 -- Each step of a run acts or rests, and what acts rises a caller's number by one.
 use Rattle.std.proofs.Common.{◌≡◌, ◌+◌, ℕ, Bool, true, false, ◌&&◌, ◌==◌, if◌then◌else◌, nat_lt, List, [], ◌∷◌, Option, Some, None, arith, refl, sym, ap, subst, ◌∙◌, inl, inr}
 use Rattle.std.specs.Prelude.{◌⊎◌, Result, Ok, Err, IfErr, is_some}
+use Rattle.std.specs.Option.{option_map, option_map_or}
 use Rattle.std.proofs.lemmas.Bool.{cases_eq, false≢true}
 use Rattle.std.proofs.lemmas.Bool.Decides.{nat_tests}
 use Rattle.std.proofs.lemmas.Option.{none-some}
@@ -9,22 +10,30 @@ use Rattle.fpl_base.specs.declared.kinds.Caller.{Caller}
 use Rattle.fpl_base.specs.declared.rule.Rule.{Rule}
 use Rattle.fpl_base.specs.declared.rule.Rule.TheVariants as rule
 use Rattle.rule_book.specs.Calendar.{deadlines_order}
+use Rattle.rule_book.specs.Entries.{entry_in}
+use Rattle.rule_book.specs.HistoryRules.{is_started}
 use Rattle.rule_book.specs.ById.{at_id, placed_at}
 use Rattle.rule_book.proofs.AtId.{placed_other, placed_same}
-use Rattle.season_book.specs.Book.{Book, Facts, Last, caller_number, last_number}
+use Rattle.season_book.specs.Book.{Book, EntryFacts, Facts, Last, caller_number, last_number}
 use Rattle.season_book.specs.declared.command.Command.{Command}
-use Rattle.season_book.specs.Commands.{are_there, begun_by, changed_by, refusal_of}
+use Rattle.season_book.specs.Commands.{Part, are_there, begun_by, changed_by, part_of, refusal_of}
+use Rattle.season_book.specs.Commands.Part.{OnDeeds, OnFacts, OnKeys}
+use Rattle.season_book.specs.EntryCommands.{deed_refusal, history_after, names_players}
+use Rattle.season_book.specs.EntryViews.{entry_shown, me_shown}
 use Rattle.season_book.specs.Hosts.{number_in}
 use Rattle.season_book.specs.Once.{Acted, Acts, CommandsActOnce, Rests, RiseByOne, WasDone, acted_numbers, number_asked}
 use Rattle.season_book.specs.Runs.{Asked}
-use Rattle.season_book.specs.Verdict.{Failures, IsVerdictIn, MayAnswer, MayBeLeft, Outcome, Verdict, accepted, begun, fact_shown, judged, number_refusal, pass, ruled, ruled_by, settled, shown_or_unknown, unless_misnumbered, unless_refused, view_answer}
+use Rattle.season_book.specs.Verdict.{Failures, IsVerdictIn, MayAnswer, MayBeLeft, Outcome, Verdict, accepted, begun, in_season, judged, key_refusal, my_answer, number_refusal, pass, ruled, ruled_by, ruled_in, ruled_of, seen_in, settled, shown_or_unknown, unless_broken, unless_misnumbered, unless_refused, view_answer, with_entry, with_history}
 use Rattle.season_book.specs.Views.{shown_of}
 use Rattle.season_book.specs.declared.answer.Answer.{Answer}
 use Rattle.season_book.specs.declared.answer.Answer.TheVariants as answer
 use Rattle.season_book.specs.declared.request.Request.{Request}
 use Rattle.season_book.specs.declared.request.Request.TheVariants as request
+use Rattle.season_book.specs.declared.made.Made.TheVariants as made
 use Rattle.season_book.specs.declared.request.View.{View}
+use Rattle.season_book.specs.declared.request.View.TheVariants as view
 use Rattle.season_book.specs.declared.shown.Shown.{Shown}
+use Rattle.season_book.specs.declared.shown.Shown.TheVariants as shown
 
 -- an answer that says of no command that it was done
 abbrev IsUndone : Answer → Type 0
@@ -44,9 +53,26 @@ undone_shown : (shown : Option Shown) → IsUndone (shown_or_unknown shown)
 undone_shown None = tt
 undone_shown (Some shown) = tt
 
-undone_view : (facts : Option Facts) (view : View) → IsUndone (fact_shown facts view)
-undone_view None view = tt
-undone_view (Some facts) view = undone_shown (shown_of facts view)
+chosen_answer : (b : Bool) (P : Answer → Type 0) (x y : Answer) → P x → P y → P (if b then x else y)
+chosen_answer true P x y px py = px
+chosen_answer false P x y px py = py
+
+undone_mine : (book : Book) (facts : Facts) (caller : Caller) (entry : Option EntryFacts) → IsUndone (my_answer book facts caller entry)
+undone_mine book facts caller None = tt
+undone_mine book facts caller (Some entry) =
+    chosen_answer (is_started entry.history) IsUndone (answer.Shown (shown.Me (me_shown facts entry.history (caller_number caller) (last_number book caller)))) (answer.Rule rule.NotRegistered) tt tt
+
+undone_seen : (book : Book) (caller : Caller) (view : View) (facts : Facts) → IsUndone (seen_in book caller view facts)
+undone_seen book caller view.Season facts = undone_shown (shown_of facts view.Season)
+undone_seen book caller (view.Player p) facts = undone_shown (shown_of facts (view.Player p))
+undone_seen book caller (view.PlayerGameweek p g) facts = undone_shown (shown_of facts (view.PlayerGameweek p g))
+undone_seen book caller (view.Fixture f) facts = undone_shown (shown_of facts (view.Fixture f))
+undone_seen book caller view.Me facts = undone_mine book facts caller (entry_in book.entries (caller_number caller))
+undone_seen book caller (view.EntryGameweek e g) facts = undone_shown (option_map shown.EntryGameweek (entry_shown facts book.entries e g))
+
+undone_in : (book : Book) (caller : Caller) (view : View) (facts : Option Facts) → IsUndone (option_map_or (seen_in book caller view) facts (answer.Rule rule.NoSeason))
+undone_in book caller view None = tt
+undone_in book caller view (Some facts) = undone_seen book caller view facts
 
 chosen : (b : Bool) (P : Result Facts Answer → Type 0) (x y : Result Facts Answer) → P x → P y → P (if b then x else y)
 chosen true P x y px py = px
@@ -70,9 +96,39 @@ undone_judged (Some facts) now command =
     chosen (is_some (begun_by command)) Undone (Err (answer.Rule rule.SeasonThere)) (if are_there facts command then behind else Err answer.Unknown) tt
     (chosen (are_there facts command) Undone behind (Err answer.Unknown) (undone_unless (refusal_of facts now command) (changed_by facts command)) tt)
 
+undone_unbroken : (broken : Option Rule) (outcome : Outcome) → IfErr (unless_broken broken outcome) IsUndone
+undone_unbroken None outcome = tt
+undone_unbroken (Some broken) outcome = tt
+
+undone_keyed : (operator key name : List ℕ) (book : Book) (facts : Option Facts)
+    → IfErr (in_season facts (λ f. unless_broken (key_refusal operator book.entries key) (with_entry book key name))) IsUndone
+undone_keyed operator key name book None = tt
+undone_keyed operator key name book (Some facts) = undone_unbroken (key_refusal operator book.entries key) (with_entry book key name)
+
+chosen_outcome : (b : Bool) (P : Result Outcome Answer → Type 0) (x y : Result Outcome Answer) → P x → P y → P (if b then x else y)
+chosen_outcome true P x y px py = px
+chosen_outcome false P x y px py = py
+
+undone_of : (book : Book) (facts : Facts) (e : ℕ) (command : Command) (entry : Option EntryFacts) → IfErr (ruled_of book facts e command entry) IsUndone
+undone_of book facts e command None = tt
+undone_of book facts e command (Some entry) =
+    let outcome : Outcome = record { made = made.Nothing; book = with_history book e (history_after facts entry.history command) } in
+    let behind : Result Outcome Answer = unless_broken (deed_refusal facts entry.history command) outcome in
+    chosen_outcome (names_players facts command) (λ r. IfErr r IsUndone) behind (Err answer.Unknown) (undone_unbroken (deed_refusal facts entry.history command) outcome) tt
+
+undone_for : (book : Book) (caller : Caller) (command : Command) (facts : Option Facts)
+    → IfErr (in_season facts (λ f. ruled_of book f (caller_number caller) command (entry_in book.entries (caller_number caller)))) IsUndone
+undone_for book caller command None = tt
+undone_for book caller command (Some facts) = undone_of book facts (caller_number caller) command (entry_in book.entries (caller_number caller))
+
 undone_by : (book : Book) (facts : Result Facts Answer) → Undone facts → IfErr (ruled_by book facts) IsUndone
 undone_by book (Ok facts) un = tt
 undone_by book (Err refused) un = un
+
+undone_ruled : (part : Part) (operator : List ℕ) (book : Book) (caller : Caller) (now : ℕ) (command : Command) → IfErr (ruled_in part operator book caller now command) IsUndone
+undone_ruled OnFacts operator book caller now command = undone_by book (judged book.facts now command) (undone_judged book.facts now command)
+undone_ruled (OnKeys key name) operator book caller now command = undone_keyed operator key name book book.facts
+undone_ruled OnDeeds operator book caller now command = undone_for book caller command book.facts
 
 -- a number that no rule refuses is the next one
 used_or_gap : (last : ℕ) (c : Bool) → (if c then Some (rule.NumberUsed last) else Some (rule.NumberGap last)) ≡ None → ⊥
@@ -117,7 +173,7 @@ module _ (operator : List ℕ) (book : Book) (caller : Caller) (now number : ℕ
   settled_told : (due : Result Outcome Answer) → ruled operator (pass book now) caller now command ≡ due → number ≡ last_number book caller + 1
       → verdict_of told after ≡ settled (pass book now) caller number command due → Told operator book order told after
   settled_told (Err refused) is next same =
-      let un : IsUndone refused = subst (λ r. IfErr r IsUndone) is (undone_by (pass book now) (judged (pass book now).facts now command) (undone_judged (pass book now).facts now command)) in
+      let un : IsUndone refused = subst (λ r. IfErr r IsUndone) is (undone_ruled (part_of command) operator (pass book now) caller now command) in
       rested operator book order told refused after same (undone book order refused un)
   settled_told (Ok outcome) is next same = inl (record {
     command = command;
@@ -141,7 +197,7 @@ module _ (operator : List ℕ) (book : Book) (caller : Caller) (now number : ℕ
 verdict_told : (operator : List ℕ) (book : Book) (asked : Asked) (told : Answer) (after : Book) (due : Request) → asked.request ≡ due
     → IsVerdictIn operator (pass book asked.now) asked.caller asked.now due (verdict_of told after) → Told operator book asked told after
 verdict_told operator book asked told after (request.View view) is same =
-    rested operator book asked told (view_answer (pass book asked.now) asked.caller view) after same (undone book asked (view_answer (pass book asked.now) asked.caller view) (undone_view (pass book asked.now).facts view))
+    rested operator book asked told (view_answer (pass book asked.now) asked.caller view) after same (undone book asked (view_answer (pass book asked.now) asked.caller view) (undone_in (pass book asked.now) asked.caller view (pass book asked.now).facts))
 verdict_told operator book asked told after (request.Command number command) is verdict =
     subst (λ r. Told operator book (record asked { request = r }) told after) (sym is) (command_told operator book asked.caller asked.now number asked.failures command told after verdict)
 
@@ -210,9 +266,35 @@ lasts_by : (book : Book) (facts : Result Facts Answer) → lasts_in (ruled_by bo
 lasts_by book (Ok facts) = refl
 lasts_by book (Err refused) = refl
 
+lasts_unbroken : (broken : Option Rule) (outcome : Outcome) (lasts : List (ℕ × Last)) → outcome.book.lasts ≡ lasts → lasts_in (unless_broken broken outcome) lasts ≡ lasts
+lasts_unbroken None outcome lasts same = same
+lasts_unbroken (Some broken) outcome lasts same = refl
+
+lasts_keyed : (operator key name : List ℕ) (book : Book) (facts : Option Facts)
+    → lasts_in (in_season facts (λ f. unless_broken (key_refusal operator book.entries key) (with_entry book key name))) book.lasts ≡ book.lasts
+lasts_keyed operator key name book None = refl
+lasts_keyed operator key name book (Some facts) = lasts_unbroken (key_refusal operator book.entries key) (with_entry book key name) book.lasts refl
+
+lasts_of : (book : Book) (facts : Facts) (e : ℕ) (command : Command) (entry : Option EntryFacts) → lasts_in (ruled_of book facts e command entry) book.lasts ≡ book.lasts
+lasts_of book facts e command None = refl
+lasts_of book facts e command (Some entry) =
+    let outcome : Outcome = record { made = made.Nothing; book = with_history book e (history_after facts entry.history command) } in
+    let behind : Result Outcome Answer = unless_broken (deed_refusal facts entry.history command) outcome in
+    chosen_outcome (names_players facts command) (λ r. lasts_in r book.lasts ≡ book.lasts) behind (Err answer.Unknown) (lasts_unbroken (deed_refusal facts entry.history command) outcome book.lasts refl) refl
+
+lasts_for : (book : Book) (caller : Caller) (command : Command) (facts : Option Facts)
+    → lasts_in (in_season facts (λ f. ruled_of book f (caller_number caller) command (entry_in book.entries (caller_number caller)))) book.lasts ≡ book.lasts
+lasts_for book caller command None = refl
+lasts_for book caller command (Some facts) = lasts_of book facts (caller_number caller) command (entry_in book.entries (caller_number caller))
+
+lasts_ruled : (part : Part) (operator : List ℕ) (book : Book) (caller : Caller) (now : ℕ) (command : Command) → lasts_in (ruled_in part operator book caller now command) book.lasts ≡ book.lasts
+lasts_ruled OnFacts operator book caller now command = lasts_by book (judged book.facts now command)
+lasts_ruled (OnKeys key name) operator book caller now command = lasts_keyed operator key name book book.facts
+lasts_ruled OnDeeds operator book caller now command = lasts_for book caller command book.facts
+
 ruled_lasts : (operator : List ℕ) (book : Book) (caller : Caller) (now : ℕ) (command : Command) (outcome : Outcome) → ruled operator book caller now command ≡ Ok outcome → outcome.book.lasts ≡ book.lasts
 ruled_lasts operator book caller now command outcome is =
-    ap (λ r. lasts_in r book.lasts) (sym is) ∙ lasts_by book (judged book.facts now command)
+    ap (λ r. lasts_in r book.lasts) (sym is) ∙ lasts_ruled (part_of command) operator book caller now command
 
 -- a command that acted, in front of those that act behind it
 module _ (operator : List ℕ) (book between : Book) (asked : Asked) (reply : Answer) (acts : Acts operator book asked reply between) (q : ℕ) (numbers : List ℕ) (rise : RiseByOne (last_at between.lasts q) numbers) where

@@ -1,5 +1,5 @@
 -- The book of a season: all that is so, and what each caller did last. Whatever is shown is computed anew from it.
-use Rattle.std.specs.Prelude.{ℕ, List, [], ◌∷◌, Option, None}
+use Rattle.std.specs.Prelude.{ℕ, zero, suc, List, [], ◌∷◌, Option, None}
 use Rattle.std.specs.Option.{option_map_or}
 use Rattle.fpl_base.specs.declared.kinds.Caller.{Caller}
 use Rattle.fpl_base.specs.declared.kinds.Caller.TheVariants.{Operator, Entry}
@@ -47,6 +47,13 @@ pub record Book : Type 0 where
 -- the book before a season
 abbrev pub empty_book : Book
 empty_book = record { facts = None; entries = []; leagues = []; cups = []; lasts = [] }
+
+-- the entries where the manager of this one did this
+abbrev pub histories_with : List EntryFacts → ℕ → List Event → List EntryFacts
+histories_with [] e h = []
+histories_with (entry ∷ entries) zero h = entry ∷ entries
+histories_with (entry ∷ entries) (suc zero) h = record entry { history = h } ∷ entries
+histories_with (entry ∷ entries) (suc (suc e)) h = entry ∷ histories_with entries (suc e) h
 
 -- the number of a caller: 0 of the operator, else that of the entry
 abbrev pub caller_number : Caller → ℕ

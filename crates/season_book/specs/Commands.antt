@@ -1,9 +1,9 @@
--- The commands of the operator: what has to be there, what refuses each, and what each changes.
+-- The commands of the operator on the facts: what has to be there, what refuses each, and what each changes.
 use Rattle.std.specs.Prelude.{All, ◌≢◌, ◌≤◌, ℕ, Bool, true, ◌&&◌, ◌==◌, List, [], ◌∷◌, Option, Some, None, false, length, map, is_some, nat_le, fold, ⊤}
 use Rattle.std.specs.List.{list_all, list_any}
 use Rattle.std.specs.Option.{option_map_or}
 use Rattle.fpl_base.specs.declared.kinds.Chip.TheVariants.{None as NoChip}
-use Rattle.fpl_base.specs.declared.kinds.Profile.TheVariants as profile
+use Rattle.fpl_base.specs.declared.kinds.Profile.{Profile}
 use Rattle.fpl_base.specs.declared.rule.Rule.{Rule}
 use Rattle.rule_book.specs.ById.{placed_at}
 use Rattle.rule_book.specs.Calendar.{fixture_of, is_locked_place, new_calendar, stands_in, with_deadline, with_fixture, with_move}
@@ -24,7 +24,7 @@ club_ids clubs = map (λ club. club.0) clubs
 
 -- a command whose members can be read: the other members have their ranges by their types
 abbrev pub IsCommand : Command → Type 0
-IsCommand (command.Season deadlines split clubs) =
+IsCommand (command.Season profile deadlines split clubs) =
     (1 ≤ length deadlines) × (length deadlines ≤ 38) × (split ≤ length deadlines)
     × (1 ≤ length clubs) × (length clubs ≤ 20) × AllDiffer (club_ids clubs)
 IsCommand (command.Fixture id home away g kickoff) = home ≢ away
@@ -34,6 +34,24 @@ IsCommand (command.Chip chip) = chip ≢ NoChip
 IsCommand (command.Draw league order) = length order ≤ 64
 IsCommand (command.Cup start slots coins) = (length slots ≤ 1024) × (length coins ≤ 1024) × All (λ coin. coin ≤ 1) coins
 IsCommand command = ⊤
+
+-- What it changes.
+
+-- a part of the book: the facts, the list of entries, by a new one's key and name, or what the caller's entry did
+pub data Part : Type 0 where
+  OnFacts : Part
+  OnKeys : (key name : List ℕ) → Part
+  OnDeeds : Part
+
+-- the part that a command changes; what no route orders yet changes no more than the facts
+abbrev pub part_of : Command → Part
+part_of (command.Key key name) = OnKeys key name
+part_of (command.Squad players captain vice) = OnDeeds
+part_of (command.Transfers swaps) = OnDeeds
+part_of (command.Lineup players captain vice) = OnDeeds
+part_of (command.Chip chip) = OnDeeds
+part_of command.CancelChip = OnDeeds
+part_of command = OnFacts
 
 -- What has to be there.
 
@@ -54,9 +72,9 @@ has_gameweek facts g = nat_le g (length facts.calendar.deadlines)
 abbrev pub has_place : Facts → Option ℕ → Bool
 has_place facts place = option_map_or (has_gameweek facts) place true
 
--- all that a command names is there; what no route orders yet names nothing that is
+-- all that a command on the facts names is there; another one names nothing of them that is
 abbrev pub are_there : Facts → Command → Bool
-are_there facts (command.Season deadlines split clubs) = true
+are_there facts (command.Season profile deadlines split clubs) = true
 are_there facts (command.Deadline g deadline) = has_gameweek facts g
 are_there facts (command.Player id name position club price) = has_club facts club
 are_there facts (command.Price p price) = has_player facts p
@@ -96,9 +114,9 @@ abbrev pub by_id : List (ℕ × List ℕ) → List (ℕ × List ℕ)
 by_id clubs = fold (λ so_far club. placed_at so_far club.0 (club ∷ [])) [] clubs
 
 -- the facts of a new season
-abbrev pub new_season : List ℕ → ℕ → List (ℕ × List ℕ) → Facts
-new_season deadlines split clubs = record {
-  profile = profile.A;
+abbrev pub new_season : Profile → List ℕ → ℕ → List (ℕ × List ℕ) → Facts
+new_season profile deadlines split clubs = record {
+  profile = profile;
   calendar = new_calendar deadlines split;
   clubs = by_id clubs;
   players = [];
@@ -126,5 +144,5 @@ changed_by facts command = facts
 
 -- a command's facts, where there was a season before or not: without a season only the season command begins one
 abbrev pub begun_by : Command → Option Facts
-begun_by (command.Season deadlines split clubs) = Some (new_season deadlines split clubs)
+begun_by (command.Season profile deadlines split clubs) = Some (new_season profile deadlines split clubs)
 begun_by command = None

@@ -1,6 +1,8 @@
 pub mod Book
 pub mod Commands
 pub mod Doing
+pub mod EntryCommands
+pub mod EntryViews
 pub mod Hosts
 pub mod Once
 pub mod Runs

@@ -1,23 +1,33 @@
 -- The verdict on a request: the answer, and the book afterwards.
-use Rattle.std.specs.Prelude.{◌≡◌, ◌⊎◌, ◌+◌, ℕ, ◌==◌, List, Option, Some, None, Result, Ok, Err, is_some, nat_lt, if◌then◌else◌}
-use Rattle.std.specs.Option.{option_map}
+use Rattle.std.specs.Prelude.{◌≡◌, ◌⊎◌, ◌+◌, ◌++◌, ℕ, ◌==◌, List, [], ◌∷◌, length, not, Option, Some, None, Result, Ok, Err, is_some, nat_lt, if◌then◌else◌}
+use Rattle.std.specs.Option.{option_map, option_map_or}
 use Rattle.fpl_base.specs.Causes.{Rose}
 use Rattle.fpl_base.specs.declared.kinds.Caller.{Caller}
 use Rattle.fpl_base.specs.declared.rule.Rule.{Rule}
 use Rattle.fpl_base.specs.declared.rule.Rule.TheVariants as rule
 use Rattle.rule_book.specs.Calendar.{after_pass, deadlines_order}
-use Rattle.season_book.specs.Book.{Book, Facts, last_number, last_of, with_last}
+use Rattle.rule_book.specs.Entries.{entry_in, most_entries}
+use Rattle.rule_book.specs.History.{Event}
+use Rattle.rule_book.specs.HistoryRules.{is_started}
+use Rattle.rule_book.specs.Refusals.{first_broken, unless}
+use Rattle.season_book.specs.Book.{Book, EntryFacts, Facts, caller_number, histories_with, last_number, last_of, with_last}
 use Rattle.season_book.specs.declared.command.Command.{Command}
 use Rattle.season_book.specs.declared.made.Made.{Made}
 use Rattle.season_book.specs.declared.made.Made.TheVariants as made
-use Rattle.season_book.specs.Commands.{are_there, begun_by, changed_by, refusal_of}
+use Rattle.season_book.specs.Commands.{Part, are_there, begun_by, changed_by, part_of, refusal_of}
+use Rattle.season_book.specs.Commands.Part.{OnDeeds, OnFacts, OnKeys}
+use Rattle.season_book.specs.EntryCommands.{deed_refusal, history_after, names_players}
+use Rattle.season_book.specs.EntryViews.{entry_shown, me_shown}
+use Rattle.season_book.specs.Hosts.{caller_with, keys_of}
 use Rattle.season_book.specs.Views.{shown_of}
 use Rattle.season_book.specs.declared.answer.Answer.{Answer}
 use Rattle.season_book.specs.declared.answer.Answer.TheVariants as answer
 use Rattle.season_book.specs.declared.request.Request.{Request}
 use Rattle.season_book.specs.declared.request.Request.TheVariants as request
 use Rattle.season_book.specs.declared.request.View.{View}
+use Rattle.season_book.specs.declared.request.View.TheVariants as view
 use Rattle.season_book.specs.declared.shown.Shown.{Shown}
+use Rattle.season_book.specs.declared.shown.Shown.TheVariants as shown
 
 -- the facts when a moment was told: the gameweeks whose deadlines have passed are locked
 abbrev pub locked_at : ℕ → Facts → Facts
@@ -64,14 +74,65 @@ pub record Outcome : Type 0 where
   pub made : Made
   pub book : Book
 
+-- what goes with a season alone; without one a command is refused
+abbrev pub in_season : {T : Type 0} → Option Facts → (Facts → Result T Answer) → Result T Answer
+in_season None ruled = Err (answer.Rule rule.NoSeason)
+in_season (Some facts) ruled = ruled facts
+
+-- what is made, unless a rule refuses
+abbrev pub unless_broken : {T : Type 0} → Option Rule → T → Result T Answer
+unless_broken None made = Ok made
+unless_broken (Some broken) made = Err (answer.Rule broken)
+
+-- why a new entry is refused: there is no room, or its key is an entry's or the operator's
+abbrev pub key_refusal : List ℕ → List EntryFacts → List ℕ → Option Rule
+key_refusal operator entries key =
+    first_broken (
+    unless (nat_lt (length entries) most_entries) rule.EntriesFull
+    ∷ unless (not (is_some (caller_with operator (keys_of entries) key))) rule.KeyThere
+    ∷ [])
+
+-- the book with one entry more, whose manager did nothing yet; its number is theirs and one
+abbrev pub with_entry : Book → List ℕ → List ℕ → Outcome
+with_entry book key name = record {
+  made = made.Entry (length book.entries + 1);
+  book = record book { entries = book.entries ++ record { key = key; name = name; history = [] } ∷ [] };
+}
+
+-- the book where an entry's manager did this
+abbrev pub with_history : Book → ℕ → List Event → Book
+with_history book e h = record book { entries = histories_with book.entries e h }
+
+-- what a manager's command leads to, by his entry: by a player who is not there, then by the first rule that it breaks;
+-- else his history goes on
+abbrev pub ruled_of : Book → Facts → ℕ → Command → Option EntryFacts → Result Outcome Answer
+ruled_of book facts e command None = Err answer.Unknown
+ruled_of book facts e command (Some entry) =
+    if names_players facts command then
+    unless_broken (deed_refusal facts entry.history command)
+    (record { made = made.Nothing; book = with_history book e (history_after facts entry.history command) })
+    else Err answer.Unknown
+
+-- the same by the book, where there is a season; the operator is nobody's entry
+abbrev pub ruled_for : Book → Caller → Command → Result Outcome Answer
+ruled_for book caller command =
+    in_season book.facts (λ facts. ruled_of book facts (caller_number caller) command (entry_in book.entries (caller_number caller)))
+
 -- what a command on the facts leads to: nothing is made, and the facts alone change
 abbrev pub ruled_by : Book → Result Facts Answer → Result Outcome Answer
 ruled_by book (Err refused) = Err refused
 ruled_by book (Ok facts) = Ok (record { made = made.Nothing; book = record book { facts = Some facts } })
 
--- what a caller's command leads to at a moment, or the answer that refuses it, where this is the operator's key
+-- what a caller's command leads to at a moment, by the part of the book that it changes
+abbrev pub ruled_in : Part → List ℕ → Book → Caller → ℕ → Command → Result Outcome Answer
+ruled_in OnFacts operator book caller now command = ruled_by book (judged book.facts now command)
+ruled_in (OnKeys key name) operator book caller now command =
+    in_season book.facts (λ facts. unless_broken (key_refusal operator book.entries key) (with_entry book key name))
+ruled_in OnDeeds operator book caller now command = ruled_for book caller command
+
+-- the same, or the answer that refuses it, where this is the operator's key
 abbrev pub ruled : List ℕ → Book → Caller → ℕ → Command → Result Outcome Answer
-ruled operator book caller now command = ruled_by book (judged book.facts now command)
+ruled operator book caller now command = ruled_in (part_of command) operator book caller now command
 
 -- the book behind an accepted command: it is the caller's last one
 abbrev pub accepted : Caller → ℕ → Command → Outcome → Book
@@ -104,9 +165,23 @@ abbrev pub fact_shown : Option Facts → View → Answer
 fact_shown None view = answer.Rule rule.NoSeason
 fact_shown (Some facts) view = shown_or_unknown (shown_of facts view)
 
+-- what a manager sees of his entry, once he is registered
+abbrev pub my_answer : Book → Facts → Caller → Option EntryFacts → Answer
+my_answer book facts caller None = answer.Unknown
+my_answer book facts caller (Some entry) =
+    if is_started entry.history then
+    answer.Shown (shown.Me (me_shown facts entry.history (caller_number caller) (last_number book caller)))
+    else answer.Rule rule.NotRegistered
+
+-- what a caller's view of entries gets in a season
+abbrev pub seen_in : Book → Caller → View → Facts → Answer
+seen_in book caller view.Me facts = my_answer book facts caller (entry_in book.entries (caller_number caller))
+seen_in book caller (view.EntryGameweek e g) facts = shown_or_unknown (option_map shown.EntryGameweek (entry_shown facts book.entries e g))
+seen_in book caller view facts = fact_shown (Some facts) view
+
 -- what a caller's view gets
 abbrev pub view_answer : Book → Caller → View → Answer
-view_answer book caller view = fact_shown book.facts view
+view_answer book caller view = option_map_or (seen_in book caller view) book.facts (answer.Rule rule.NoSeason)
 
 -- a command that the caller's last one repeats, which made this
 abbrev pub IsRepeat : Book → Caller → ℕ → Command → Made → Type 0

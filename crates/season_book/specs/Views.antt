@@ -24,6 +24,7 @@ season_shown facts = record {
   clubs = facts.clubs;
   deadlines = facts.calendar.deadlines;
   locked = facts.calendar.locked;
+  profile = facts.profile;
   split = facts.calendar.split;
 }
 
@@ -48,10 +49,11 @@ fixture_shown facts fixture = record {
 abbrev pub has_played_gameweek : Facts → ℕ → ℕ → Bool
 has_played_gameweek facts p g = is_some (player_of facts.players p) && (nat_le 1 g && is_locked facts.calendar g)
 
--- what a view shows; none where an id is not there, or the gameweek is not locked
+-- what a view of the facts alone shows; none where an id is not there, or the gameweek is not locked
 abbrev pub shown_of : Facts → View → Option Shown
 shown_of facts view.Season = Some (shown.Season (season_shown facts))
 shown_of facts (view.Player p) = option_map shown.Player (player_of facts.players p)
 shown_of facts (view.PlayerGameweek p g) =
     if has_played_gameweek facts p g then Some (shown.PlayerGameweek (figures_in facts.profile facts.calendar facts.players facts.matches p g)) else None
 shown_of facts (view.Fixture f) = option_map (λ x. shown.Fixture (fixture_shown facts x)) (fixture_of facts.calendar f)
+shown_of facts view = None

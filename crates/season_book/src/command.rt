@@ -1,5 +1,5 @@
 use crate::{Clubs, Coins, Lines, Moments, Order, Slots, Swaps};
-use fpl_base::{Chip, ClubId, Code, FixtureId, Gw, Key, Moment, Name, PlayerId, Position};
+use fpl_base::{Chip, ClubId, Code, FixtureId, Gw, Key, Moment, Name, PlayerId, Position, Profile};
 use rule_book::{LeagueKind, Line};
 
 /// What a caller orders: one variant for each command, with the ids of its target and its members. An id of a target
@@ -8,8 +8,9 @@ use rule_book::{LeagueKind, Line};
 /// up to `Finished`, `Key`, `Draw` and `Cup`, and an entry's manager the others.
 #[derive(Drop)]
 pub enum Command {
-    /// Begins the season: its deadlines, the last gameweek of its first half, and its clubs.
+    /// Begins the season: by which rules it is played, its deadlines, the last gameweek of its first half, and its clubs.
     Season {
+        profile: Profile,
         deadlines: Moments,
         split: u8,
         clubs: Clubs,

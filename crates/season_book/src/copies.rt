@@ -12,10 +12,12 @@ impl Command {
     {
         match *self {
             Command::Season {
+                profile,
                 ref deadlines,
                 split,
                 ref clubs,
             } => Ok(Command::Season {
+                profile,
                 deadlines: deadlines.copy()?,
                 split,
                 clubs: copy_of_clubs(clubs)?,

@@ -21,4 +21,6 @@ pub use lists::{Clubs, Lines, Moments, Order, Swaps};
 pub use made::Made;
 pub use request::{Request, View};
 pub use rule_book::{Coins, Slots};
-pub use shown::{Shown, ShownFixture, ShownLine, ShownLines, ShownSeason};
+pub use shown::{
+    Shown, ShownEntryGameweek, ShownFixture, ShownLine, ShownLines, ShownMe, ShownPick, ShownSeason,
+};

@@ -12,6 +12,10 @@ pub enum View {
     PlayerGameweek { player: u32, gameweek: u32 },
     /// A fixture with its lines.
     Fixture { fixture: u32 },
+    /// The caller's own entry: his team, his money and his total.
+    Me,
+    /// What an entry's team scored in a locked gameweek.
+    EntryGameweek { entry: u32, gameweek: u32 },
 }
 
 /// What a caller asks.

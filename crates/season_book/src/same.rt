@@ -6,7 +6,7 @@ use crate::lists::{
     are_same_swaps,
 };
 use crate::{Clubs, Coins, Command, Lines, Moments, Order, Slots, Swaps};
-use fpl_base::{Chip, ClubId, Code, FixtureId, Gw, Key, Moment, Name, PlayerId, Position};
+use fpl_base::{Chip, ClubId, Code, FixtureId, Gw, Key, Moment, Name, PlayerId, Position, Profile};
 use rule_book::{LeagueKind, Line};
 
 impl Command {
@@ -16,10 +16,11 @@ impl Command {
     {
         match self {
             Command::Season {
+                profile,
                 deadlines,
                 split,
                 clubs,
-            } => is_season(other, deadlines, *split, clubs),
+            } => is_season(other, *profile, deadlines, *split, clubs),
             Command::Deadline { gameweek, deadline } => is_deadline(other, *gameweek, *deadline),
             Command::Player {
                 id,
@@ -86,15 +87,23 @@ impl Command {
     }
 }
 
-fn is_season(command: &Command, deadlines: &Moments, split: u8, clubs: &Clubs) -> bool
-    ensures { IsTrue result ↔ (command.now ≡ Command.Season deadlines.now split clubs.now) }
+fn is_season(
+    command: &Command,
+    profile: Profile,
+    deadlines: &Moments,
+    split: u8,
+    clubs: &Clubs,
+) -> bool
+    ensures { IsTrue result ↔ (command.now ≡ Command.Season profile deadlines.now split clubs.now) }
 {
     match command {
         Command::Season {
+            profile: other_profile,
             deadlines: other_deadlines,
             split: other_split,
             clubs: other_clubs,
-        } => are_same_moments(deadlines.as_slice(), other_deadlines.as_slice())
+        } => profile == *other_profile
+            && are_same_moments(deadlines.as_slice(), other_deadlines.as_slice())
             && split == *other_split
             && are_same_clubs(clubs.as_slice(), other_clubs.as_slice()),
         _ => false,

@@ -1,7 +1,7 @@
 // What views show.
 use crate::{Moments, SharedClubs};
-use fpl_base::{ListOf, PlayerId};
-use rule_book::{Figures, Fixture, Player};
+use fpl_base::{Chip, EntryId, Gw, ListOf, PlayerId, Profile, Tenths};
+use rule_book::{Figures, Fixture, Player, TeamScore};
 
 /// A season as it stands.
 #[derive(Drop)]
@@ -11,6 +11,8 @@ pub struct ShownSeason {
     pub deadlines: Moments,
     /// How many gameweeks are locked.
     pub locked: u8,
+    /// By which rules the season is played.
+    pub profile: Profile,
     /// The last gameweek of the first half.
     pub split: u8,
 }
@@ -36,6 +38,48 @@ pub struct ShownFixture {
     pub lines: ShownLines,
 }
 
+/// A player of a caller's team: the price at which he was bought, his present price, and what he sells for.
+#[derive(Clone, Copy, Debug, PartialEq, Eq)]
+pub struct ShownPick {
+    pub player: PlayerId,
+    pub bought: Tenths,
+    pub price: Tenths,
+    pub sell: Tenths,
+}
+
+/// A caller's own entry. Team, chip, free transfers and cost are those of the next gameweek, and of the last one when
+/// the season is over.
+#[derive(Clone, Copy, Debug, PartialEq, Eq)]
+pub struct ShownMe {
+    pub entry: EntryId,
+    /// The number of his last accepted command.
+    pub last: u64,
+    /// The next gameweek; `None` when the season is over.
+    pub gameweek: Option<Gw>,
+    /// By slot.
+    pub players: [ShownPick; 15],
+    pub captain: PlayerId,
+    pub vice: PlayerId,
+    /// What is left of the money.
+    pub bank: Tenths,
+    pub chip: Chip,
+    /// `None` in the entry's first gameweek, in which all transfers are free.
+    pub free: Option<u8>,
+    /// The points that the gameweek's transfers cost.
+    pub cost: u32,
+    /// The points after deductions over the locked gameweeks.
+    pub total: i32,
+}
+
+/// What an entry's team scored in a locked gameweek.
+#[derive(Clone, Copy, Debug, PartialEq, Eq)]
+pub struct ShownEntryGameweek {
+    /// By slot.
+    pub players: [PlayerId; 15],
+    pub chip: Chip,
+    pub score: TeamScore,
+}
+
 /// What a view shows.
 #[derive(Drop)]
 pub enum Shown {
@@ -44,4 +88,6 @@ pub enum Shown {
     /// What a player did in a gameweek.
     PlayerGameweek(Figures),
     Fixture(ShownFixture),
+    Me(ShownMe),
+    EntryGameweek(ShownEntryGameweek),
 }

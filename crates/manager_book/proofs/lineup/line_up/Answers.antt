@@ -4,7 +4,8 @@ use Rattle.rule_book.specs.History.{Event, in_gameweek}
 use Rattle.rule_book.specs.History.Deed.{Lineup}
 use Rattle.season_ledger.specs.Rows.{standing_at, IsFitTeam}
 use Rattle.season_ledger.specs.Stands.{StandsFor}
-use Rattle.manager_book.specs.Calls.{slot_of, IsLined}
+use Rattle.rule_book.specs.EntryCalls.{slot_of}
+use Rattle.manager_book.specs.Calls.{IsLined}
 use Rattle.manager_book.proofs.Lined.{lineup_on, fit_of, fit_lined, lined_order, placed_of, placed_lined}
 use Rattle.manager_book.proofs.lineup.line_up.Goals as goal
 

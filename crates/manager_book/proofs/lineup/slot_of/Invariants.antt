@@ -1,5 +1,5 @@
 use Rattle.std.proofs.Common.{◌≡◌, ◌+◌, drop}
-use Rattle.manager_book.specs.Calls.{slot_from, slot_of}
+use Rattle.rule_book.specs.EntryCalls.{slot_from, slot_of}
 use Rattle.manager_book.proofs.lineup.slot_of.Given as goal
 
 abbrev pub invariant-loop-i : goal.invariant-loop-i

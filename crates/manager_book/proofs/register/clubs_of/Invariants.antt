@@ -1,5 +1,5 @@
 use Rattle.std.proofs.Common.{◌≡◌, ◌+◌, ◌*◌, ◌≤◌, length, take, drop}
-use Rattle.manager_book.specs.Calls.{clubs_of}
+use Rattle.rule_book.specs.EntryCalls.{clubs_of}
 use Rattle.manager_book.proofs.register.clubs_of.Given as goal
 
 abbrev pub invariant-loop-i : goal.invariant-loop-i

@@ -1,5 +1,5 @@
 use Rattle.std.proofs.Common.{◌≡◌, ◌+◌, ◌*◌, ◌≤◌, length, take, drop}
-use Rattle.manager_book.specs.Calls.{cost_of}
+use Rattle.rule_book.specs.EntryCalls.{cost_of}
 use Rattle.manager_book.proofs.register.cost_of.Given as goal
 
 abbrev pub invariant-picks : goal.invariant-picks

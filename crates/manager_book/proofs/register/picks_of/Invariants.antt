@@ -1,5 +1,5 @@
 use Rattle.std.proofs.Common.{◌≡◌, ◌+◌, ◌*◌, ◌≤◌, length, take, drop}
-use Rattle.manager_book.specs.Calls.{picks_from}
+use Rattle.rule_book.specs.EntryCalls.{picks_from}
 use Rattle.manager_book.proofs.register.picks_of.Given as goal
 
 abbrev pub invariant-loop-i : goal.invariant-loop-i

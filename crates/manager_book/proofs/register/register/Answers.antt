@@ -4,7 +4,8 @@ use Rattle.rule_book.specs.History.Deed.{First}
 use Rattle.rule_book.specs.HistoryTeam.{holdings}
 use Rattle.rule_book.specs.Players.{ArePlayers}
 use Rattle.season_ledger.specs.Stands.{StandsFor}
-use Rattle.manager_book.specs.Calls.{slot_of, picks_from, IsFirstOf}
+use Rattle.rule_book.specs.EntryCalls.{slot_of, picks_from}
+use Rattle.manager_book.specs.Calls.{IsFirstOf}
 use Rattle.manager_book.proofs.Firsts.{first_is_team, fit_first, placed_first}
 use Rattle.manager_book.proofs.register.register.Goals as goal
 
