@@ -87,7 +87,8 @@ pub(crate) fn write_entry_gameweek(
 
 /// The slot that wears the armband, or `null` where none does.
 fn write_armband(out: &mut Writer, armband: Option<Armband>) -> Result<(), AllocError>
-    ensures { Appends result out.old out.new (member_tokens (codes "armband") (count_or_null (armband_slot armband))) }
+    ensures { Appends result out.old out.new
+        (member_tokens (codes "armband") (count_or_null (armband_slot armband))) }
 {
     match armband {
         Some(armband) => write_count(out, "armband", u64::from(armband.slot)),
