@@ -1,14 +1,19 @@
--- Whose key bytes are, and what can be asked.
+-- What a host stands for, whose key bytes are, and what can be asked.
 use Rattle.std.specs.Prelude.{◌≤◌, ◌+◌, ◌-◌, ◌^◌, ℕ, List, [], ◌∷◌, Option, Some, None, ⊤, map, position, if◌then◌else◌}
 use Rattle.std.specs.Str.{bytes_eq}
 use Rattle.std.specs.Option.{option_map, option_map_or}
 use Rattle.fpl_base.specs.declared.kinds.Caller.{Caller}
 use Rattle.fpl_base.specs.declared.kinds.Caller.TheVariants.{Operator, Entry}
 use Rattle.fpl_base.specs.Texts.{is_key}
-use Rattle.season_book.specs.Book.{EntryFacts, Last}
+use Rattle.season_book.specs.Book.{Book, EntryFacts, Last}
 use Rattle.season_book.specs.Commands.{IsCommand}
 use Rattle.season_book.specs.declared.request.Request.{Request}
 use Rattle.season_book.specs.declared.request.Request.TheVariants as request
+
+-- what a host stands for: the key of the operator, and the book of the season
+pub record HostState : Type 0 where
+  pub operator : List ℕ
+  pub book : Book
 
 -- the keys of entries
 abbrev pub keys_of : List EntryFacts → List (List ℕ)

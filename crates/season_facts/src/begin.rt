@@ -5,7 +5,7 @@ ghost use Rattle.season_book.specs.Doing.{IsBegun};
 ghost use Rattle.season_book.specs.Verdict.{begun};
 
 use crate::Season;
-use fpl_base::{ClubId, Memory, Name, Refused};
+use fpl_base::{ClubId, Memory, Name, Profile, Refused};
 use match_facts::MatchFacts;
 use player_prices::Players;
 use season_book::{Answer, Clubs, Moments, SharedClubs};
@@ -14,10 +14,11 @@ use std::alloc::Global;
 use std::collections::BTreeMap;
 
 impl Season {
-    /// The season of these deadlines, in their order, with the last gameweek of its first half and these clubs. Without
-    /// players, fixtures and figures; no gameweek is locked.
+    /// The season of these rules and deadlines, these in their order, with the last gameweek of its first half and these
+    /// clubs. Without players, fixtures and figures; no gameweek is locked.
     pub fn begin(
         alloc: Global,
+        profile: Profile,
         deadlines: &Moments,
         split: u8,
         clubs: &Clubs,
@@ -25,7 +26,7 @@ impl Season {
         requires has_gameweeks { 1 ≤ length deadlines.now }
         requires at_most_38 { length deadlines.now ≤ 38 }
         requires split_within { split ≤ length deadlines.now }
-        ensures { IsBegun (begun (Some (new_season deadlines.now split clubs.now))) result }
+        ensures { IsBegun (begun (Some (new_season profile deadlines.now split clubs.now))) result }
     {
         let calendar = match Calendar::new(alloc, deadlines.as_slice(), split) {
             Ok(calendar) => calendar,
@@ -36,6 +37,7 @@ impl Season {
             return Err(Answer::Memory);
         };
         Ok(Season {
+            profile,
             calendar,
             clubs,
             players: Players::new(alloc),

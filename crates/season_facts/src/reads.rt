@@ -9,6 +9,7 @@ ghost use Rattle.rule_book.specs.Players.{player_of};
 
 use crate::Season;
 use fpl_base::{FixtureId, Memory, PlayerId, Position, Profile, Steps};
+use player_prices::Players;
 use rule_book::{Fixture, Line, Player};
 use season_book::SharedClubs;
 use season_calendar::Calendar;
@@ -19,9 +20,7 @@ impl Season {
     pub fn profile(&self) -> Profile
         ensures { result ≡ self.now.profile }
     {
-        // For the prover, which sees a season as its facts only where one of its fields is read.
-        let _ = &self.matches;
-        Profile::A
+        self.profile
     }
 
     /// Its calendar.
@@ -29,6 +28,13 @@ impl Season {
         ensures { result.now ≡ self.now.calendar }
     {
         &self.calendar
+    }
+
+    /// Its players.
+    pub fn players(&self) -> &Players
+        ensures { result.now ≡ self.now.players }
+    {
+        &self.players
     }
 
     /// Its clubs, by ascending id. They are shared, and no name is copied.

@@ -1,12 +1,15 @@
+use fpl_base::Profile;
 use match_facts::MatchFacts;
 use player_prices::Players;
 use season_book::SharedClubs;
 use season_calendar::Calendar;
 use std::marker::Model;
 
-/// What the operator handed in on a season: its calendar, clubs, players and matches. A contract sees it as the facts.
+/// What the operator handed in on a season: by which rules it is played, its calendar, clubs, players and matches. A
+/// contract sees it as the facts.
 #[derive(Drop)]
 pub struct Season {
+    pub(crate) profile: Profile,
     pub(crate) calendar: Calendar,
     pub(crate) clubs: SharedClubs,
     pub(crate) players: Players,
@@ -14,13 +17,12 @@ pub struct Season {
 }
 
 impl Model for Season {
-    ghost use Rattle.fpl_base.specs.declared.kinds.Profile.TheVariants as profile;
     ghost use Rattle.season_book.specs.Book.{Facts};
     ghost use Rattle.season_facts.specs.Kept.{AreFacts};
 
     ghost Value = { Facts };
 
-    ghost view = { λ s. record { profile = profile.A; calendar = s.calendar; clubs = s.clubs; players = s.players; matches = s.matches } };
+    ghost view = { λ s. record { profile = s.profile; calendar = s.calendar; clubs = s.clubs; players = s.players; matches = s.matches } };
 
-    ghost invariant = { λ s. AreFacts (record { profile = profile.A; calendar = s.calendar; clubs = s.clubs; players = s.players; matches = s.matches }) };
+    ghost invariant = { λ s. AreFacts (record { profile = s.profile; calendar = s.calendar; clubs = s.clubs; players = s.players; matches = s.matches }) };
 }

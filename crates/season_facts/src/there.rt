@@ -14,7 +14,8 @@ impl Season {
         self.clubs.as_slice().iter().any(|row| row.0 == club)
     }
 
-    pub(crate) fn has_player(&self, player: PlayerId) -> bool
+    /// Whether a player is there.
+    pub fn has_player(&self, player: PlayerId) -> bool
         ensures { result ≡ has_player self.now player }
     {
         self.players.get(player).is_some()

@@ -33,6 +33,7 @@ pub fn show<L: Ledger>(
             Ok(gameweek_shown(season, player, gameweek, steps))
         }
         View::Fixture { fixture } => fixture_shown(alloc, season, fixture, steps),
+        View::Me | View::EntryGameweek { .. } => Ok(None),
     }
 }
 
@@ -43,6 +44,7 @@ fn season_shown(alloc: Global, season: &Season) -> Result<ShownSeason, Memory>
         clubs: season.clubs()?,
         deadlines: deadlines_of(alloc, season.calendar())?,
         locked: season.calendar().locked(),
+        profile: season.profile(),
         split: season.calendar().split(),
     })
 }
