@@ -175,6 +175,7 @@ impl ManagerBook {
     // The points that an entry's transfers of a gameweek cost.
     fn cost_in(&self, e: EntryId, g: Gw) -> u32
         ensures rows { result ≡ cost_by self.now.profile (season_of self.now e) g }
+        ensures most { result ≤ 4000 }
         ensures history { (position : ℕ → Position) (h : List Event) → StandsFor position (season_of self.now e) h → result ≡ cost_at self.now.profile h g }
     {
         let profile = self.profile;
@@ -244,6 +245,7 @@ impl ManagerBook {
     pub fn cost<L: Ledger>(&self, e: EntryId, g: Gw, steps: &mut Steps<L>) -> u32
         ensures counted { steps.new ≡ steps.old + 1 }
         ensures rows { result ≡ cost_by self.now.profile (season_of self.now e) g }
+        ensures most { result ≤ 4000 }
         ensures history { (position : ℕ → Position) (h : List Event) → StandsFor position (season_of self.now e) h → result ≡ cost_at self.now.profile h g }
     {
         steps.tick();
