@@ -1,20 +1,24 @@
 -- What is left by a call that judges a command, does it and keeps it.
-use Rattle.std.specs.Prelude.{◌≡◌, ◌+◌, ℕ, List, [], ◌∷◌, Option, Some, None, IsOk, IsSome, Result, Ok, Err, length}
+use Rattle.std.specs.Prelude.{◌≡◌, ◌≤◌, ◌+◌, ℕ, ⊤, List, [], ◌∷◌, Option, Some, None, IsOk, IsSome, Result, Ok, Err, length}
 use Rattle.fpl_base.specs.declared.kinds.Caller.{Caller}
+use Rattle.fpl_base.specs.declared.kinds.Profile.{Profile}
+use Rattle.fpl_base.specs.declared.memory.Memory.{Memory}
 use Rattle.rule_book.specs.ById.{at_id, placed_at}
 use Rattle.manager_book.specs.declared.manager.Manager.{Manager}
+use Rattle.manager_book.specs.Managers.{issue_refusal, manager_in}
 use Rattle.season_book.specs.Book.{Book, Last, caller_number}
 use Rattle.season_book.specs.Commands.{part_of}
-use Rattle.season_book.specs.Doing.{IsRefused}
+use Rattle.season_book.specs.Doing.{IsGranted, IsRefused}
 use Rattle.season_book.specs.Hosts.{row_at}
 use Rattle.season_book.specs.Verdict.{Outcome, accepted, judged, ruled}
 use Rattle.season_book.specs.declared.answer.Answer.{Answer}
-use Rattle.season_book.specs.declared.answer.Answer.TheVariants as answer
 use Rattle.season_book.specs.declared.command.Command.{Command}
+use Rattle.season_book.specs.declared.command.Command.TheVariants as command
 use Rattle.season_book.specs.declared.made.Made.{Made}
 use Rattle.season_book.specs.declared.made.Made.TheVariants as made
 use Rattle.season_book.specs.declared.part.Part.{Part}
 use Rattle.season_book.specs.declared.part.Part.TheVariants as part
+use Rattle.season_entries.specs.Deeds.{IsDeedGranted}
 use Rattle.season_host.specs.Standing.{HostRows, Plays, Running, StandsIn}
 
 -- what a command makes, where nothing refuses it: a new entry is the next one
@@ -25,6 +29,21 @@ made_in part.Deeds managers = made.Nothing
 
 abbrev pub made_by : List Manager → Command → Made
 made_by managers command = made_in (part_of command) managers
+
+-- there is room for the entry that a command makes, and none has its key
+abbrev pub HasRoom : List Manager → Command → Type 0
+HasRoom managers (command.Key key name) = (profile : Profile) → issue_refusal (record { profile = profile; managers = managers }) key ≡ None
+HasRoom managers command = ⊤
+
+-- nothing refuses a command on a running season, by what it keeps
+abbrev pub IsGrantedIn : Part → Running → ℕ → ℕ → Command → Type 0
+IsGrantedIn part.Facts running e now command = IsGranted running.facts now command
+IsGrantedIn part.Entries running e now command = HasRoom running.managers command
+IsGrantedIn part.Deeds running e now command =
+    (1 ≤ e) × (e ≤ length running.managers) × IsDeedGranted running.facts (manager_in running.managers e).season command
+
+abbrev pub IsGrantedTo : Running → Caller → ℕ → Command → Type 0
+IsGrantedTo running caller now command = IsGrantedIn (part_of command) running (caller_number caller) now command
 
 -- a command was judged as it is ruled in a book
 abbrev pub IsRuled : {T : Type 0} → Result Outcome Answer → Result T Answer → Type 0
@@ -51,12 +70,18 @@ kept_last lasts caller number command made =
     placed_at lasts (caller_number caller) ((caller_number caller, record { number = number; command = command; made = made }) ∷ [])
 
 -- a command was kept as its caller's last one, and what stood there brings back the old ones; or memory ran out
-abbrev pub IsKept : Caller → ℕ → Command → Made → List (ℕ × Last) → List (ℕ × Last) → Result (Option Last) Answer → Type 0
+abbrev pub IsKept : Caller → ℕ → Command → Made → List (ℕ × Last) → List (ℕ × Last) → Result (Option Last) Memory → Type 0
 IsKept caller number command made old new (Ok before) =
     (new ≡ kept_last old caller number command made)
     × (old ≡ placed_at new (caller_number caller) (row_at (caller_number caller) before))
     × IsSome (at_id new (caller_number caller))
-IsKept caller number command made old new (Err reply) = (new ≡ old) × (reply ≡ answer.Memory)
+IsKept caller number command made old new (Err memory) = new ≡ old
+
+-- a command that nothing refuses was done on a running season and kept, or memory ran out, and all is as before
+abbrev pub IsTakenOrOut : Caller → ℕ → ℕ → Command → Running → Running → List (ℕ × Last) → List (ℕ × Last) → Result Made Memory → Type 0
+IsTakenOrOut caller now number command before after old new (Ok made) =
+    (made ≡ made_by before.managers command) × IsDone caller now command before after × (new ≡ kept_last old caller number command made)
+IsTakenOrOut caller now number command before after old new (Err memory) = (after ≡ before) × (new ≡ old)
 
 -- a command was done on a running season and kept, or it was refused, or memory ran out, and all is as before
 abbrev pub IsTaken : List ℕ → Caller → ℕ → ℕ → Command → Running → Running → List (ℕ × Last) → List (ℕ × Last) → Result Made Answer → Type 0

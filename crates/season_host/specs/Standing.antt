@@ -1,12 +1,16 @@
 -- What a host keeps, and the books that it stands for.
-use Rattle.std.specs.Prelude.{◌≡◌, ◌+◌, ℕ, List, [], ◌∷◌, Option, Some, None, map, ⊤}
+use Rattle.std.specs.Prelude.{◌≡◌, ℕ, List, [], Option, Some, None, map}
 use Rattle.std.specs.Option.{option_map, option_map_or}
+use Rattle.fpl_base.specs.declared.kinds.Caller.{Caller}
 use Rattle.rule_book.specs.declared.player.Player.{Player}
-use Rattle.season_ledger.specs.Rows.{AllUpTo}
+use Rattle.rule_book.specs.Calendar.{next_gameweek}
 use Rattle.manager_book.specs.declared.manager.Manager.{Manager}
 use Rattle.manager_book.specs.Managers.{Managers}
-use Rattle.season_book.specs.Book.{Book, Facts, Last}
-use Rattle.season_book.specs.Hosts.{HostState}
+use Rattle.rule_book.specs.ById.{at_id}
+use Rattle.season_book.specs.Book.{Book, Facts, Last, caller_number}
+use Rattle.season_book.specs.Hosts.{HostState, number_in}
+use Rattle.season_book.specs.Verdict.{locked_at}
+use Rattle.season_entries.specs.Deeds.{AreInTime}
 use Rattle.season_entries.specs.Entries.{AreEntries}
 
 -- A season with its entries.
@@ -16,15 +20,10 @@ pub record Running : Type 0 where
   pub facts : Facts
   pub managers : List Manager
 
--- nothing was done for a gameweek behind this one
-abbrev pub AreUpTo : ℕ → List Manager → Type 0
-AreUpTo g [] = ⊤
-AreUpTo g (manager ∷ managers) = AllUpTo g manager.season × AreUpTo g managers
-
 -- the managers play by the season's rules, and did nothing for a gameweek behind the next one
 pub record InStep (facts : Facts) (book : Managers) : Type 0 where
   pub profile : book.profile ≡ facts.profile
-  pub early : AreUpTo (facts.calendar.locked + 1) book.managers
+  pub in_time : AreInTime (next_gameweek facts.calendar) book.managers
 
 -- a running season stands for a book: the same facts, entries whose rows stand for their histories, no league and no cup
 pub record Plays (running : Running) (book : Book) : Type 0 where
@@ -54,6 +53,14 @@ host_rows operator running lasts = record {
 -- a host without a season
 abbrev pub empty_rows : List ℕ → HostRows
 empty_rows operator = record { operator = operator; facts = None; managers = []; lasts = [] }
+
+-- the rows when a moment was told
+abbrev pub passed : ℕ → HostRows → HostRows
+passed now host = record host { facts = option_map (locked_at now) host.facts }
+
+-- the number of a caller's last command, 0 before the first
+abbrev pub number_at : List (ℕ × Last) → Caller → ℕ
+number_at lasts caller = number_in (at_id lasts (caller_number caller))
 
 -- the players of a season, none before it
 abbrev pub players_in : Option Facts → List Player

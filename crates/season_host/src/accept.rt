@@ -1,56 +1,63 @@
 // A command that is judged, done, and kept as its caller's last one.
-ghost use Rattle.std.specs.Prelude.{Some, None};
 ghost use Rattle.season_book.specs.Commands.{IsCommand};
-ghost use Rattle.season_book.specs.Doing.{IsBegunAndKept, IsDoneAndKept, IsGranted, IsKept};
-ghost use Rattle.season_book.specs.Verdict.{judged};
+ghost use Rattle.season_host.specs.Accepting.{IsBegunAndKept, IsGrantedTo, IsKept, IsTaken, IsTakenOrOut};
 
 use crate::lasts::{LastCommand, Lasts};
-use fpl_base::{Caller, Memory, Moment, Rule, Steps};
+use crate::running::RunningSeason;
+use fpl_base::{Caller, Key, Memory, Moment, Rule, Steps};
 use season_book::{Answer, Command, Made};
 use season_facts::Season;
 use std::alloc::Global;
 use std::sync::ledger::Ledger;
 
-// Does a command on a season. It is judged before memory is asked for. Then it is put among the last commands before the
-// season is changed, since the change may not be taken back, and what stood there is put back where memory is wanting.
+// Does a command on a running season, where nothing refuses it, and tells what it made. It is judged before memory is
+// asked for.
 pub fn accept<L: Ledger>(
-    season: &mut Season,
+    running: &mut RunningSeason,
     lasts: &mut Lasts,
+    operator: &Key,
     caller: &Caller,
     now: Moment,
     number: u64,
     command: &Command,
     steps: &mut Steps<L>,
-) -> Result<(), Answer>
-    ensures { IsDoneAndKept (judged (Some season.old) now command.now) caller.now number command.now season.old season.new lasts.old lasts.new result }
+) -> Result<Made, Answer>
+    requires { IsCommand command.now }
+    ensures { IsTaken operator.now caller.now now number command.now running.old running.new lasts.old lasts.new result }
 {
-    match season.judge(now, command, steps) {
-        Ok(()) => change(season, lasts, caller, now, number, command),
+    match running.judge(operator, caller, now, command, steps) {
+        Ok(()) => match change(running, lasts, caller, now, number, command) {
+            Ok(made) => Ok(made),
+            Err(Memory) => Err(Answer::Memory),
+        },
         Err(refused) => Err(refused),
     }
 }
 
-// Does a command that nothing refuses on a season, and keeps it.
+// Does a command that nothing refuses on a running season, and keeps it. It is put among the last commands before the
+// season is changed, since the change may not be taken back, and what stood there is put back where memory is wanting.
 fn change(
-    season: &mut Season,
+    running: &mut RunningSeason,
     lasts: &mut Lasts,
     caller: &Caller,
     now: Moment,
     number: u64,
     command: &Command,
-) -> Result<(), Answer>
-    requires { IsGranted season.old now command.now }
-    ensures { IsDoneAndKept (judged (Some season.old) now command.now) caller.now number command.now season.old season.new lasts.old lasts.new result }
+) -> Result<Made, Memory>
+    requires read { IsCommand command.now }
+    requires granted { IsGrantedTo running.old caller.now now command.now }
+    ensures { IsTakenOrOut caller.now now number command.now running.old running.new lasts.old lasts.new result }
 {
-    let before = keep(lasts, caller, number, command)?;
-    match season.change(now, command) {
+    let made = running.made_by(command);
+    let before = keep(lasts, caller, number, command, &made)?;
+    match running.change(caller, now, command) {
         Ok(()) => {
             drop(before);
-            Ok(())
+            Ok(made)
         }
         Err(Memory) => {
             lasts.put_back(caller, before);
-            Err(Answer::Memory)
+            Err(Memory)
         }
     }
 }
@@ -63,20 +70,26 @@ pub fn begin(
     now: Moment,
     number: u64,
     command: &Command,
-) -> Result<Season, Answer>
+) -> Result<RunningSeason, Answer>
     requires { IsCommand command.now }
-    ensures { IsBegunAndKept (judged None now command.now) caller.now number command.now lasts.old lasts.new result }
+    ensures { IsBegunAndKept caller.now now number command.now lasts.old lasts.new result }
 {
     let season = match command {
         Command::Season {
+            profile,
             deadlines,
             split,
             clubs,
-        } => Season::begin(alloc, deadlines, *split, clubs)?,
+        } => Season::begin(alloc, *profile, deadlines, *split, clubs)?,
         _ => return Err(Answer::Rule(Rule::NoSeason)),
     };
-    drop(keep(lasts, caller, number, command)?);
-    Ok(season)
+    match keep(lasts, caller, number, command, &Made::Nothing) {
+        Ok(before) => {
+            drop(before);
+            Ok(RunningSeason::begin(alloc, season))
+        }
+        Err(Memory) => Err(Answer::Memory),
+    }
 }
 
 // Keeps a command as its caller's last one, and hands out what stood there.
@@ -85,19 +98,14 @@ fn keep(
     caller: &Caller,
     number: u64,
     command: &Command,
-) -> Result<Option<LastCommand>, Answer>
-    ensures { IsKept caller.now number command.now lasts.old lasts.new result }
+    made: &Made,
+) -> Result<Option<LastCommand>, Memory>
+    ensures { IsKept caller.now number command.now made.now lasts.old lasts.new result }
 {
-    let Ok(command) = command.copy() else {
-        return Err(Answer::Memory);
-    };
     let last = LastCommand {
         number,
-        command,
-        made: Made::Nothing,
+        command: command.copy()?,
+        made: *made,
     };
-    match lasts.put(caller, last) {
-        Ok(before) => Ok(before),
-        Err(Memory) => Err(Answer::Memory),
-    }
+    Ok(lasts.put(caller, last)?)
 }

@@ -1,15 +1,18 @@
 // The host of a season.
 ghost use Rattle.std.specs.Prelude.{◌≡◌, ◌≤◌, Some, MatchResult, IsOk};
 ghost use Rattle.rule_book.specs.Refusals.{IsJudged};
-ghost use Rattle.season_book.specs.Book.{empty_book, last_number};
+ghost use Rattle.season_book.specs.Book.{Book, last_number};
 ghost use Rattle.season_book.specs.Commands.{IsCommand};
-ghost use Rattle.season_book.specs.Doing.{IsAccepted, IsOutLate, IsShown, IsStoreless, MayAnswerIn};
+ghost use Rattle.season_book.specs.Doing.{IsOutLate, IsShown, IsStoreless, MayAnswerIn};
 ghost use Rattle.season_book.specs.Hosts.{IsRequest, caller_with, owner_of};
-ghost use Rattle.season_book.specs.Verdict.{MayAnswer, judged, fact_shown, number_refusal, pass};
+ghost use Rattle.season_book.specs.Verdict.{MayAnswer, fact_shown, number_refusal, pass, view_answer};
 ghost use Rattle.season_book.specs.declared.request.Request.TheVariants as request_of;
+ghost use Rattle.season_host.specs.Accepting.{IsAccepted};
+ghost use Rattle.season_host.specs.Standing.{Follows, StandsIn, empty_rows, keys_in, number_at, passed};
 
 use crate::accept::{accept, begin};
 use crate::lasts::Lasts;
+use crate::running::RunningSeason;
 use fpl_base::{Caller, Keeper, Key, Memory, Moment, RecordKey, Rule, Steps};
 use season_book::{Answer, Command, Made, Request, View};
 use season_facts::Season;
@@ -29,21 +32,22 @@ pub enum OpenFault {
     Memory,
 }
 
-/// The host of a season: it judges what is asked, does it and answers. A contract sees the operator's key and the book.
+/// The host of a season: it judges what is asked, does it and answers. A contract sees what it keeps, and the books that it
+/// stands for (`StandsIn`).
 #[derive(Drop)]
 pub struct Host {
     alloc: Global,
     operator: Key,
-    season: Option<Season>,
+    running: Option<RunningSeason>,
     lasts: Lasts,
 }
 
 impl Model for Host {
-    ghost use Rattle.season_book.specs.Hosts.{HostState, host_state};
+    ghost use Rattle.season_host.specs.Standing.{HostRows, host_rows};
 
-    ghost Value = { HostState };
+    ghost Value = { HostRows };
 
-    ghost view = { λ h. host_state h.operator h.season h.lasts };
+    ghost view = { λ h. host_rows h.operator h.running h.lasts };
 }
 
 impl Host {
@@ -55,13 +59,13 @@ impl Host {
         _steps: &mut Steps<L>,
     ) -> Result<Host, OpenFault>
         ensures keeper { keeper.new ≡ keeper.old }
-        ensures opened { MatchResult result (λ host. host ≡ record { operator = operator.now; book = empty_book }) (λ fault. fault ≡ OpenFault.Memory) }
+        ensures opened { MatchResult result (λ host. host ≡ empty_rows operator.now) (λ fault. fault ≡ OpenFault.Memory) }
     {
         match operator.copy() {
             Ok(operator) => Ok(Host {
                 alloc,
                 operator,
-                season: None,
+                running: None,
                 lasts: Lasts::new(alloc),
             }),
             Err(Memory) => Err(OpenFault::Memory),
@@ -82,25 +86,27 @@ impl Host {
 
     /// Whose key this is; `None` where nobody has it.
     pub fn caller_of(&self, key: &Key) -> Option<Caller>
-        ensures { result ≡ caller_with self.now key.now }
+        ensures { result ≡ caller_with self.now.operator (keys_in self.now) key.now }
     {
         self.owner_of(key.bytes())
     }
 
     /// Whose key these bytes are; `None` where nobody has it, and so where they are no key. It takes no memory.
     pub fn owner_of(&self, bytes: &[u8]) -> Option<Caller>
-        ensures { result ≡ owner_of self.now bytes.now }
+        ensures { result ≡ owner_of self.now.operator (keys_in self.now) bytes.now }
     {
         if self.operator.bytes() == bytes {
-            Some(Caller::Operator)
-        } else {
-            None
+            return Some(Caller::Operator);
+        }
+        match &self.running {
+            Some(running) => running.owner_of(bytes),
+            None => None,
         }
     }
 
     /// The number of a caller's last accepted command; 0 where he had none accepted.
     pub fn last(&self, caller: Caller) -> u64
-        ensures { result ≡ last_number self.now.book caller }
+        ensures { result ≡ number_at self.now.lasts caller }
     {
         self.lasts.number(&caller)
     }
@@ -116,15 +122,15 @@ impl Host {
         steps: &mut Steps<L>,
     ) -> Answer
         requires { IsRequest request.now }
-        ensures answered { MayAnswer self.old.operator (record { before = K.faults keeper.old; behind = K.faults keeper.new }) self.old.book caller now request.now result self.new.book }
-        ensures late { IsOutLate self.old.operator (pass self.old.book now) caller now request.now result }
+        ensures answered { Follows self.old self.new (λ book after. MayAnswer self.old.operator (record { before = K.faults keeper.old; behind = K.faults keeper.new }) book caller now request.now result after) }
+        ensures late { (book : Book) → StandsIn self.old book → IsOutLate self.old.operator (pass book now) caller now request.now result }
         ensures keeper { keeper.new ≡ keeper.old }
         ensures operator { self.new.operator ≡ self.old.operator }
         ensures storeless { IsStoreless result }
     {
         self.pass(now);
         match request {
-            Request::View(view) => self.answer_view(&caller, now, *view, steps),
+            Request::View(view) => self.answer_view(&caller, *view, steps),
             Request::Command { number, command } => {
                 self.answer_command(&caller, now, *number, command, steps)
             }
@@ -133,30 +139,30 @@ impl Host {
 
     // Locks the gameweeks whose deadlines have passed.
     fn pass(&mut self, now: Moment)
-        ensures book { self.new.book ≡ pass self.old.book now }
-        ensures operator { self.new.operator ≡ self.old.operator }
+        ensures { self.new ≡ passed now self.old }
     {
-        match &mut self.season {
-            Some(season) => season.pass(now),
+        match &mut self.running {
+            Some(running) => running.pass(now),
             None => {}
         }
     }
 
-    fn answer_view<L: Ledger>(
-        &mut self,
-        caller: &Caller,
-        now: Moment,
-        view: View,
-        steps: &mut Steps<L>,
-    ) -> Answer
-        ensures answered { MayAnswerIn self.old.operator self.old.book caller.now now (request_of.View view) result self.new.book }
-        ensures late { IsOutLate self.old.operator self.old.book caller.now now (request_of.View view) result }
-        ensures operator { self.new.operator ≡ self.old.operator }
+    fn answer_view<L: Ledger>(&self, caller: &Caller, view: View, steps: &mut Steps<L>) -> Answer
+        ensures shown { (book : Book) → StandsIn self.now book → IsShown (view_answer book caller.now view) result }
         ensures storeless { IsStoreless result }
     {
-        match &self.season {
-            Some(season) => answer_shown(self.alloc, season, view, steps),
-            None => Answer::Rule(Rule::NoSeason),
+        let Some(running) = &self.running else {
+            return Answer::Rule(Rule::NoSeason);
+        };
+        match view {
+            View::Me => running.my_entry(caller, self.lasts.number(caller), steps),
+            View::EntryGameweek { entry, gameweek } => {
+                running.entry_gameweek(entry, gameweek, steps)
+            }
+            View::Season
+            | View::Player { .. }
+            | View::PlayerGameweek { .. }
+            | View::Fixture { .. } => answer_shown(self.alloc, running.season(), view, steps),
         }
     }
 
@@ -170,8 +176,8 @@ impl Host {
     ) -> Answer
         requires numbered { 1 ≤ number }
         requires command { IsCommand command.now }
-        ensures answered { MayAnswerIn self.old.operator self.old.book caller.now now (request_of.Command number command.now) result self.new.book }
-        ensures late { IsOutLate self.old.operator self.old.book caller.now now (request_of.Command number command.now) result }
+        ensures answered { Follows self.old self.new (λ book after. MayAnswerIn self.old.operator book caller.now now (request_of.Command number command.now) result after) }
+        ensures late { (book : Book) → StandsIn self.old book → IsOutLate self.old.operator book caller.now now (request_of.Command number command.now) result }
         ensures operator { self.new.operator ≡ self.old.operator }
         ensures storeless { IsStoreless result }
     {
@@ -180,10 +186,7 @@ impl Host {
             None => match judge_number(self.lasts.number(caller), number) {
                 Err(rule) => Answer::Rule(rule),
                 Ok(()) => match self.accept(caller, now, number, command, steps) {
-                    Ok(()) => Answer::Done {
-                        number,
-                        made: Made::Nothing,
-                    },
+                    Ok(made) => Answer::Done { number, made },
                     Err(refused) => refused,
                 },
             },
@@ -198,17 +201,26 @@ impl Host {
         number: u64,
         command: &Command,
         steps: &mut Steps<L>,
-    ) -> Result<(), Answer>
+    ) -> Result<Made, Answer>
         requires { IsCommand command.now }
-        ensures accepted { IsAccepted self.old.book caller.now number command.now (judged self.old.book.facts now command.now) self.new.book result }
+        ensures accepted { IsAccepted self.old self.new caller.now now number command.now result }
         ensures operator { self.new.operator ≡ self.old.operator }
     {
-        match &mut self.season {
-            Some(season) => accept(season, &mut self.lasts, caller, now, number, command, steps),
+        match &mut self.running {
+            Some(running) => accept(
+                running,
+                &mut self.lasts,
+                &self.operator,
+                caller,
+                now,
+                number,
+                command,
+                steps,
+            ),
             None => {
-                let season = begin(self.alloc, &mut self.lasts, caller, now, number, command)?;
-                self.season = Some(season);
-                Ok(())
+                let running = begin(self.alloc, &mut self.lasts, caller, now, number, command)?;
+                self.running = Some(running);
+                Ok(Made::Nothing)
             }
         }
     }

@@ -4,6 +4,8 @@
 mod accept;
 mod host;
 mod lasts;
+mod running;
+mod stub;
 #[cfg(test)]
 mod tests;
 

@@ -4,7 +4,7 @@ ghost use Rattle.season_book.specs.Commands.{IsCommand};
 ghost use Rattle.season_book.specs.Hosts.{IsRequest};
 
 use crate::Host;
-use fpl_base::{Caller, ClubId, Key, Moment, Name, PlayerId, Position, Quiet, Steps};
+use fpl_base::{Caller, ClubId, Key, Moment, Name, PlayerId, Position, Profile, Quiet, Steps};
 use season_book::{Answer, Clubs, Command, Moments, Request};
 use std::alloc::Global;
 use std::marker::Brand;
@@ -70,6 +70,7 @@ fn season(rt: &impl Abort, alloc: Global) -> Command
     let mut clubs = Clubs::new(alloc);
     clubs.push((club, name(rt, alloc))).expect(rt, "memory");
     Command::Season {
+        profile: Profile::A,
         deadlines,
         split: 1,
         clubs,
