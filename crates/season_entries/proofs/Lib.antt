@@ -1,3 +1,5 @@
 pub mod Times
 pub mod Placing
 pub mod Books
+pub mod Done
+pub mod After
