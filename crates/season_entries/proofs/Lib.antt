@@ -3,3 +3,4 @@ pub mod Placing
 pub mod Books
 pub mod Done
 pub mod After
+pub mod Keyed

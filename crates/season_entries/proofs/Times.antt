@@ -5,7 +5,7 @@ use Rattle.manager_book.specs.declared.manager.Manager.{Manager}
 use Rattle.manager_book.specs.Managers.{Managers, nobody, season_of}
 use Rattle.season_entries.specs.Deeds.{AreInTime, IsInTime}
 
-nothing_in_time : (next : Option ℕ) → IsInTime next []
+pub nothing_in_time : (next : Option ℕ) → IsInTime next []
 nothing_in_time None = tt
 nothing_in_time (Some g) = tt
 

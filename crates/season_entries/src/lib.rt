@@ -3,7 +3,9 @@
 
 mod deeds;
 mod judge;
+mod keys;
 mod there;
 
 pub use deeds::do_deed;
 pub use judge::judge_deed;
+pub use keys::{do_key, judge_key};
