@@ -20,6 +20,7 @@ use Rattle.season_book.specs.Hosts as hosts
 use Rattle.season_book.specs.Verdict.{key_refusal}
 use Rattle.season_entries.specs.Deeds.{AreInTime, IsInTime}
 use Rattle.season_entries.specs.Entries.{AreEntries, IsEntry}
+use Rattle.season_entries.specs.EntryLaws.{OwnersAreAlike}
 use Rattle.season_entries.specs.Keys.{StandForBooksWith, key_broken, keys_of, new_entry, new_manager}
 use Rattle.season_entries.proofs.Times.{nothing_in_time}
 
@@ -56,8 +57,11 @@ numbered key (m ∷ managers) n = ap (λ b. option_map (λ place. Entry (place +
     step true i = refl
     step false i = i
 
-pub owners_alike : (book : Managers) (bytes : List ℕ) → hosts.entry_with (keys_of book.managers) bytes ≡ option_map Entry (entry_with book bytes)
+owners_alike : (book : Managers) (bytes : List ℕ) → hosts.entry_with (keys_of book.managers) bytes ≡ option_map Entry (entry_with book bytes)
 owners_alike book bytes = ap (option_map (λ place. Entry (place + 1))) (position_from-zero (λ other. bytes_eq other bytes) (keys_of book.managers)) ∙ numbered bytes book.managers 0
+
+pub owners_of_books : OwnersAreAlike
+owners_of_books players managers entries bytes stand = ap (λ l. hosts.entry_with l bytes) (same_keys players managers.managers entries stand) ∙ owners_alike managers bytes
 
 -- the operator has it, or an entry
 taken : (operator : List ℕ) (book : Managers) (key : List ℕ) → is_some (hosts.caller_with operator (keys_of book.managers) key) ≡ (bytes_eq operator key || is_some (entry_with book key))

@@ -4,3 +4,4 @@ pub mod Books
 pub mod Done
 pub mod After
 pub mod Keyed
+pub mod Stay

@@ -4,8 +4,10 @@
 mod deeds;
 mod judge;
 mod keys;
+mod laws;
 mod there;
 
 pub use deeds::do_deed;
 pub use judge::judge_deed;
 pub use keys::{do_key, judge_key};
+pub use laws::{facts_leave_entries, moments_leave_entries, owners_are_alike};
