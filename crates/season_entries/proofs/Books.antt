@@ -31,7 +31,7 @@ entry_at players (m ∷ managers) (x ∷ entries) zero entry a e = let s : x ≡
 entry_at players (m ∷ managers) (x ∷ entries) (suc i) entry a e = entry_at players managers entries i entry a.1 e
 
 -- a number that an entry has is not 0
-slice_there : {X : Type 0} (xs : List X) (e : ℕ) (x : X) → entry_in xs e ≡ Some x → slice_get xs (e - 1) ≡ Some x
+pub slice_there : {X : Type 0} (xs : List X) (e : ℕ) (x : X) → entry_in xs e ≡ Some x → slice_get xs (e - 1) ≡ Some x
 slice_there xs e x h = by_test (e == 0) h
   where
     by_test : (b : Bool) → (if b then None else slice_get xs (e - 1)) ≡ Some x → slice_get xs (e - 1) ≡ Some x

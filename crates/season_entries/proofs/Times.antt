@@ -5,11 +5,11 @@ use Rattle.manager_book.specs.declared.manager.Manager.{Manager}
 use Rattle.manager_book.specs.Managers.{Managers, nobody, season_of}
 use Rattle.season_entries.specs.Deeds.{AreInTime, IsInTime}
 
-nothing_in_time : (next : Option ℕ) → IsInTime next []
+pub nothing_in_time : (next : Option ℕ) → IsInTime next []
 nothing_in_time None = tt
 nothing_in_time (Some g) = tt
 
-in_time_of : (next : Option ℕ) (managers : List Manager) (i : ℕ) → AreInTime next managers → IsInTime next (get_or managers i nobody).season
+pub in_time_of : (next : Option ℕ) (managers : List Manager) (i : ℕ) → AreInTime next managers → IsInTime next (get_or managers i nobody).season
 in_time_of next [] i a = nothing_in_time next
 in_time_of next (m ∷ managers) zero a = a.0
 in_time_of next (m ∷ managers) (suc i) a = in_time_of next managers i a.1

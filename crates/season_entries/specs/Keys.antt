@@ -1,5 +1,5 @@
 -- New entries by the keys that managers have.
-use Rattle.std.specs.Prelude.{◌≡◌, ◌++◌, ℕ, List, [], ◌∷◌, length, map, not, Option, is_some, nat_lt}
+use Rattle.std.specs.Prelude.{◌≡◌, ◌++◌, ℕ, List, [], ◌∷◌, length, map, not, Option, Result, is_some, nat_lt}
 use Rattle.fpl_base.specs.declared.rule.Rule.{Rule}
 use Rattle.fpl_base.specs.declared.rule.Rule.TheVariants as rule
 use Rattle.rule_book.specs.declared.player.Player.{Player}
@@ -22,6 +22,11 @@ key_broken operator managers key =
     unless (nat_lt (length managers) most_entries) rule.EntriesFull
     ∷ unless (not (is_some (caller_with operator (keys_of managers) key))) rule.KeyThere
     ∷ [])
+
+-- a key was judged as each book says for which the managers stand
+abbrev pub IsKeyJudgedByBooks : {T : Type 0} → List ℕ → List Manager → List ℕ → Result T Rule → Type 0
+IsKeyJudgedByBooks operator managers key judged = (players : List Player) (entries : List EntryFacts)
+    → AreEntries players managers entries → IsJudged (key_refusal operator entries key) judged
 
 -- a new manager, who did nothing yet, and the entry for which he stands
 abbrev pub new_manager : List ℕ → List ℕ → Manager

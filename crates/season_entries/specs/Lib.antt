@@ -1,3 +1,4 @@
 pub mod Entries
 pub mod Deeds
 pub mod Keys
+pub mod EntryLaws

@@ -1,7 +1,13 @@
 //! The commands of managers: what refuses each, and what each changes.
 #![tactic(auto)]
 
+mod deeds;
 mod judge;
+mod keys;
+mod laws;
 mod there;
 
+pub use deeds::do_deed;
 pub use judge::judge_deed;
+pub use keys::{do_key, judge_key};
+pub use laws::{facts_leave_entries, moments_leave_entries, owners_are_alike};

@@ -17,12 +17,7 @@ fn are_there(season: &Season, players: &[PlayerId]) -> bool
 }
 
 // Whether fifteen players are there, and two of them.
-fn has_players(
-    season: &Season,
-    players: &[PlayerId; 15],
-    captain: PlayerId,
-    vice: PlayerId,
-) -> bool
+fn has_players(season: &Season, players: &[PlayerId; 15], captain: PlayerId, vice: PlayerId) -> bool
     ensures { result ≡ has_players season.now players.now captain vice }
 {
     are_there(season, players) && (season.has_player(captain) && season.has_player(vice))

@@ -1,0 +1,164 @@
+-- Changes of the facts leave the entries.
+use Rattle.std.proofs.Common.{◌≡◌, ◌≢◌, ◌<◌, ◌≤◌, ◌+◌, ◌-◌, ◌++◌, ◌∷◌, [], ◌⊎◌, ℕ, zero, suc, Bool, true, false, cond, List, Option, Some, None, is_some, length, map, max, filter, set, get_or, arith, refl, sym, ap, ◌∙◌, subst, ⊎_elim, nat_eq, nat_lt, nat_le, if◌then◌else◌}
+use Rattle.std.specs.List.{All, AllByRecursion as Each}
+use Rattle.std.proofs.lemmas.Bool.Decides.{nat_tests}
+use Rattle.std.proofs.lemmas.Bool.{cases_eq, cases_lt}
+use Rattle.std.proofs.lemmas.List.{length-set}
+use Rattle.std.proofs.lemmas.List.Elements.{All-head, All-tail}
+use Rattle.fpl_base.specs.declared.kinds.Position.{Position}
+use Rattle.fpl_base.specs.declared.rule.Rule.TheVariants as rules
+use Rattle.rule_book.specs.declared.player.Player.{Player}
+use Rattle.rule_book.specs.Batch.{HavePositions}
+use Rattle.rule_book.specs.Calendar.{CalendarFacts, next_gameweek, passed_deadlines}
+use Rattle.rule_book.specs.Players.{most_players, player_of, player_refusal, price_refusal, with_change, with_player}
+use Rattle.season_ledger.specs.declared.row.Row.{Row}
+use Rattle.season_ledger.specs.Rows.{AllUpTo}
+use Rattle.manager_book.specs.declared.manager.Manager.{Manager}
+use Rattle.season_book.specs.Book.{EntryFacts, Facts}
+use Rattle.season_book.specs.Commands.{changed_by}
+use Rattle.season_book.specs.Doing.{IsGranted}
+use Rattle.season_book.specs.declared.command.Command.{Command}
+use Rattle.season_book.specs.declared.command.Command.TheVariants as command
+use Rattle.season_entries.specs.Deeds.{AreInTime, IsInTime}
+use Rattle.season_entries.specs.Entries.{AreEntries, IsEntry}
+use Rattle.season_entries.specs.EntryLaws.{EntriesStay, FactsLeaveEntries, MomentsLeaveEntries}
+
+-- all, in both words
+all_each : {A : Type 0} (P : A → Type 0) (xs : List A) → All P xs → Each P xs
+all_each P [] a = tt
+all_each P (x ∷ xs) a = (All-head P x xs a, all_each P xs (All-tail P x xs a))
+
+each_all : {A : Type 0} (P : A → Type 0) (xs : List A) → Each P xs → All P xs
+each_all P [] a i d l = absurd (omega arith)
+each_all P (x ∷ xs) a zero d l = a.0
+each_all P (x ∷ xs) a (suc i) d l = each_all P xs a.1 i d (omega (arith, l))
+
+abbrev IsAt : (ℕ → Position) → Player → Type 0
+IsAt position p = p.position ≡ position p.id
+
+-- the players were where they are, a new one aside
+parts : {A : Type 0} (P : A → Type 0) (xs : List A) (y : A) (ys : List A) → Each P (xs ++ y ∷ ys) → Each P xs × Each P ys
+parts P [] y ys a = (tt, a.1)
+parts P (x ∷ xs) y ys a = let r = parts P xs y ys a.1 in ((a.0, r.0), r.1)
+
+joined : (P : Player → Type 0) (players : List Player) (id : ℕ) → player_of players id ≡ None → Each P (filter (λ p. nat_lt p.id id) players) → Each P (filter (λ p. nat_lt id p.id) players) → Each P players
+joined P [] id none below above = tt
+joined P (p ∷ players) id none below above = ⊎_elim
+    (λ (q : p.id ≡ id). let t : nat_eq p.id id ≡ true = grind (arith, nat_tests) in let bad : Some p ≡ None = rw t at none in cc)
+    (λ (n : p.id ≢ id). let t : nat_eq p.id id ≡ false = grind (arith, nat_tests) in let rest : player_of players id ≡ None = rw t at none in ⊎_elim
+    (λ (lt : p.id < id). let u : nat_lt p.id id ≡ true = grind (arith, nat_tests) in let v : nat_lt id p.id ≡ false = grind (arith, nat_tests) in
+    let b : Each P (p ∷ filter (λ p. nat_lt p.id id) players) = rw u at below in let a : Each P (filter (λ p. nat_lt id p.id) players) = rw v at above in (b.0, joined P players id rest b.1 a))
+    (λ (le : id ≤ p.id). let u : nat_lt p.id id ≡ false = grind (arith, nat_tests) in let v : nat_lt id p.id ≡ true = grind (arith, nat_tests, n) in
+    let b : Each P (filter (λ p. nat_lt p.id id) players) = rw u at below in let a : Each P (p ∷ filter (λ p. nat_lt id p.id) players) = rw v at above in (a.0, joined P players id rest b a.1))
+    (cases_lt p.id id))
+    (cases_eq p.id id)
+
+new_there : (players : List Player) (new : Player) → player_refusal players new ≡ None → player_of players new.id ≡ None
+new_there players new e = by_player (player_of players new.id) e
+  where
+    by_player : (o : Option Player) → (if is_some o then Some (rules.PlayerThere new.id) else (if nat_le most_players (length players) then Some rules.PlayersFull else price_refusal new.price)) ≡ None → o ≡ None
+    by_player None e = refl
+    by_player (Some p) e = cc
+
+with_new : (position : ℕ → Position) (players : List Player) (new : Player) → player_refusal players new ≡ None → HavePositions position (with_player players new) → HavePositions position players
+with_new position players new e have =
+    let b = parts (IsAt position) (filter (λ p. nat_lt p.id new.id) players) new (filter (λ p. nat_lt new.id p.id) players) (all_each (IsAt position) (with_player players new) have) in
+    each_all (IsAt position) players (joined (IsAt position) players new.id (new_there players new e) b.0 b.1)
+
+-- a change that keeps ids and positions
+with_changed : (position : ℕ → Position) (change : Player → Player) (players : List Player) (id : ℕ) → ((p : Player) → IsAt position (change p) → IsAt position p) → HavePositions position (with_change change players id) → HavePositions position players
+with_changed position change players id back have = each_all (IsAt position) players (walk players (all_each (IsAt position) (with_change change players id) have))
+  where
+    one : (p : Player) (b : Bool) → IsAt position (cond b (change p) p) → IsAt position p
+    one p true a = back p a
+    one p false a = a
+
+    walk : (ps : List Player) → Each (IsAt position) (with_change change ps id) → Each (IsAt position) ps
+    walk [] a = tt
+    walk (p ∷ ps) a = (one p (nat_eq p.id id) a.0, walk ps a.1)
+
+-- entries stay where positions do
+entries_stay : (old new : List Player) (managers : List Manager) (entries : List EntryFacts) → ((position : ℕ → Position) → HavePositions position new → HavePositions position old) → AreEntries old managers entries → AreEntries new managers entries
+entries_stay old new [] [] back a = tt
+entries_stay old new [] (x ∷ entries) back a = absurd a
+entries_stay old new (m ∷ managers) [] back a = absurd a
+entries_stay old new (m ∷ managers) (x ∷ entries) back a =
+    (record { key = a.0.key; name = a.0.name; history = λ position have. a.0.history position (back position have) }, entries_stay old new managers entries back a.1)
+
+-- the next gameweek stays, or a later one comes
+rows_stay : (g k : ℕ) (rows : List Row) → g ≤ k → AllUpTo g rows → AllUpTo k rows
+rows_stay g k [] le up = tt
+rows_stay g k (r ∷ rows) le up = ((omega (arith, le, up.0)), rows_stay g k rows le up.1)
+
+abbrev FollowsOn : Option ℕ → Option ℕ → Type 0
+FollowsOn next None = Unit {0}
+FollowsOn None (Some k) = ⊥
+FollowsOn (Some g) (Some k) = g ≤ k
+
+row_in_time : (next later : Option ℕ) (rows : List Row) → FollowsOn next later → IsInTime next rows → IsInTime later rows
+row_in_time None None rows f a = tt
+row_in_time None (Some k) rows f a = absurd f
+row_in_time (Some g) None rows f a = tt
+row_in_time (Some g) (Some k) rows f a = rows_stay g k rows f a
+
+in_time_stays : (next later : Option ℕ) (managers : List Manager) → FollowsOn next later → AreInTime next managers → AreInTime later managers
+in_time_stays next later [] f a = tt
+in_time_stays next later (m ∷ managers) f a = (row_in_time next later m.season f a.0, in_time_stays next later managers f a.1)
+
+passed : (locked more gameweeks : ℕ) → FollowsOn (cond (nat_lt locked gameweeks) (Some (locked + 1)) None) (cond (nat_lt (max locked more) gameweeks) (Some (max locked more + 1)) None)
+passed locked more gameweeks = ⊎_elim
+    (λ (lt : locked < gameweeks). let t : nat_lt locked gameweeks ≡ true = grind (arith, nat_tests) in rw t (by_later (nat_lt (max locked more) gameweeks)))
+    (λ (le : gameweeks ≤ locked). let t : nat_lt locked gameweeks ≡ false = grind (arith, nat_tests) in
+    let w : locked ≤ max locked more = omega arith in let u : nat_lt (max locked more) gameweeks ≡ false = grind (arith, nat_tests) in rw (t, u) tt)
+    (cases_lt locked gameweeks)
+  where
+    by_later : (b : Bool) → FollowsOn (Some (locked + 1)) (cond b (Some (max locked more + 1)) None)
+    by_later true = omega arith
+    by_later false = tt
+
+pub moments_leave_entries : MomentsLeaveEntries
+moments_leave_entries facts now managers a = in_time_stays (next_gameweek facts.calendar) _ managers
+    (passed facts.calendar.locked (passed_deadlines facts.calendar.deadlines now) (length facts.calendar.deadlines)) a
+
+-- a new deadline leaves the next gameweek
+deadline_set : (c : CalendarFacts) (g t : ℕ) → length (set c.deadlines (g - 1) t) ≡ length c.deadlines
+deadline_set c g t = length-set c.deadlines (g - 1) t
+
+pub facts_leave_entries : FactsLeaveEntries
+facts_leave_entries facts now (command.Player id name position club price) managers granted = record {
+  books = λ entries a. entries_stay facts.players _ managers entries (λ where_at have. with_new where_at facts.players _ granted.unbroken have) a;
+  later = λ a. a;
+}
+facts_leave_entries facts now (command.Price p price) managers granted = record {
+  books = λ entries a. entries_stay facts.players _ managers entries (λ position have. with_changed position (λ q. record q { price = price }) facts.players p (λ q at. at) have) a;
+  later = λ a. a;
+}
+facts_leave_entries facts now (command.Club p club) managers granted = record {
+  books = λ entries a. entries_stay facts.players _ managers entries (λ position have. with_changed position (λ q. record q { club = club }) facts.players p (λ q at. at) have) a;
+  later = λ a. a;
+}
+facts_leave_entries facts now (command.Gone p gone) managers granted = record {
+  books = λ entries a. entries_stay facts.players _ managers entries (λ position have. with_changed position (λ q. record q { gone = gone }) facts.players p (λ q at. at) have) a;
+  later = λ a. a;
+}
+facts_leave_entries facts now (command.Deadline g t) managers granted = record {
+  books = λ entries a. a;
+  later = λ a. subst (λ n. AreInTime (if nat_lt facts.calendar.locked n then Some (facts.calendar.locked + 1) else None) managers) (sym (deadline_set facts.calendar g t)) a;
+}
+facts_leave_entries facts now (command.Season a b c d) managers granted = record { books = λ entries x. x; later = λ x. x }
+facts_leave_entries facts now (command.Fixture a b c d e) managers granted = record { books = λ entries x. x; later = λ x. x }
+facts_leave_entries facts now (command.Move a b c) managers granted = record { books = λ entries x. x; later = λ x. x }
+facts_leave_entries facts now (command.Sheet a b c) managers granted = record { books = λ entries x. x; later = λ x. x }
+facts_leave_entries facts now (command.Line a b c) managers granted = record { books = λ entries x. x; later = λ x. x }
+facts_leave_entries facts now (command.Drop a b) managers granted = record { books = λ entries x. x; later = λ x. x }
+facts_leave_entries facts now (command.Finished a b) managers granted = record { books = λ entries x. x; later = λ x. x }
+facts_leave_entries facts now (command.Key a b) managers granted = record { books = λ entries x. x; later = λ x. x }
+facts_leave_entries facts now (command.Squad a b c) managers granted = record { books = λ entries x. x; later = λ x. x }
+facts_leave_entries facts now (command.Transfers a) managers granted = record { books = λ entries x. x; later = λ x. x }
+facts_leave_entries facts now (command.Lineup a b c) managers granted = record { books = λ entries x. x; later = λ x. x }
+facts_leave_entries facts now (command.Chip a) managers granted = record { books = λ entries x. x; later = λ x. x }
+facts_leave_entries facts now command.CancelChip managers granted = record { books = λ entries x. x; later = λ x. x }
+facts_leave_entries facts now (command.League a b c d) managers granted = record { books = λ entries x. x; later = λ x. x }
+facts_leave_entries facts now (command.Join a b) managers granted = record { books = λ entries x. x; later = λ x. x }
+facts_leave_entries facts now (command.Draw a b) managers granted = record { books = λ entries x. x; later = λ x. x }
+facts_leave_entries facts now (command.Cup a b c) managers granted = record { books = λ entries x. x; later = λ x. x }

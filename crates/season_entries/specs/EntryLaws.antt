@@ -1,0 +1,40 @@
+-- What changes of a season leave of its entries, and whose keys are.
+use Rattle.std.specs.Prelude.{◌≡◌, ℕ, List, Option}
+use Rattle.std.specs.Option.{option_map}
+use Rattle.fpl_base.specs.declared.kinds.Caller.{Caller}
+use Rattle.fpl_base.specs.declared.kinds.Caller.TheVariants.{Entry}
+use Rattle.rule_book.specs.declared.player.Player.{Player}
+use Rattle.rule_book.specs.Calendar.{next_gameweek}
+use Rattle.manager_book.specs.declared.manager.Manager.{Manager}
+use Rattle.manager_book.specs.Managers.{Managers, entry_with}
+use Rattle.season_book.specs.Book.{EntryFacts, Facts}
+use Rattle.season_book.specs.Commands.{changed_by}
+use Rattle.season_book.specs.Doing.{IsGranted}
+use Rattle.season_book.specs.Hosts as hosts
+use Rattle.season_book.specs.Verdict.{locked_at}
+use Rattle.season_book.specs.declared.command.Command.{Command}
+use Rattle.season_entries.specs.Deeds.{AreInTime}
+use Rattle.season_entries.specs.Entries.{AreEntries}
+
+-- behind a command on the facts the managers stand for the same entries, and nothing was done later than the next
+-- gameweek
+pub record EntriesStay (facts : Facts) (command : Command) (managers : List Manager) : Type 0 where
+  pub books : (entries : List EntryFacts) → AreEntries facts.players managers entries
+      → AreEntries (changed_by facts command).players managers entries
+  pub later : AreInTime (next_gameweek facts.calendar) managers
+      → AreInTime (next_gameweek (changed_by facts command).calendar) managers
+
+abbrev pub FactsLeaveEntries : Type 0
+FactsLeaveEntries = (facts : Facts) (now : ℕ) (command : Command) (managers : List Manager)
+    → IsGranted facts now command → EntriesStay facts command managers
+
+-- when a moment was told, nothing was done later than the next gameweek either
+abbrev pub MomentsLeaveEntries : Type 0
+MomentsLeaveEntries = (facts : Facts) (now : ℕ) (managers : List Manager)
+    → AreInTime (next_gameweek facts.calendar) managers → AreInTime (next_gameweek (locked_at now facts).calendar) managers
+
+-- whose key bytes are among the entries of a book, the managers say who stand for them
+abbrev pub OwnersAreAlike : Type 0
+OwnersAreAlike = (players : List Player) (managers : Managers) (entries : List EntryFacts) (bytes : List ℕ)
+    → AreEntries players managers.managers entries
+    → hosts.entry_with (hosts.keys_of entries) bytes ≡ option_map Entry (entry_with managers bytes)
