@@ -1,6 +1,6 @@
 -- What views show of entries, computed anew from their histories and the facts.
 use Rattle.std.specs.Prelude.{ℕ, ℤ, ◌+◌, ◌-◌, Bool, ◌&&◌, List, Option, Some, None, length, map, min, nat_le, slice_get, if◌then◌else◌}
-use Rattle.std.specs.Option.{option_and_then, option_map_or}
+use Rattle.std.specs.Option.{option_and_then, option_map, unwrap_or}
 use Rattle.rule_book.specs.declared.team.Pick.{Pick}
 use Rattle.rule_book.specs.declared.team.Team.{Team}
 use Rattle.rule_book.specs.declared.team_score.TeamScore.{TeamScore}
@@ -35,9 +35,13 @@ pick_shown players pick = record {
   sell = selling_price pick.bought (price_of players pick.player);
 }
 
--- the player in a slot
+-- the player at a place, from 0
+abbrev pub player_at : List Pick → ℕ → Option ℕ
+player_at picks place = option_map (λ pick. pick.player) (slice_get picks place)
+
+-- the player in a slot; the first where the team has no such slot
 abbrev pub player_in_slot : List Pick → ℕ → ℕ
-player_in_slot picks slot = option_map_or (λ pick. pick.player) (slice_get picks (slot - 1)) 0
+player_in_slot picks slot = unwrap_or (player_at picks (slot - 1)) (unwrap_or (player_at picks 0) 0)
 
 -- the score of a history in a gameweek of a season
 abbrev pub score_by : Facts → List Event → ℕ → TeamScore

@@ -38,3 +38,7 @@ row_at xs ys i x d within paired is_x =
     let inside : i < length ys = omega arith in
     ap (λ b. (x, b)) (read_again ys i d inside) ∙ ap (λ a. (a, get_or ys i y)) is_x
     ∙ sym (get_or-zip xs ys i (x, y) within inside)
+
+-- a list whose first n are made of the first n of another, where neither has more
+pub made_whole : {X Y : Type 0} (f : X → Y) (xs : List X) (ys : List Y) (n : ℕ) → length xs ≤ n → length ys ≤ n → take n ys ≡ map f (take n xs) → ys ≡ map f xs
+made_whole f xs ys n short also made = sym (take_all n ys also) ∙ made ∙ ap (map f) (take_all n xs short)

@@ -3,6 +3,7 @@ ghost use Rattle.std.specs.Prelude.{◌≡◌, ◌<◌, ◌≤◌, ◌≤ℤ◌,
 ghost use Rattle.rule_book.specs.Calendar.{standing};
 ghost use Rattle.rule_book.specs.Figures.{IsLine};
 ghost use Rattle.rule_book.specs.PlayerFigures.{bonus_at, played_with, points_at};
+ghost use Rattle.rule_book.specs.TeamScores.{IsModest};
 ghost use Rattle.season_views.specs.Worth.{gameweek_figures, with_line, with_fixture, AreModest};
 
 use crate::sheets::{bonus_among, levels_of, number_of};
@@ -19,7 +20,8 @@ pub(crate) fn gameweek_figures<L: Ledger>(
     gameweek: Gw,
     steps: &mut Steps<L>,
 ) -> Figures
-    ensures { result ≡ gameweek_figures season.now player gameweek }
+    ensures value { result ≡ gameweek_figures season.now player gameweek }
+    ensures modest { IsModest result }
 {
     let mut figures = Figures {
         points: 0,

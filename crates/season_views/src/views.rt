@@ -108,7 +108,7 @@ fn gameweek_shown<L: Ledger>(
 }
 
 // The gameweek of this number, if it is locked.
-fn locked_gameweek(season: &Season, number: u32) -> Option<Gw>
+pub(crate) fn locked_gameweek(season: &Season, number: u32) -> Option<Gw>
     ensures { result ≡ (if nat_le 1 number && is_locked season.now.calendar number then Some number else None) }
 {
     if number >= 1 && number <= u32::from(season.calendar().locked()) {

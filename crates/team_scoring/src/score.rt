@@ -1,5 +1,6 @@
 // What a team scores in a gameweek.
 ghost use Rattle.std.specs.Prelude.{◌≡◌, ◌≤◌, ◌≤ℤ◌, ◌*ℤ◌, pos, negsuc, length, All, IfSome, sum_by};
+ghost use Rattle.rule_book.specs.FigureRange.{IsWithin};
 ghost use Rattle.rule_book.specs.TeamScores.{IsModest, IsScore, goals_at, conceded_at, points_of_slots, counting, extra_points};
 
 use crate::bands::wearer;
@@ -94,7 +95,8 @@ fn extra_points(figures: &[Figures; 15], armband: Option<Armband>) -> i32
 pub fn team_score(team: &Team, figures: &[Figures; 15], ended: bool, cost: u32) -> TeamScore
     requires modest { All IsModest figures.now }
     requires cost { cost ≤ 1000000 }
-    ensures { IsScore team.now figures.now ended cost result }
+    ensures score { IsScore team.now figures.now ended cost result }
+    ensures near { IsWithin 18000000 result.net }
 {
     let eleven = final_eleven(team, figures, ended);
     let armband = wearer(team, figures, ended);

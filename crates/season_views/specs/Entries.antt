@@ -1,0 +1,46 @@
+-- What is shown of an entry by what its rows tell, and what histories the rows stand for.
+use Rattle.std.specs.Prelude.{ℕ, ℤ, List, Option, map}
+use Rattle.rule_book.specs.declared.team.Team.{Team}
+use Rattle.rule_book.specs.declared.team_score.TeamScore.{TeamScore}
+use Rattle.rule_book.specs.Calendar.{next_gameweek}
+use Rattle.rule_book.specs.EntryScores.{score_in}
+use Rattle.rule_book.specs.History.{Event}
+use Rattle.rule_book.specs.PlayerFigures.{position_in}
+use Rattle.season_ledger.specs.Stands.{StandsFor}
+use Rattle.manager_book.specs.Managers.{Managers, season_of}
+use Rattle.season_book.specs.Book.{Facts}
+use Rattle.season_book.specs.EntryViews.{pick_shown, player_in_slot}
+use Rattle.season_book.specs.declared.shown.ShownEntryGameweek.{ShownEntryGameweek}
+use Rattle.season_book.specs.declared.shown.ShownMe.{ShownMe}
+
+-- this holds of each history that an entry's rows stand for, where its players play as they do in the season
+abbrev pub OfEachHistory : Facts → Managers → ℕ → (List Event → Type 0) → Type 0
+OfEachHistory facts managers e Holds = (h : List Event) → StandsFor (position_in facts.players) (season_of managers e) h → Holds h
+
+-- the score of a team in a gameweek of a season in which its transfers cost so much
+abbrev pub score_with : Facts → Team → ℕ → ℕ → TeamScore
+score_with facts team cost g = score_in facts.profile facts.calendar facts.players facts.matches team cost g
+
+-- what an entry's team scored in a gameweek
+abbrev pub gameweek_with : Facts → Team → ℕ → ℕ → ShownEntryGameweek
+gameweek_with facts team cost g = record {
+  players = map (λ pick. pick.player) team.picks;
+  chip = team.chip;
+  score = score_with facts team cost g;
+}
+
+-- what a manager sees of his entry, with this team, free transfers, cost and total
+abbrev pub me_with : Facts → ℕ → ℕ → Team → Option ℕ → ℕ → ℤ → ShownMe
+me_with facts e last team free cost total = record {
+  entry = e;
+  last = last;
+  gameweek = next_gameweek facts.calendar;
+  players = map (pick_shown facts.players) team.picks;
+  captain = player_in_slot team.picks team.captain;
+  vice = player_in_slot team.picks team.vice;
+  bank = team.bank;
+  chip = team.chip;
+  free = free;
+  cost = cost;
+  total = total;
+}
