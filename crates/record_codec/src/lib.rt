@@ -14,3 +14,6 @@ pub use item::Item;
 pub use laws::{commands_have_their_bytes, keys_are_of_slots, records_have_one_spelling};
 pub use slot::Slot;
 pub use writing::{command_bytes, encode};
+
+#[cfg(test)]
+mod tests;
