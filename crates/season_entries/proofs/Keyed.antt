@@ -57,7 +57,7 @@ numbered key (m ∷ managers) n = ap (λ b. option_map (λ place. Entry (place +
     step true i = refl
     step false i = i
 
-owners_alike : (book : Managers) (bytes : List ℕ) → hosts.entry_with (keys_of book.managers) bytes ≡ option_map Entry (entry_with book bytes)
+pub owners_alike : (book : Managers) (bytes : List ℕ) → hosts.entry_with (keys_of book.managers) bytes ≡ option_map Entry (entry_with book bytes)
 owners_alike book bytes = ap (option_map (λ place. Entry (place + 1))) (position_from-zero (λ other. bytes_eq other bytes) (keys_of book.managers)) ∙ numbered bytes book.managers 0
 
 pub owners_of_books : OwnersAreAlike

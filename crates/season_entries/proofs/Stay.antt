@@ -1,9 +1,10 @@
 -- Changes of the facts leave the entries.
-use Rattle.std.proofs.Common.{◌≡◌, ◌≢◌, ◌<◌, ◌≤◌, ◌+◌, ◌-◌, ◌++◌, ◌∷◌, [], ◌⊎◌, ℕ, zero, suc, Bool, true, false, cond, List, Option, Some, None, is_some, length, map, max, filter, set, get_or, arith, refl, sym, ap, ◌∙◌, subst, ⊎_elim, nat_eq, nat_lt, nat_le, if◌then◌else◌}
+use Rattle.std.proofs.Common.{◌≡◌, ◌≢◌, ◌<◌, ◌≤◌, ◌+◌, ◌-◌, ◌++◌, ◌∷◌, [], ◌⊎◌, ℕ, zero, suc, Bool, true, false, cond, List, Option, Some, None, is_some, length, map, max, min, filter, set, get_or, arith, refl, sym, ap, ◌∙◌, subst, inl, inr, ⊎_elim, nat_eq, nat_lt, nat_le, if◌then◌else◌}
 use Rattle.std.specs.List.{All, AllByRecursion as Each}
 use Rattle.std.proofs.lemmas.Bool.Decides.{nat_tests}
 use Rattle.std.proofs.lemmas.Bool.{cases_eq, cases_lt}
 use Rattle.std.proofs.lemmas.List.{length-set}
+use Rattle.std.proofs.lemmas.Option.{none-some}
 use Rattle.std.proofs.lemmas.List.Elements.{All-head, All-tail}
 use Rattle.fpl_base.specs.declared.kinds.Position.{Position}
 use Rattle.fpl_base.specs.declared.rule.Rule.TheVariants as rules
@@ -19,9 +20,10 @@ use Rattle.season_book.specs.Commands.{changed_by}
 use Rattle.season_book.specs.Doing.{IsGranted}
 use Rattle.season_book.specs.declared.command.Command.{Command}
 use Rattle.season_book.specs.declared.command.Command.TheVariants as command
-use Rattle.season_entries.specs.Deeds.{AreInTime, IsInTime}
+use Rattle.season_book.specs.EntryViews.{gameweek_seen}
+use Rattle.season_entries.specs.Deeds.{AreInTime}
 use Rattle.season_entries.specs.Entries.{AreEntries, IsEntry}
-use Rattle.season_entries.specs.EntryLaws.{EntriesStay, FactsLeaveEntries, MomentsLeaveEntries}
+use Rattle.season_entries.specs.EntryLaws.{AreEarly, EarlyIsInTime, EntriesStay, FactsLeaveEntries, InTimeIsEarly, MomentsLeaveEntries}
 
 -- all, in both words
 all_each : {A : Type 0} (P : A → Type 0) (xs : List A) → All P xs → Each P xs
@@ -90,35 +92,47 @@ rows_stay : (g k : ℕ) (rows : List Row) → g ≤ k → AllUpTo g rows → All
 rows_stay g k [] le up = tt
 rows_stay g k (r ∷ rows) le up = ((omega (arith, le, up.0)), rows_stay g k rows le up.1)
 
-abbrev FollowsOn : Option ℕ → Option ℕ → Type 0
-FollowsOn next None = Unit {0}
-FollowsOn None (Some k) = ⊥
-FollowsOn (Some g) (Some k) = g ≤ k
+early_stays : (g k : ℕ) (managers : List Manager) → g ≤ k → AreInTime (Some g) managers → AreInTime (Some k) managers
+early_stays g k [] le a = tt
+early_stays g k (m ∷ managers) le a = (rows_stay g k m.season le a.0, early_stays g k managers le a.1)
 
-row_in_time : (next later : Option ℕ) (rows : List Row) → FollowsOn next later → IsInTime next rows → IsInTime later rows
-row_in_time None None rows f a = tt
-row_in_time None (Some k) rows f a = absurd f
-row_in_time (Some g) None rows f a = tt
-row_in_time (Some g) (Some k) rows f a = rows_stay g k rows f a
-
-in_time_stays : (next later : Option ℕ) (managers : List Manager) → FollowsOn next later → AreInTime next managers → AreInTime later managers
-in_time_stays next later [] f a = tt
-in_time_stays next later (m ∷ managers) f a = (row_in_time next later m.season f a.0, in_time_stays next later managers f a.1)
-
-passed : (locked more gameweeks : ℕ) → FollowsOn (cond (nat_lt locked gameweeks) (Some (locked + 1)) None) (cond (nat_lt (max locked more) gameweeks) (Some (max locked more + 1)) None)
-passed locked more gameweeks = ⊎_elim
-    (λ (lt : locked < gameweeks). let t : nat_lt locked gameweeks ≡ true = grind (arith, nat_tests) in rw t (by_later (nat_lt (max locked more) gameweeks)))
-    (λ (le : gameweeks ≤ locked). let t : nat_lt locked gameweeks ≡ false = grind (arith, nat_tests) in
-    let w : locked ≤ max locked more = omega arith in let u : nat_lt (max locked more) gameweeks ≡ false = grind (arith, nat_tests) in rw (t, u) tt)
-    (cases_lt locked gameweeks)
-  where
-    by_later : (b : Bool) → FollowsOn (Some (locked + 1)) (cond b (Some (max locked more + 1)) None)
-    by_later true = omega arith
-    by_later false = tt
+later_seen : (locked more gameweeks : ℕ) → min (locked + 1) gameweeks ≤ min (max locked more + 1) gameweeks
+later_seen locked more gameweeks = omega arith
 
 pub moments_leave_entries : MomentsLeaveEntries
-moments_leave_entries facts now managers a = in_time_stays (next_gameweek facts.calendar) _ managers
-    (passed facts.calendar.locked (passed_deadlines facts.calendar.deadlines now) (length facts.calendar.deadlines)) a
+moments_leave_entries facts now managers a =
+    early_stays (gameweek_seen facts.calendar) _ managers (later_seen facts.calendar.locked (passed_deadlines facts.calendar.deadlines now) (length facts.calendar.deadlines)) a
+
+-- in time and early
+
+over_in_time : (managers : List Manager) → AreInTime None managers
+over_in_time [] = tt
+over_in_time (m ∷ managers) = (tt, over_in_time managers)
+
+seen_open : (locked gameweeks : ℕ) → locked < gameweeks → min (locked + 1) gameweeks ≡ locked + 1
+seen_open locked gameweeks lt = omega (arith, lt)
+
+pub early_in_time : EarlyIsInTime
+early_in_time facts managers early = elim (cases_lt facts.calendar.locked (length facts.calendar.deadlines)) [
+  | inl lt ↦
+      let t : nat_lt facts.calendar.locked (length facts.calendar.deadlines) ≡ true = grind (arith, nat_tests) in
+      subst (λ b. AreInTime (cond b (Some (facts.calendar.locked + 1)) None) managers) (sym t)
+      (subst (λ g. AreInTime (Some g) managers) (seen_open facts.calendar.locked (length facts.calendar.deadlines) lt) early)
+  | inr le ↦
+      let t : nat_lt facts.calendar.locked (length facts.calendar.deadlines) ≡ false = grind (arith, nat_tests) in
+      subst (λ b. AreInTime (cond b (Some (facts.calendar.locked + 1)) None) managers) (sym t) (over_in_time managers)
+]
+
+open_next : (b : Bool) (n g : ℕ) → cond b (Some n) None ≡ Some g → b ≡ true
+open_next true n g is = refl
+open_next false n g is = absurd (none-some g is)
+
+pub in_time_early : InTimeIsEarly
+in_time_early facts g managers is in_time =
+    let t : nat_lt facts.calendar.locked (length facts.calendar.deadlines) ≡ true = open_next (nat_lt facts.calendar.locked (length facts.calendar.deadlines)) (facts.calendar.locked + 1) g is in
+    let lt : facts.calendar.locked < length facts.calendar.deadlines = grind (arith, nat_tests, t) in
+    subst (λ n. AreInTime (Some n) managers) (sym (seen_open facts.calendar.locked (length facts.calendar.deadlines) lt))
+    (subst (λ b. AreInTime (cond b (Some (facts.calendar.locked + 1)) None) managers) t in_time)
 
 -- a new deadline leaves the next gameweek
 deadline_set : (c : CalendarFacts) (g t : ℕ) → length (set c.deadlines (g - 1) t) ≡ length c.deadlines
@@ -143,7 +157,7 @@ facts_leave_entries facts now (command.Gone p gone) managers granted = record {
 }
 facts_leave_entries facts now (command.Deadline g t) managers granted = record {
   books = λ entries a. a;
-  later = λ a. subst (λ n. AreInTime (if nat_lt facts.calendar.locked n then Some (facts.calendar.locked + 1) else None) managers) (sym (deadline_set facts.calendar g t)) a;
+  later = λ a. subst (λ n. AreInTime (Some (min (facts.calendar.locked + 1) n)) managers) (sym (deadline_set facts.calendar g t)) a;
 }
 facts_leave_entries facts now (command.Season a b c d) managers granted = record { books = λ entries x. x; later = λ x. x }
 facts_leave_entries facts now (command.Fixture a b c d e) managers granted = record { books = λ entries x. x; later = λ x. x }

@@ -1,5 +1,5 @@
 // What follows from the definitions alone.
-ghost use Rattle.season_entries.specs.EntryLaws.{FactsLeaveEntries, MomentsLeaveEntries, OwnersAreAlike};
+ghost use Rattle.season_entries.specs.EntryLaws.{EarlyIsInTime, FactsLeaveEntries, InTimeIsEarly, ManagersOwnTheirKeys, MomentsLeaveEntries, OwnersAreAlike};
 
 /// A law: a command on the facts leaves the entries, and when their managers can act.
 pub fn facts_leave_entries()
@@ -13,5 +13,13 @@ pub fn moments_leave_entries()
 
 /// A law: the entry that has a key is that of the manager who has it.
 pub fn owners_are_alike()
-    ensures { OwnersAreAlike }
+    ensures books { OwnersAreAlike }
+    ensures rows { ManagersOwnTheirKeys }
+{}
+
+/// A law: where nothing was done later than the next gameweek or the last, the managers are in time, and where a gameweek
+/// is open the two are one.
+pub fn early_is_in_time()
+    ensures in_time { EarlyIsInTime }
+    ensures early { InTimeIsEarly }
 {}

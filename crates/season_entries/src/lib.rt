@@ -10,4 +10,4 @@ mod there;
 pub use deeds::do_deed;
 pub use judge::judge_deed;
 pub use keys::{do_key, judge_key};
-pub use laws::{facts_leave_entries, moments_leave_entries, owners_are_alike};
+pub use laws::{early_is_in_time, facts_leave_entries, moments_leave_entries, owners_are_alike};
