@@ -5,3 +5,4 @@ pub mod Done
 pub mod After
 pub mod Keyed
 pub mod Stay
+pub mod Issued

@@ -1,12 +1,13 @@
 -- What changes of a season leave of its entries, and whose keys are.
-use Rattle.std.specs.Prelude.{◌≡◌, ℕ, List, Some}
+use Rattle.std.specs.Prelude.{◌≡◌, ◌≤◌, ◌<◌, ℕ, List, Some, None, length}
 use Rattle.std.specs.Option.{option_map}
 use Rattle.fpl_base.specs.declared.kinds.Caller.{Caller}
 use Rattle.fpl_base.specs.declared.kinds.Caller.TheVariants.{Entry}
 use Rattle.rule_book.specs.declared.player.Player.{Player}
 use Rattle.rule_book.specs.Calendar.{next_gameweek}
+use Rattle.rule_book.specs.Entries.{entry_in}
 use Rattle.manager_book.specs.declared.manager.Manager.{Manager}
-use Rattle.manager_book.specs.Managers.{Managers, entry_with}
+use Rattle.manager_book.specs.Managers.{Managers, entry_with, manager_in}
 use Rattle.season_book.specs.Book.{EntryFacts, Facts}
 use Rattle.season_book.specs.Commands.{changed_by}
 use Rattle.season_book.specs.Doing.{IsGranted}
@@ -15,7 +16,7 @@ use Rattle.season_book.specs.Hosts as hosts
 use Rattle.season_book.specs.Verdict.{locked_at}
 use Rattle.season_book.specs.declared.command.Command.{Command}
 use Rattle.season_entries.specs.Deeds.{AreInTime}
-use Rattle.season_entries.specs.Entries.{AreEntries}
+use Rattle.season_entries.specs.Entries.{AreEntries, IsEntry}
 use Rattle.season_entries.specs.Keys.{keys_of}
 
 -- nothing was done in a later gameweek than the next, or than the last where all are locked
@@ -56,3 +57,12 @@ OwnersAreAlike = (players : List Player) (managers : Managers) (entries : List E
 abbrev pub ManagersOwnTheirKeys : Type 0
 ManagersOwnTheirKeys = (managers : Managers) (bytes : List ℕ)
     → hosts.entry_with (keys_of managers.managers) bytes ≡ option_map Entry (entry_with managers bytes)
+
+-- an entry of a book is there exactly where a manager stands for it
+pub record IsIssued (players : List Player) (managers : List Manager) (entries : List EntryFacts) (e : ℕ) : Type 0 where
+  pub there : 1 ≤ e → e ≤ length managers → (entry : EntryFacts) × (entry_in entries e ≡ Some entry) × IsEntry players (manager_in managers e) entry
+  pub none : length managers < e → entry_in entries e ≡ None
+
+abbrev pub EntriesAreIssued : Type 0
+EntriesAreIssued = (players : List Player) (managers : List Manager) (entries : List EntryFacts) (e : ℕ)
+    → AreEntries players managers entries → IsIssued players managers entries e

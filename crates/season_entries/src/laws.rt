@@ -1,5 +1,5 @@
 // What follows from the definitions alone.
-ghost use Rattle.season_entries.specs.EntryLaws.{EarlyIsInTime, FactsLeaveEntries, InTimeIsEarly, ManagersOwnTheirKeys, MomentsLeaveEntries, OwnersAreAlike};
+ghost use Rattle.season_entries.specs.EntryLaws.{EarlyIsInTime, EntriesAreIssued, FactsLeaveEntries, InTimeIsEarly, ManagersOwnTheirKeys, MomentsLeaveEntries, OwnersAreAlike};
 
 /// A law: a command on the facts leaves the entries, and when their managers can act.
 pub fn facts_leave_entries()
@@ -22,4 +22,9 @@ pub fn owners_are_alike()
 pub fn early_is_in_time()
     ensures in_time { EarlyIsInTime }
     ensures early { InTimeIsEarly }
+{}
+
+/// A law: an entry of a book is there exactly where a manager stands for it.
+pub fn entries_are_issued()
+    ensures { EntriesAreIssued }
 {}

@@ -10,4 +10,7 @@ mod there;
 pub use deeds::do_deed;
 pub use judge::judge_deed;
 pub use keys::{do_key, judge_key};
-pub use laws::{early_is_in_time, facts_leave_entries, moments_leave_entries, owners_are_alike};
+pub use laws::{
+    early_is_in_time, entries_are_issued, facts_leave_entries, moments_leave_entries,
+    owners_are_alike,
+};

@@ -1,2 +1,2 @@
-mod AnswerFacts
-mod LastFacts
+pub mod AnswerFacts
+pub mod LastFacts

@@ -3,14 +3,13 @@ use Rattle.std.specs.Prelude.{◌≡◌, ℕ, List, [], Option, Some, None, map}
 use Rattle.std.specs.Option.{option_map, option_map_or}
 use Rattle.fpl_base.specs.declared.kinds.Caller.{Caller}
 use Rattle.rule_book.specs.declared.player.Player.{Player}
-use Rattle.rule_book.specs.Calendar.{next_gameweek}
 use Rattle.manager_book.specs.declared.manager.Manager.{Manager}
 use Rattle.manager_book.specs.Managers.{Managers}
 use Rattle.rule_book.specs.ById.{at_id}
 use Rattle.season_book.specs.Book.{Book, Facts, Last, caller_number}
 use Rattle.season_book.specs.Hosts.{HostState, number_in}
 use Rattle.season_book.specs.Verdict.{locked_at}
-use Rattle.season_entries.specs.Deeds.{AreInTime}
+use Rattle.season_entries.specs.EntryLaws.{AreEarly}
 use Rattle.season_entries.specs.Entries.{AreEntries}
 
 -- A season with its entries.
@@ -20,10 +19,10 @@ pub record Running : Type 0 where
   pub facts : Facts
   pub managers : List Manager
 
--- the managers play by the season's rules, and did nothing for a gameweek behind the next one
+-- the managers play by the season's rules, and did nothing for a gameweek behind the next one or the last
 pub record InStep (facts : Facts) (book : Managers) : Type 0 where
   pub profile : book.profile ≡ facts.profile
-  pub in_time : AreInTime (next_gameweek facts.calendar) book.managers
+  pub early : AreEarly facts book.managers
 
 -- a running season stands for a book: the same facts, entries whose rows stand for their histories, no league and no cup
 pub record Plays (running : Running) (book : Book) : Type 0 where

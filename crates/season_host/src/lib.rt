@@ -5,7 +5,6 @@ mod accept;
 mod host;
 mod lasts;
 mod running;
-mod stub;
 #[cfg(test)]
 mod tests;
 

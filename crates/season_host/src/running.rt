@@ -14,11 +14,12 @@ ghost use Rattle.season_book.specs.Hosts.{entry_with};
 ghost use Rattle.season_host.specs.Accepting.{HasRoom, IsDone, IsGrantedTo, IsRuled, made_by};
 ghost use Rattle.season_host.specs.Standing.{Plays};
 
-use crate::stub::{do_deed, do_key, entry_gameweek, judge_deed, judge_key, my_entry};
 use fpl_base::{Caller, EntryId, Key, Memory, Moment, Rule, Steps};
 use manager_book::ManagerBook;
 use season_book::{Answer, Command, Made, Part, Shown};
+use season_entries::{do_deed, do_key, judge_deed, judge_key};
 use season_facts::Season;
+use season_views::{entry_gameweek, my_entry};
 use std::alloc::Global;
 use std::marker::Model;
 use std::sync::ledger::Ledger;
@@ -160,7 +161,10 @@ impl RunningSeason {
         ensures err { OnErr result (self.new ≡ self.old) }
     {
         match command {
-            Command::Key { key, name } => do_key(&mut self.managers, key, name),
+            Command::Key { key, name } => match do_key(&mut self.managers, key, name) {
+                Ok(_) => Ok(()),
+                Err(Memory) => Err(Memory),
+            },
             _ => Ok(()),
         }
     }
