@@ -11,8 +11,8 @@ use Rattle.season_book.specs.declared.command.Command.{Command}
 use Rattle.season_book.specs.declared.made.Made.{Made}
 use Rattle.season_book.specs.declared.made.Made.TheVariants as made
 use Rattle.season_book.specs.Commands.{are_there, begun_by, changed_by, refusal_of}
-use Rattle.season_book.specs.Doing.{IsGrant, IsGranted, IsGrantedIn, IsOutLate, IsRefused, IsStoreless, MayAnswerIn, with_facts}
-use Rattle.season_book.specs.Verdict.{Failures, IsRepeat, IsVerdictIn, MayAnswer, Verdict, begun, fresh_verdict, judged, number_refusal, pass, ruled_by, settled, shown_or_unknown, unless_misnumbered, unless_refused}
+use Rattle.season_book.specs.Doing.{IsGrant, IsGranted, IsGrantedIn, IsOutLate, IsRefused, IsStoreless, MayAnswerIn}
+use Rattle.season_book.specs.Verdict.{Failures, IsRepeat, IsVerdictIn, MayAnswer, Outcome, Verdict, accepted, begun, fresh_verdict, judged, number_refusal, pass, ruled, settled, shown_or_unknown, unless_misnumbered, unless_refused}
 use Rattle.season_book.specs.declared.answer.Answer.{Answer}
 use Rattle.season_book.specs.declared.answer.Answer.TheVariants as answer
 use Rattle.season_book.specs.declared.request.Request.{Request}
@@ -80,26 +80,26 @@ granted_is facts now command granted =
 
 module _ (operator : List ℕ) (book : Book) (caller : Caller) (now number : ℕ) (command : Command)
     (fresh : (made : Made) → IsRepeat book caller number command made → ⊥) where
-  abbrev due : Result Facts Answer
-  due = judged book.facts now command
+  abbrev due : Result Outcome Answer
+  due = ruled operator book caller now command
 
-  numbered : number_refusal (last_number book caller) number ≡ None → settled book caller number command (ruled_by book due) ≡ fresh_verdict operator book caller now number command
-  numbered none = ap (λ broken. unless_misnumbered broken book (settled book caller number command (ruled_by book due))) (sym none)
+  numbered : number_refusal (last_number book caller) number ≡ None → settled book caller number command due ≡ fresh_verdict operator book caller now number command
+  numbered none = ap (λ broken. unless_misnumbered broken book (settled book caller number command due)) (sym none)
 
-  settled_ok : (after : Book) (verdict : Result Facts Answer) → MatchResult verdict (λ facts. after ≡ with_facts book caller number command facts) (λ refused. ⊥)
-      → (let done : Verdict = record { answer = answer.Done number made.Nothing; book = after } in done) ≡ settled book caller number command (ruled_by book verdict)
-  settled_ok after (Ok facts) same = ap (λ b. let done : Verdict = record { answer = answer.Done number made.Nothing; book = b } in done) same
-  settled_ok after (Err refused) never = absurd never
+  pub done_answer : (outcome : Outcome) (what : Made) → number_refusal (last_number book caller) number ≡ None → due ≡ Ok outcome → outcome.made ≡ what
+      → MayAnswerIn operator book caller now (request.Command number command) (answer.Done number what) (accepted caller number command outcome)
+  done_answer outcome what none is makes =
+      let done : Made → Verdict = λ m. record { answer = answer.Done number m; book = accepted caller number command outcome } in
+      inl (inr (fresh, sym (ap done makes) ∙ sym (ap (settled book caller number command) is) ∙ numbered none))
 
-  pub done_answer : (after : Book) → number_refusal (last_number book caller) number ≡ None
-      → MatchResult due (λ facts. after ≡ with_facts book caller number command facts) (λ refused. ⊥)
-      → MayAnswerIn operator book caller now (request.Command number command) (answer.Done number made.Nothing) after
-  done_answer after none done = inl (inr (fresh, settled_ok after due done ∙ numbered none))
+  pub refused_answer : (reply : Answer) → number_refusal (last_number book caller) number ≡ None → due ≡ Err reply
+      → MayAnswerIn operator book caller now (request.Command number command) reply book
+  refused_answer reply none is = inl (inr (fresh, sym (ap (settled book caller number command) is) ∙ numbered none))
 
   -- memory runs out only where the command is judged well
 
-  granted_by : (verdict : Result Facts Answer) → IsOk verdict → IsGrant (settled book caller number command (ruled_by book verdict)).answer
-  granted_by (Ok facts) ok = tt
+  granted_by : (verdict : Result Outcome Answer) → IsOk verdict → IsGrant (settled book caller number command verdict).answer
+  granted_by (Ok outcome) ok = tt
   granted_by (Err refused) ok = absurd (false≢true ok)
 
   granted_in : number_refusal (last_number book caller) number ≡ None → IsOk due → IsGrantedIn operator book caller now (request.Command number command)

@@ -5,6 +5,7 @@ ghost use Rattle.fpl_base.specs.declared.kinds.Caller.{Caller};
 ghost use Rattle.manager_book.specs.Managers.{manager_in};
 ghost use Rattle.season_book.specs.Book.{Book, caller_number, last_number};
 ghost use Rattle.season_book.specs.Commands.{IsCommand, part_of};
+ghost use Rattle.season_book.specs.Doing.{IsGranted};
 ghost use Rattle.season_book.specs.Verdict.{locked_at, ruled, seen_in};
 ghost use Rattle.season_book.specs.declared.part.Part.TheVariants as part;
 ghost use Rattle.season_book.specs.declared.request.View.TheVariants as view;
@@ -17,7 +18,10 @@ ghost use Rattle.season_host.specs.Standing.{Plays};
 use fpl_base::{Caller, EntryId, Key, Memory, Moment, Rule, Steps};
 use manager_book::ManagerBook;
 use season_book::{Answer, Command, Made, Part, Shown};
-use season_entries::{do_deed, do_key, judge_deed, judge_key};
+use season_entries::{
+    do_deed, do_key, early_is_in_time, entries_are_issued, facts_leave_entries, judge_deed, judge_key,
+    moments_leave_entries, owners_are_alike,
+};
 use season_facts::Season;
 use season_views::{entry_gameweek, my_entry};
 use std::alloc::Global;
@@ -62,6 +66,8 @@ impl RunningSeason {
     pub fn pass(&mut self, now: Moment)
         ensures { self.new ≡ record { facts = locked_at now self.old.facts; managers = self.old.managers } }
     {
+        // The law that nothing was done later than the next gameweek, for the prover.
+        moments_leave_entries();
         self.season.pass(now);
     }
 
@@ -69,6 +75,8 @@ impl RunningSeason {
     pub fn owner_of(&self, bytes: &[u8]) -> Option<Caller>
         ensures { result ≡ (if is_key bytes.now then entry_with (keys_of self.now.managers) bytes.now else None) }
     {
+        // The law that the keys are those of the managers, for the prover, as is the key, which bytes that are no key are not.
+        owners_are_alike();
         let entry = self.managers.owner_of(bytes)?;
         match self.managers.key(entry) {
             Some(key) if key.bytes() == bytes => Some(Caller::Entry(entry)),
@@ -118,6 +126,9 @@ impl RunningSeason {
         ensures granted { (now : ℕ) → OnOk result (IsGrantedTo self.now caller.now now command.now) }
         ensures ruled { (operator : List ℕ) (now : ℕ) (book : Book) → Plays self.now book → IsRuled (ruled operator book caller.now now command.now) result }
     {
+        // The laws on which entries are there, and when their managers act, for the prover.
+        entries_are_issued();
+        early_is_in_time();
         match caller {
             Caller::Entry(entry) if entry.get() <= self.managers.entries() => {
                 judge_deed(&self.season, &self.managers, *entry, command)
@@ -147,10 +158,22 @@ impl RunningSeason {
         ensures err { OnErr result (self.new ≡ self.old) }
     {
         match command.part() {
-            Part::Facts => self.season.change(now, command),
+            Part::Facts => self.change_facts(caller, now, command),
             Part::Entries => self.add_entry(command),
             Part::Deeds => self.do_deed(caller, command),
         }
+    }
+
+    // Does a command on the facts.
+    fn change_facts(&mut self, caller: &Caller, now: Moment, command: &Command) -> Result<(), Memory>
+        requires facts { part_of command.now ≡ part.Facts }
+        requires granted { IsGranted self.old.facts now command.now }
+        ensures done { OnOk result (IsDone caller.now now command.now self.old self.new) }
+        ensures err { OnErr result (self.new ≡ self.old) }
+    {
+        // The law that the entries stay, for the prover.
+        facts_leave_entries();
+        self.season.change(now, command)
     }
 
     // Makes the entry that a command orders.
@@ -177,6 +200,9 @@ impl RunningSeason {
         ensures done { (now : ℕ) → OnOk result (IsDone caller.now now command.now self.old self.new) }
         ensures err { OnErr result (self.new ≡ self.old) }
     {
+        // The laws on which entries are there, and when their managers act, for the prover.
+        entries_are_issued();
+        early_is_in_time();
         match caller {
             Caller::Entry(entry) => do_deed(&self.season, &mut self.managers, *entry, command),
             Caller::Operator => Ok(()),
@@ -188,6 +214,8 @@ impl RunningSeason {
     pub fn my_entry<L: Ledger>(&self, caller: &Caller, last: u64, steps: &mut Steps<L>) -> Answer
         ensures { (book : Book) → Plays self.now book → last ≡ last_number book caller.now → result ≡ seen_in book caller.now view.Me self.now.facts }
     {
+        // The law on which entries are there, for the prover.
+        entries_are_issued();
         match caller {
             Caller::Entry(entry) if entry.get() <= self.managers.entries() => {
                 match my_entry(&self.season, &self.managers, *entry, last, steps) {
