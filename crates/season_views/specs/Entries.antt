@@ -1,9 +1,10 @@
 -- What is shown of an entry by what its rows tell, and what histories the rows stand for.
 use Rattle.std.specs.Prelude.{ℕ, ℤ, List, Option, map}
 use Rattle.rule_book.specs.declared.team.Team.{Team}
+use Rattle.rule_book.specs.declared.team_score.Figures.{Figures}
 use Rattle.rule_book.specs.declared.team_score.TeamScore.{TeamScore}
 use Rattle.rule_book.specs.Calendar.{next_gameweek}
-use Rattle.rule_book.specs.EntryScores.{score_in}
+use Rattle.rule_book.specs.EntryScores.{figures_of_team, score_in}
 use Rattle.rule_book.specs.History.{Event}
 use Rattle.rule_book.specs.PlayerFigures.{position_in}
 use Rattle.season_ledger.specs.Stands.{StandsFor}
@@ -16,6 +17,10 @@ use Rattle.season_book.specs.declared.shown.ShownMe.{ShownMe}
 -- this holds of each history that an entry's rows stand for, where its players play as they do in the season
 abbrev pub OfEachHistory : Facts → Managers → ℕ → (List Event → Type 0) → Type 0
 OfEachHistory facts managers e Holds = (h : List Event) → StandsFor (position_in facts.players) (season_of managers e) h → Holds h
+
+-- what the players of a team did in a gameweek of a season, by slot
+abbrev pub figures_with : Facts → Team → ℕ → List Figures
+figures_with facts team g = figures_of_team facts.profile facts.calendar facts.players facts.matches team g
 
 -- the score of a team in a gameweek of a season in which its transfers cost so much
 abbrev pub score_with : Facts → Team → ℕ → ℕ → TeamScore

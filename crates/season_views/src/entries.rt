@@ -37,7 +37,8 @@ pub fn my_entry<L: Ledger>(
 ) -> Option<ShownMe>
     requires profile { managers.now.profile ≡ season.now.profile }
     requires later { AllUpTo (gameweek_seen season.now.calendar) (season_of managers.now entry) }
-    ensures { (h : List Event) → StandsFor (position_in season.now.players) (season_of managers.now entry) h → result ≡ (if is_started h then Some (me_shown season.now h entry last) else None) }
+    ensures { (h : List Event) → StandsFor (position_in season.now.players) (season_of managers.now entry) h
+        → result ≡ (if is_started h then Some (me_shown season.now h entry last) else None) }
 {
     let first = managers.first(entry)?;
     let gameweek = gameweek_seen(season);
@@ -138,7 +139,8 @@ pub fn entry_gameweek<L: Ledger>(
     steps: &mut Steps<L>,
 ) -> Option<ShownEntryGameweek>
     requires { managers.now.profile ≡ season.now.profile }
-    ensures { (entries : List EntryFacts) → AreEntries season.now.players managers.now.managers entries → result ≡ entry_shown season.now entries entry gameweek }
+    ensures { (entries : List EntryFacts) → AreEntries season.now.players managers.now.managers entries
+        → result ≡ entry_shown season.now entries entry gameweek }
 {
     // That the ids of players rise, for the prover.
     let _count = season.players().len();
@@ -156,7 +158,8 @@ fn gameweek_of<L: Ledger>(
     steps: &mut Steps<L>,
 ) -> Option<ShownEntryGameweek>
     requires { managers.now.profile ≡ season.now.profile }
-    ensures { OfEachHistory season.now managers.now entry (λ h. result ≡ (if is_begun h gameweek then Some (entry_gameweek_shown season.now h gameweek) else None)) }
+    ensures { OfEachHistory season.now managers.now entry
+        (λ h. result ≡ (if is_begun h gameweek then Some (entry_gameweek_shown season.now h gameweek) else None)) }
 {
     let team = managers.team_at(entry, gameweek, steps)?;
     let cost = managers.cost(entry, gameweek, steps);

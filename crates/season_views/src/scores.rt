@@ -1,11 +1,10 @@
 // What a team scored in a gameweek.
 ghost use Rattle.std.specs.Prelude.{◌≡◌, ◌≤◌, All};
 ghost use Rattle.rule_book.specs.Calendar.{has_ended};
-ghost use Rattle.rule_book.specs.EntryScores.{figures_of_team};
 ghost use Rattle.rule_book.specs.FigureRange.{IsWithin};
 ghost use Rattle.rule_book.specs.MatchFacts.{is_finished};
 ghost use Rattle.rule_book.specs.TeamScores.{IsModest};
-ghost use Rattle.season_views.specs.Entries.{score_with};
+ghost use Rattle.season_views.specs.Entries.{figures_with, score_with};
 
 use crate::figures::gameweek_figures;
 use fpl_base::{Gw, Steps};
@@ -21,7 +20,7 @@ fn team_figures<L: Ledger>(
     gameweek: Gw,
     steps: &mut Steps<L>,
 ) -> [Figures; 15]
-    ensures value { result ≡ figures_of_team season.now.profile season.now.calendar season.now.players season.now.matches team.now gameweek }
+    ensures value { result ≡ figures_with season.now team.now gameweek }
     ensures modest { All IsModest result }
 {
     let first = team.picks[0].player;

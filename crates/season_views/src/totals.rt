@@ -21,7 +21,8 @@ fn net_in<L: Ledger>(
     steps: &mut Steps<L>,
 ) -> i32
     requires { managers.now.profile ≡ season.now.profile }
-    ensures value { OfEachHistory season.now managers.now entry (λ h. is_begun h gameweek ≡ true → result ≡ (score_by season.now h gameweek).net) }
+    ensures value { OfEachHistory season.now managers.now entry
+        (λ h. is_begun h gameweek ≡ true → result ≡ (score_by season.now h gameweek).net) }
     ensures near { IsWithin 18000000 result }
 {
     match managers.team_at(entry, gameweek, steps) {
@@ -42,7 +43,8 @@ pub(crate) fn total<L: Ledger>(
     steps: &mut Steps<L>,
 ) -> i32
     requires { managers.now.profile ≡ season.now.profile }
-    ensures { OfEachHistory season.now managers.now entry (λ h. start_of h ≡ Some first → result ≡ total_by season.now h) }
+    ensures { OfEachHistory season.now managers.now entry
+        (λ h. start_of h ≡ Some first → result ≡ total_by season.now h) }
 {
     let mut total = 0;
     for number in first.get()..season.calendar().locked() + 1 {
