@@ -1,25 +1,34 @@
 -- How commands are ruled in the books that a running season stands for, part by part.
-use Rattle.std.proofs.Common.{◌≡◌, ◌<◌, ◌≤◌, ◌+◌, ◌-◌, ◌++◌, ◌∷◌, [], ℕ, Bool, true, false, if◌then◌else◌, List, Option, Some, None, length, arith, refl, sym, ap, subst, ◌∙◌}
+use Rattle.std.proofs.Common.{◌≡◌, ◌<◌, ◌≤◌, ◌+◌, ◌-◌, ◌++◌, ◌∷◌, [], ℕ, zero, suc, slice_get, Bool, true, false, if◌then◌else◌, List, Option, Some, None, length, arith, refl, sym, ap, subst, ◌∙◌}
 use Rattle.std.specs.Prelude.{Result, Ok, Err, IsOk, OnOk, OnErr, ⊤}
 use Rattle.std.specs.Option.{option_map}
+use Rattle.std.specs.Str.{bytes_eq}
 use Rattle.std.proofs.lemmas.Bool.{false≢true}
 use Rattle.std.proofs.lemmas.Option.{none-some, same_Some}
+use Rattle.std.proofs.lemmas.Slice.Eq.{bytes_eq-Decides}
 use Rattle.fpl_base.specs.declared.kinds.Caller.{Caller}
 use Rattle.fpl_base.specs.declared.memory.Memory.{Memory}
 use Rattle.fpl_base.specs.declared.rule.Rule.{Rule}
+use Rattle.fpl_base.specs.declared.rule.Rule.TheVariants as rule
 use Rattle.rule_book.specs.Entries.{entry_in}
+use Rattle.rule_book.specs.declared.player.Player.{Player}
+use Rattle.rule_book.specs.HistoryRules.{is_started}
 use Rattle.manager_book.specs.declared.manager.Manager.{Manager}
-use Rattle.season_book.specs.Book.{Book, EntryFacts, Facts, caller_number, histories_with}
+use Rattle.manager_book.specs.Managers.{Managers, number_from}
+use Rattle.season_book.specs.Book.{Book, EntryFacts, Facts, caller_number, last_number}
 use Rattle.season_book.specs.Commands.{changed_by, part_of}
 use Rattle.season_book.specs.Doing.{IsGranted, IsWeighed}
 use Rattle.season_book.specs.EntryCommands.{deed_refusal, history_after, names_players}
-use Rattle.season_book.specs.Verdict.{Outcome, in_season, judged, key_refusal, keyed, ruled, ruled_by, ruled_in, ruled_of, unless_broken, with_entry, with_history}
+use Rattle.season_book.specs.EntryViews.{me_shown}
+use Rattle.season_book.specs.Verdict.{Outcome, in_season, judged, key_refusal, keyed, my_answer, ruled, ruled_by, ruled_in, ruled_of, unless_broken, with_entry, with_history}
 use Rattle.season_book.specs.declared.answer.Answer.{Answer}
 use Rattle.season_book.specs.declared.answer.Answer.TheVariants as answer
 use Rattle.season_book.specs.declared.command.Command.{Command}
-use Rattle.season_book.specs.declared.command.Command.TheVariants as command
+use Rattle.season_book.specs.declared.command.Command.TheVariants as commands
 use Rattle.season_book.specs.declared.made.Made.TheVariants as made
 use Rattle.season_book.specs.declared.part.Part.{Part}
+use Rattle.season_book.specs.declared.shown.Shown.TheVariants as shown_of
+use Rattle.season_book.specs.declared.shown.ShownMe.{ShownMe}
 use Rattle.season_book.specs.declared.part.Part.TheVariants as part
 use Rattle.season_entries.specs.Deeds.{IsAnswered, IsJudgedByBooks, StandForBooksAfter, deed_answer}
 use Rattle.season_entries.specs.Entries.{AreEntries}
@@ -30,9 +39,6 @@ use Rattle.season_host.specs.Standing.{Plays, Running}
 use Rattle.season_host.proofs.AnswerFacts.{granted_is}
 
 module _ (operator : List ℕ) (book : Book) (caller : Caller) (now : ℕ) (command : Command) (running : Running) (plays : Plays running book) where
-  facts : Facts
-  facts = running.facts
-
   in_facts : part_of command ≡ part.Facts → ruled operator book caller now command ≡ ruled_by book (judged (Some running.facts) now command)
   in_facts is = ap (λ p. ruled_in p operator book caller now command) is ∙ ap (λ o. ruled_by book (judged o now command)) plays.facts
 
@@ -63,8 +69,8 @@ module _ (operator : List ℕ) (book : Book) (caller : Caller) (now : ℕ) (comm
           → IsAnswered (if names then option_map answer.Rule broken else Some answer.Unknown) r → IsRuled (if names then unless_broken broken outcome else Err answer.Unknown) r
       by_answer true None outcome (Ok value) a = refl
       by_answer true None outcome (Err reply) a = absurd (none-some reply a)
-      by_answer true (Some rule) outcome (Ok value) a = absurd (none-some (answer.Rule rule) (sym a))
-      by_answer true (Some rule) outcome (Err reply) a = ap Err (same_Some (answer.Rule rule) reply a)
+      by_answer true (Some broken) outcome (Ok value) a = absurd (none-some (answer.Rule broken) (sym a))
+      by_answer true (Some broken) outcome (Err reply) a = ap Err (same_Some (answer.Rule broken) reply a)
       by_answer false broken outcome (Ok value) a = absurd (none-some answer.Unknown (sym a))
       by_answer false broken outcome (Err reply) a = ap Err (same_Some answer.Unknown reply a)
 
@@ -113,18 +119,18 @@ module _ (operator : List ℕ) (book : Book) (caller : Caller) (now : ℕ) (comm
     where
       unbroken : (broken : Option Rule) (outcome : Outcome) → IsOk (unless_broken broken outcome) → unless_broken broken outcome ≡ Ok outcome
       unbroken None outcome ok = refl
-      unbroken (Some rule) outcome ok = absurd (false≢true ok)
+      unbroken (Some broken) outcome ok = absurd (false≢true ok)
 
       well : (names : Bool) (broken : Option Rule) (outcome : Outcome) → IsOk (if names then unless_broken broken outcome else Err answer.Unknown) → (if names then unless_broken broken outcome else Err answer.Unknown) ≡ Ok outcome
       well true broken outcome ok = unbroken broken outcome ok
       well false broken outcome ok = absurd (false≢true ok)
 
-  pub key_done : (key name : List ℕ) (after : Running) → command ≡ command.Key key name → after.facts ≡ running.facts → length book.entries ≡ length running.managers
+  pub key_done : (key name : List ℕ) (after : Running) → command ≡ commands.Key key name → after.facts ≡ running.facts → length book.entries ≡ length running.managers
       → AreEntries running.facts.players after.managers (book.entries ++ record { key = key; name = name; history = [] } ∷ []) → IsOk (ruled operator book caller now command)
       → Leads (ruled operator book caller now command) book (made_by running.managers command) after
   key_done key name after is same many stand ok =
       let outcome : Outcome = with_entry book key name in
-      let ruled_is : ruled operator book caller now command ≡ keyed operator book (command.Key key name) = in_entries (ap part_of is) ∙ ap (keyed operator book) is in
+      let ruled_is : ruled operator book caller now command ≡ keyed operator book (commands.Key key name) = in_entries (ap part_of is) ∙ ap (keyed operator book) is in
       record {
         outcome = outcome;
         is_ruled = ruled_is ∙ unbroken (key_refusal operator book.entries key) outcome (subst IsOk ruled_is ok);
@@ -140,4 +146,80 @@ module _ (operator : List ℕ) (book : Book) (caller : Caller) (now : ℕ) (comm
     where
       unbroken : (broken : Option Rule) (outcome : Outcome) → IsOk (unless_broken broken outcome) → unless_broken broken outcome ≡ Ok outcome
       unbroken None outcome ok = refl
-      unbroken (Some rule) outcome ok = absurd (false≢true ok)
+      unbroken (Some broken) outcome ok = absurd (false≢true ok)
+
+-- what follows where a call went well
+pub on_ok : {T E P Q : Type 0} (r : Result T E) → OnOk r P → (P → Q) → OnOk r Q
+on_ok (Ok value) p follows = follows p
+on_ok (Err error) p follows = tt
+
+-- the profile of managers stays, whatever came of a call
+pub profile_stays : {T E : Type 0} (r : Result T E) (old new : Managers) (managers : List Manager) → OnOk r (new ≡ record old { managers = managers }) → OnErr r (new ≡ old) → new.profile ≡ old.profile
+profile_stays (Ok value) old new managers ok err = ap (λ m. m.profile) ok
+profile_stays (Err error) old new managers ok err = ap (λ m. m.profile) err
+
+-- what a manager sees of his entry
+
+seen_some : (b : Bool) (shown own : ShownMe) → (if b then Some own else None) ≡ Some shown → answer.Shown (shown_of.Me shown) ≡ (if b then answer.Shown (shown_of.Me own) else answer.Rule rule.NotRegistered)
+seen_some true shown own is = sym (ap (λ x. answer.Shown (shown_of.Me x)) (same_Some own shown is))
+seen_some false shown own is = absurd (none-some shown is)
+
+seen_none : (b : Bool) (own : ShownMe) → (if b then Some own else None) ≡ None → answer.Rule rule.NotRegistered ≡ (if b then answer.Shown (shown_of.Me own) else answer.Rule rule.NotRegistered)
+seen_none true own is = absurd (none-some own (sym is))
+seen_none false own is = refl
+
+module _ (book : Book) (facts : Facts) (caller : Caller) (e last : ℕ) (entry : EntryFacts)
+    (at : entry_in book.entries e ≡ Some entry) (number : caller_number caller ≡ e) (is_last : last ≡ last_number book caller) where
+  abbrev mine : Answer
+  mine = if is_started entry.history then answer.Shown (shown_of.Me (me_shown facts entry.history e last)) else answer.Rule rule.NotRegistered
+
+  is_mine : mine ≡ my_answer book facts caller (entry_in book.entries (caller_number caller))
+  is_mine =
+      ap (λ l. if is_started entry.history then answer.Shown (shown_of.Me (me_shown facts entry.history e l)) else answer.Rule rule.NotRegistered) is_last
+      ∙ ap (λ n. if is_started entry.history then answer.Shown (shown_of.Me (me_shown facts entry.history n (last_number book caller))) else answer.Rule rule.NotRegistered) (sym number)
+      ∙ sym (ap (λ n. my_answer book facts caller (entry_in book.entries n)) number ∙ ap (my_answer book facts caller) at)
+
+  pub me_seen : (shown : ShownMe) → (if is_started entry.history then Some (me_shown facts entry.history e last) else None) ≡ Some shown
+      → answer.Shown (shown_of.Me shown) ≡ my_answer book facts caller (entry_in book.entries (caller_number caller))
+  me_seen shown is = seen_some (is_started entry.history) shown (me_shown facts entry.history e last) is ∙ is_mine
+
+  pub me_unseen : (if is_started entry.history then Some (me_shown facts entry.history e last) else None) ≡ None
+      → answer.Rule rule.NotRegistered ≡ my_answer book facts caller (entry_in book.entries (caller_number caller))
+  me_unseen is = seen_none (is_started entry.history) (me_shown facts entry.history e last) is ∙ is_mine
+
+-- the manager with a key
+
+pub record Numbered (n : ℕ) (managers : List Manager) (key : List ℕ) (e : ℕ) : Type 0 where
+  pub place : ℕ
+  pub manager : Manager
+  pub number : e ≡ n + place
+  pub there : slice_get managers place ≡ Some manager
+  pub keyed : bytes_eq key manager.key ≡ true
+
+pub numbered_at : (n : ℕ) (managers : List Manager) (key : List ℕ) (e : ℕ) → number_from n managers key ≡ Some e → Numbered n managers key e
+numbered_at n [] key e is = absurd (none-some e is)
+numbered_at n (m ∷ managers) key e is = by_test (bytes_eq key m.key) refl (λ behind. numbered_at (n + 1) managers key e behind) is
+  where
+    later : Numbered (n + 1) managers key e → Numbered n (m ∷ managers) key e
+    later found = record { place = suc found.place; manager = found.manager; number = omega (arith, found.number); there = found.there; keyed = found.keyed }
+
+    by_test : (b : Bool) → bytes_eq key m.key ≡ b → (number_from (n + 1) managers key ≡ Some e → Numbered (n + 1) managers key e)
+        → (if b then Some n else number_from (n + 1) managers key) ≡ Some e → Numbered n (m ∷ managers) key e
+    by_test true same more is = record { place = 0; manager = m; number = omega (arith, same_Some n e is); there = refl; keyed = same }
+    by_test false apart more is = later (more is)
+
+-- so the manager of the entry with a key has it
+pub has_key : (managers : List Manager) (key : List ℕ) (e : ℕ) (found : Option (List ℕ)) → number_from 1 managers key ≡ Some e
+    → found ≡ option_map (λ m. m.key) (slice_get managers (e - 1)) → found ≡ Some key
+has_key managers key e found is same =
+    let at = numbered_at 1 managers key e is in
+    let place : e - 1 ≡ at.place = omega (arith, at.number) in
+    same ∙ ap (λ i. option_map (λ (m : Manager). m.key) (slice_get managers i)) place ∙ ap (option_map (λ (m : Manager). m.key)) at.there
+    ∙ ap Some (sym ((bytes_eq-Decides key at.manager.key).0 at.keyed))
+
+-- as many entries as managers
+pub same_many : (players : List Player) (managers : List Manager) (entries : List EntryFacts) → AreEntries players managers entries → length entries ≡ length managers
+same_many players [] [] a = refl
+same_many players [] (x ∷ entries) a = absurd a
+same_many players (m ∷ managers) [] a = absurd a
+same_many players (m ∷ managers) (x ∷ entries) a = ap suc (same_many players managers entries a.1)

@@ -79,8 +79,14 @@ impl RunningSeason {
         owners_are_alike();
         let entry = self.managers.owner_of(bytes)?;
         match self.managers.key(entry) {
-            Some(key) if key.bytes() == bytes => Some(Caller::Entry(entry)),
-            _ => None,
+            Some(key) => {
+                if key.bytes() == bytes {
+                    Some(Caller::Entry(entry))
+                } else {
+                    None
+                }
+            }
+            None => None,
         }
     }
 
@@ -130,10 +136,14 @@ impl RunningSeason {
         entries_are_issued();
         early_is_in_time();
         match caller {
-            Caller::Entry(entry) if entry.get() <= self.managers.entries() => {
-                judge_deed(&self.season, &self.managers, *entry, command)
+            Caller::Operator => Err(Answer::Unknown),
+            Caller::Entry(entry) => {
+                if entry.get() <= self.managers.entries() {
+                    judge_deed(&self.season, &self.managers, *entry, command)
+                } else {
+                    Err(Answer::Unknown)
+                }
             }
-            _ => Err(Answer::Unknown),
         }
     }
 
@@ -214,16 +224,20 @@ impl RunningSeason {
     pub fn my_entry<L: Ledger>(&self, caller: &Caller, last: u64, steps: &mut Steps<L>) -> Answer
         ensures { (book : Book) → Plays self.now book → last ≡ last_number book caller.now → result ≡ seen_in book caller.now view.Me self.now.facts }
     {
-        // The law on which entries are there, for the prover.
+        // The law on which entries are there, and that the ids of players differ, for the prover.
         entries_are_issued();
+        let _count = self.season.players().len();
         match caller {
-            Caller::Entry(entry) if entry.get() <= self.managers.entries() => {
+            Caller::Operator => Answer::Unknown,
+            Caller::Entry(entry) => {
+                if entry.get() > self.managers.entries() {
+                    return Answer::Unknown;
+                }
                 match my_entry(&self.season, &self.managers, *entry, last, steps) {
                     Some(shown) => Answer::Shown(Shown::Me(shown)),
                     None => Answer::Rule(Rule::NotRegistered),
                 }
             }
-            _ => Answer::Unknown,
         }
     }
 

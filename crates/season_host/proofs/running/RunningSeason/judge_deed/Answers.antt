@@ -1,13 +1,23 @@
-use Rattle.std.proofs.Common.{ap}
-use Rattle.season_book.specs.Book.{caller_number}
-use Rattle.season_host.proofs.RuledFacts.{deed_ruled}
+use Rattle.std.proofs.Common.{◌≡◌, ◌≤◌, ◌<◌, None, ap, arith, length, refl, subst, sym}
+use Rattle.season_book.specs.Book.{Book, caller_number}
+use Rattle.season_host.specs.Standing.{Plays, Running}
+use Rattle.season_host.proofs.RuledFacts.{deed_ruled, nobody_ruled}
 use Rattle.season_host.proofs.running.RunningSeason.judge_deed.Goals as goal
 
-pub judge_deed-requires-clause-later : goal.judge_deed-requires-clause-later
-judge_deed-requires-clause-later c = c.early_is_in_time.ensures.in_time c.self.inside.season c.self.inside.managers.managers c.self.invariant.early
+pub returns-then-get-entries-clause-ruled : goal.returns-then-get-entries-clause-ruled
+returns-then-get-entries-clause-ruled c = λ operator now book plays.
+    let running : Running = record { facts = c.self.inside.season; managers = c.self.inside.managers.managers } in
+    let plays_here : Plays running book = subst (λ r. Plays r book) (sym c.self.view_is) plays in
+    let one : 1 ≤ c.in-Entry.entry = subst (λ n. 1 ≤ n) c.get.ensures.value c.get.ensures.range in
+    let few : c.in-Entry.entry ≤ length running.managers = omega (arith, c.get.ensures.value, c.entries.ensures.count, c.if-get-entries.true) in
+    deed_ruled operator book c.args.caller.now now c.args.command.now running plays_here c.entries_are_issued.ensures c.in-Entry.entry c.judge_deed.result
+    c.requires.deed (ap caller_number c.in-Entry.is) one few c.judge_deed.ensures.books
 
-pub returns-in-Entry-clause-ruled : goal.returns-in-Entry-clause-ruled
-returns-in-Entry-clause-ruled c = λ operator now book plays. ?
-
-pub returns-in_default-clause-ruled : goal.returns-in_default-clause-ruled
-returns-in_default-clause-ruled c = ?
+pub returns-else-get-entries-clause-ruled : goal.returns-else-get-entries-clause-ruled
+returns-else-get-entries-clause-ruled c = λ operator now book plays.
+    let running : Running = record { facts = c.self.inside.season; managers = c.self.inside.managers.managers } in
+    let plays_here : Plays running book = subst (λ r. Plays r book) (sym c.self.view_is) plays in
+    let past : length running.managers < c.in-Entry.entry = omega (arith, c.get.ensures.value, c.entries.ensures.count, c.if-get-entries.false) in
+    nobody_ruled operator book c.args.caller.now now c.args.command.now running plays_here c.entries_are_issued.ensures c.in-Entry.entry
+    c.requires.deed (ap caller_number c.in-Entry.is)
+    ((c.entries_are_issued.ensures running.facts.players running.managers book.entries c.in-Entry.entry plays_here.entries).none past)
