@@ -1,3 +1,6 @@
+use Rattle.manager_book.specs.Managers.{season_of}
+use Rattle.season_entries.specs.Deeds.{rows_refusal}
+use Rattle.season_host.proofs.AnswerFacts.{deed_refusal_is}
 use Rattle.std.proofs.Common.{ap}
 use Rattle.season_book.specs.Book.{caller_number}
 use Rattle.season_host.proofs.RuledFacts.{deed_ruled}
@@ -11,3 +14,7 @@ returns-in-Entry-clause-ruled c = λ operator now book plays. ?
 
 pub returns-in_default-clause-ruled : goal.returns-in_default-clause-ruled
 returns-in_default-clause-ruled c = ?
+
+pub returns-in-Entry-clause-refusal : goal.returns-in-Entry-clause-refusal
+returns-in-Entry-clause-refusal c =
+    deed_refusal_is c.self.inside.season (rows_refusal c.self.inside.season (season_of c.self.inside.managers c.in-Entry.entry) c.args.command.now) c.args.command.now c.judge_deed.result c.judge_deed.ensures.rows
