@@ -1,6 +1,6 @@
 -- From a command that was done and kept to what may be answered.
 use Rattle.std.proofs.Common.{◌≡◌, ℕ, Bool, true, false, if◌then◌else◌, List, Option, Some, None, refl, sym, ap, subst, ◌∙◌, inl, inr}
-use Rattle.std.specs.Prelude.{Result, Ok, Err, IfErr, IsOk, IsSome, MatchResult, is_some, ⊤}
+use Rattle.std.specs.Prelude.{Result, Ok, Err, IfErr, IsOk, IsSome, is_some}
 use Rattle.std.proofs.lemmas.Bool.{false≢true}
 use Rattle.std.proofs.lemmas.Option.{none-some, same_Some}
 use Rattle.std.specs.Option.{option_map}
@@ -11,11 +11,10 @@ use Rattle.rule_book.specs.Calendar.{deadlines_order}
 use Rattle.season_book.specs.Book.{Book, Facts, last_number}
 use Rattle.season_book.specs.declared.command.Command.{Command}
 use Rattle.season_book.specs.declared.made.Made.{Made}
-use Rattle.season_book.specs.declared.made.Made.TheVariants as made
 use Rattle.season_book.specs.Commands.{are_there, begun_by, changed_by, refusal_of}
 use Rattle.season_book.specs.Doing.{IsGrant, IsGranted, IsGrantedIn, IsOutLate, IsRefused, IsShown, IsStoreless, IsWeighed, MayAnswerIn}
 use Rattle.season_book.specs.EntryCommands.{names_players}
-use Rattle.season_book.specs.Verdict.{Failures, IsRepeat, IsVerdictIn, MayAnswer, Outcome, Verdict, accepted, begun, fresh_verdict, judged, number_refusal, pass, ruled, settled, shown_or_unknown, unless_misnumbered, unless_refused, view_answer}
+use Rattle.season_book.specs.Verdict.{Failures, IsRepeat, MayAnswer, Outcome, Verdict, accepted, begun, fresh_verdict, judged, number_refusal, pass, ruled, settled, shown_or_unknown, unless_misnumbered, unless_refused, view_answer}
 use Rattle.season_book.specs.declared.answer.Answer.{Answer}
 use Rattle.season_book.specs.declared.answer.Answer.TheVariants as answer
 use Rattle.season_book.specs.declared.request.Request.{Request}
@@ -116,10 +115,6 @@ module _ (operator : List ℕ) (book : Book) (caller : Caller) (now number : ℕ
   done_answer outcome what none is makes =
       let done : Made → Verdict = λ m. record { answer = answer.Done number m; book = accepted caller number command outcome } in
       inl (inr (fresh, sym (ap done makes) ∙ sym (ap (settled book caller number command) is) ∙ numbered none))
-
-  pub refused_answer : (reply : Answer) → number_refusal (last_number book caller) number ≡ None → due ≡ Err reply
-      → MayAnswerIn operator book caller now (request.Command number command) reply book
-  refused_answer reply none is = inl (inr (fresh, sym (ap (settled book caller number command) is) ∙ numbered none))
 
   -- memory runs out only where the command is judged well
 

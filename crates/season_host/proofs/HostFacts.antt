@@ -4,7 +4,7 @@ use Rattle.std.specs.Prelude.{Result, Ok, Err, IsOk}
 use Rattle.std.specs.Option.{option_map, option_map_or}
 use Rattle.fpl_base.specs.declared.kinds.Caller.{Caller}
 use Rattle.fpl_base.specs.declared.rule.Rule.TheVariants as rule
-use Rattle.rule_book.specs.ById.{at_id, placed_at}
+use Rattle.rule_book.specs.ById.{at_id}
 use Rattle.rule_book.specs.declared.player.Player.{Player}
 use Rattle.season_book.specs.Book.{Book, EntryFacts, Facts, Last, caller_number, last_number}
 use Rattle.season_book.specs.Doing.{IsOutLate, IsRefused, IsShown, MayAnswerIn}
@@ -73,9 +73,11 @@ module _ (old locked : HostRows) (now : ℕ) (is : locked ≡ passed now old) wh
   pub view_follows : (failures : Failures) (caller : Caller) (view : View) (reply : Answer)
       → ((book : Book) → StandsIn locked book → IsShown (view_answer book caller view) reply)
       → Follows old locked (λ book after. MayAnswer old.operator failures book caller now (request.View view) reply after)
-  view_follows failures caller view reply shown = λ book stands.
-      (pass book now, stands_locked book stands,
-      view_answered old.operator failures book caller now view reply (shown (pass book now) (stands_locked book stands)))
+  view_follows failures caller view reply shown = λ book stands. (
+    pass book now,
+    stands_locked book stands,
+    view_answered old.operator failures book caller now view reply (shown (pass book now) (stands_locked book stands)),
+  )
 
   pub view_out_late : (caller : Caller) (view : View) (reply : Answer)
       → ((book : Book) → StandsIn locked book → IsShown (view_answer book caller view) reply)
@@ -87,10 +89,12 @@ module _ (old locked : HostRows) (now : ℕ) (is : locked ≡ passed now old) wh
       → Follows locked new (λ book after. MayAnswerIn locked.operator book caller now asked reply after)
       → Follows old new (λ book after. MayAnswer old.operator failures book caller now asked reply after)
   command_follows new failures caller asked reply follows = λ book stands.
-      let led = follows (pass book now) (stands_locked book stands) in
-      (led.0, led.1,
-      may_answer old.operator failures book caller now asked reply led.0
-      (subst (λ h. MayAnswerIn h.operator (pass book now) caller now asked reply led.0) is led.2))
+      let led = follows (pass book now) (stands_locked book stands) in (
+        led.0,
+        led.1,
+        may_answer old.operator failures book caller now asked reply led.0
+            (subst (λ h. MayAnswerIn h.operator (pass book now) caller now asked reply led.0) is led.2),
+      )
 
   pub command_out_late : (caller : Caller) (asked : Request) (reply : Answer)
       → ((book : Book) → StandsIn locked book → IsOutLate locked.operator book caller now asked reply)
@@ -167,17 +171,18 @@ module _ (operator : List ℕ) (before : List (ℕ × Last)) (caller : Caller) (
       → judged None now command ≡ Ok running.facts → running.managers ≡ [] → after ≡ kept_last before caller number command mades.Nothing
       → IsAccepted (host_rows operator None before) (host_rows operator (Some running) after) caller now number command (Ok mades.Nothing)
   begun_accepted running after is none kept = λ book stands.
-      let outcome : Outcome = record { made = mades.Nothing; book = record book { facts = Some running.facts } } in
-      (outcome,
-      ruled_none operator book caller now command stands.facts ∙ ap (ruled_by book) is,
-      refl,
-      record {
-        facts = refl;
-        entries = subst (λ l. AreEntries running.facts.players l book.entries) (sym none) (no_entries [] running.facts.players book.entries stands.entries);
-        leagues = stands.leagues;
-        cups = stands.cups;
-        lasts = ap (λ l. kept_last l caller number command mades.Nothing) stands.lasts ∙ sym kept;
-      })
+      let outcome : Outcome = record { made = mades.Nothing; book = record book { facts = Some running.facts } } in (
+        outcome,
+        ruled_none operator book caller now command stands.facts ∙ ap (ruled_by book) is,
+        refl,
+        record {
+          facts = refl;
+          entries = subst (λ l. AreEntries running.facts.players l book.entries) (sym none) (no_entries [] running.facts.players book.entries stands.entries);
+          leagues = stands.leagues;
+          cups = stands.cups;
+          lasts = ap (λ l. kept_last l caller number command mades.Nothing) stands.lasts ∙ sym kept;
+        },
+      )
 
   pub begun_here : (old : HostRows) (o : Option Running) (running : Running) (after : List (ℕ × Last)) → host_rows operator o before ≡ old → o ≡ None
       → (judged None now command ≡ Ok running.facts) × (running.managers ≡ []) × (after ≡ kept_last before caller number command mades.Nothing)
@@ -196,8 +201,9 @@ module _ (operator : List ℕ) (before : List (ℕ × Last)) (caller : Caller) (
   pub refused_here : (old : HostRows) (o : Option Running) (after : List (ℕ × Last)) (reply : Answer) → host_rows operator o before ≡ old → o ≡ None
       → (after ≡ before) × IsRefused (judged None now command) reply
       → IsAccepted old (host_rows operator o after) caller now number command (Err reply)
-  refused_here old o after reply view_is none refused =
-      (ap (λ l. host_rows operator o l) refused.0 ∙ view_is,
-      subst (λ h. (book : Book) → StandsIn h book → IsRefused (ruled h.operator book caller now command) reply) view_is
-      (subst (λ p. (book : Book) → StandsIn (host_rows operator p before) book → IsRefused (ruled operator book caller now command) reply) (sym none)
-      (refused_none reply refused.1)))
+  refused_here old o after reply view_is none refused = (
+    ap (λ l. host_rows operator o l) refused.0 ∙ view_is,
+    subst (λ h. (book : Book) → StandsIn h book → IsRefused (ruled h.operator book caller now command) reply) view_is
+        (subst (λ p. (book : Book) → StandsIn (host_rows operator p before) book → IsRefused (ruled operator book caller now command) reply) (sym none)
+        (refused_none reply refused.1)),
+  )
