@@ -1,7 +1,9 @@
 -- From a command that was done and kept to what may be answered.
-use Rattle.std.proofs.Common.{◌≡◌, ℕ, Bool, true, false, if◌then◌else◌, List, Option, Some, None, sym, ap, subst, ◌∙◌, inl, inr}
-use Rattle.std.specs.Prelude.{Result, Ok, Err, IfErr, IsOk, IsSome, MatchResult, is_some, ⊤}
+use Rattle.std.proofs.Common.{◌≡◌, ℕ, Bool, true, false, if◌then◌else◌, List, Option, Some, None, refl, sym, ap, subst, ◌∙◌, inl, inr}
+use Rattle.std.specs.Prelude.{Result, Ok, Err, IfErr, IsOk, IsSome, is_some}
 use Rattle.std.proofs.lemmas.Bool.{false≢true}
+use Rattle.std.proofs.lemmas.Option.{none-some, same_Some}
+use Rattle.std.specs.Option.{option_map}
 use Rattle.fpl_base.specs.declared.kinds.Caller.{Caller}
 use Rattle.fpl_base.specs.declared.rule.Rule.{Rule}
 use Rattle.fpl_base.specs.declared.rule.Rule.TheVariants as rule
@@ -9,25 +11,23 @@ use Rattle.rule_book.specs.Calendar.{deadlines_order}
 use Rattle.season_book.specs.Book.{Book, Facts, last_number}
 use Rattle.season_book.specs.declared.command.Command.{Command}
 use Rattle.season_book.specs.declared.made.Made.{Made}
-use Rattle.season_book.specs.declared.made.Made.TheVariants as made
 use Rattle.season_book.specs.Commands.{are_there, begun_by, changed_by, refusal_of}
-use Rattle.season_book.specs.Doing.{IsGrant, IsGranted, IsGrantedIn, IsOutLate, IsRefused, IsStoreless, MayAnswerIn}
-use Rattle.season_book.specs.Verdict.{Failures, IsRepeat, IsVerdictIn, MayAnswer, Outcome, Verdict, accepted, begun, fresh_verdict, judged, number_refusal, pass, ruled, settled, shown_or_unknown, unless_misnumbered, unless_refused}
+use Rattle.season_book.specs.Doing.{IsGrant, IsGranted, IsGrantedIn, IsOutLate, IsRefused, IsShown, IsStoreless, IsWeighed, MayAnswerIn}
+use Rattle.season_book.specs.EntryCommands.{names_players}
+use Rattle.season_book.specs.Verdict.{Failures, IsRepeat, MayAnswer, Outcome, Verdict, accepted, begun, fresh_verdict, judged, number_refusal, pass, ruled, settled, shown_or_unknown, unless_misnumbered, unless_refused, view_answer}
 use Rattle.season_book.specs.declared.answer.Answer.{Answer}
 use Rattle.season_book.specs.declared.answer.Answer.TheVariants as answer
 use Rattle.season_book.specs.declared.request.Request.{Request}
 use Rattle.season_book.specs.declared.request.Request.TheVariants as request
+use Rattle.season_book.specs.declared.request.View.{View}
 use Rattle.season_book.specs.declared.shown.Shown.{Shown}
+use Rattle.season_entries.specs.Deeds.{IsAnswered, deed_answer}
+use Rattle.season_host.specs.Accepting.{IsRefusal}
 
 -- a command is refused by a rule or an id that is not there
 
-abbrev IsRuling : Answer → Type 0
-IsRuling (answer.Rule rule) = ⊤
-IsRuling answer.Unknown = ⊤
-IsRuling reply = ⊥
-
-abbrev Rules : Result Facts Answer → Type 0
-Rules verdict = IfErr verdict IsRuling
+abbrev Rules : {T : Type 0} → Result T Answer → Type 0
+Rules verdict = IfErr verdict IsRefusal
 
 chosen : (b : Bool) (x y : Result Facts Answer) → Rules x → Rules y → Rules (if b then x else y)
 chosen true x y px py = px
@@ -58,15 +58,39 @@ storeless_refused verdict answer.Keeper rules refused = subst Rules refused rule
 storeless_refused verdict (answer.Damaged key) rules refused = subst Rules refused rules
 storeless_refused verdict answer.Memory rules refused = tt
 
+pub storeless_refusal : (reply : Answer) → IsRefusal reply → IsStoreless reply
+storeless_refusal (answer.Done number made) rules = absurd rules
+storeless_refusal (answer.Shown shown) rules = absurd rules
+storeless_refusal (answer.Rule rule) rules = tt
+storeless_refusal answer.Unknown rules = tt
+storeless_refusal answer.Keeper rules = absurd rules
+storeless_refusal (answer.Damaged key) rules = absurd rules
+storeless_refusal answer.Memory rules = absurd rules
+
 -- nor of memory
-pub refused_as : (verdict : Result Facts Answer) (reply : Answer) → Rules verdict → verdict ≡ Err reply → IsRefused verdict reply
+pub refused_as : {T : Type 0} (verdict : Result T Answer) (reply : Answer) → IsRefusal reply → verdict ≡ Err reply → IsRefused verdict reply
 refused_as verdict (answer.Done number made) rules is = is
 refused_as verdict (answer.Shown shown) rules is = is
 refused_as verdict (answer.Rule rule) rules is = is
 refused_as verdict answer.Unknown rules is = is
 refused_as verdict answer.Keeper rules is = is
 refused_as verdict (answer.Damaged key) rules is = is
-refused_as verdict answer.Memory rules is = absurd (subst Rules is rules)
+refused_as verdict answer.Memory rules is = absurd rules
+
+-- what is weighed, or judged by a manager's rows, is refused so
+pub weighed_refusal : {T : Type 0} (facts : Facts) (now : ℕ) (command : Command) (result : Result T Answer) → IsWeighed facts now command result → IfErr result IsRefusal
+weighed_refusal facts now command (Ok value) granted = tt
+weighed_refusal facts now command (Err reply) is = subst Rules is (rules_judged (Some facts) now command)
+
+pub deed_refusal_is : {T : Type 0} (facts : Facts) (broken : Option Rule) (command : Command) (result : Result T Answer)
+    → IsAnswered (deed_answer facts broken command) result → IfErr result IsRefusal
+deed_refusal_is facts broken command (Ok value) a = tt
+deed_refusal_is facts broken command (Err reply) a = by_names (names_players facts command) broken a
+  where
+    by_names : (names : Bool) (broken : Option Rule) → (if names then option_map answer.Rule broken else Some answer.Unknown) ≡ Some reply → IsRefusal reply
+    by_names true None e = absurd (none-some reply e)
+    by_names true (Some rule) e = subst IsRefusal (same_Some (answer.Rule rule) reply e) tt
+    by_names false broken e = subst IsRefusal (same_Some answer.Unknown reply e) tt
 
 -- a command that nothing refuses leads to the facts that it changes
 pub granted_is : (facts : Facts) (now : ℕ) (command : Command) → IsGranted facts now command → judged (Some facts) now command ≡ Ok (changed_by facts command)
@@ -92,10 +116,6 @@ module _ (operator : List ℕ) (book : Book) (caller : Caller) (now number : ℕ
       let done : Made → Verdict = λ m. record { answer = answer.Done number m; book = accepted caller number command outcome } in
       inl (inr (fresh, sym (ap done makes) ∙ sym (ap (settled book caller number command) is) ∙ numbered none))
 
-  pub refused_answer : (reply : Answer) → number_refusal (last_number book caller) number ≡ None → due ≡ Err reply
-      → MayAnswerIn operator book caller now (request.Command number command) reply book
-  refused_answer reply none is = inl (inr (fresh, sym (ap (settled book caller number command) is) ∙ numbered none))
-
   -- memory runs out only where the command is judged well
 
   granted_by : (verdict : Result Outcome Answer) → IsOk verdict → IsGrant (settled book caller number command verdict).answer
@@ -120,15 +140,29 @@ pub shown_grants : (shown : Option Shown) → IsSome shown → IsGrant (shown_or
 shown_grants None there = absurd (false≢true there)
 shown_grants (Some what) there = tt
 
--- what is so in the book with the moment's locks is so in the same book
-pub late_in : (operator other : List ℕ) (passed book : Book) (caller : Caller) (now : ℕ) (asked : Request) (reply : Answer) → other ≡ operator → passed ≡ book
-    → IsOutLate other passed caller now asked reply → IsOutLate operator book caller now asked reply
-late_in operator other passed book caller now asked reply same is late =
-    subst (λ b. IsOutLate operator b caller now asked reply) is (subst (λ o. IsOutLate o passed caller now asked reply) same late)
-
 -- what may be answered in the book with the moment's locks may be answered in the book before
-pub may_answer : (operator : List ℕ) (failures : Failures) (book passed : Book) (caller : Caller) (now : ℕ) (asked : Request) (reply : Answer) (after : Book) → passed ≡ pass book now
-    → MayAnswerIn operator passed caller now asked reply after → MayAnswer operator failures book caller now asked reply after
-may_answer operator failures book passed caller now asked reply after same (inl verdict) =
-    inl (subst (λ b. IsVerdictIn operator b caller now asked (record { answer = reply; book = after })) same verdict)
-may_answer operator failures book passed caller now asked reply after same (inr (out, left)) = inr (inl out, inr (inl (left ∙ same)))
+pub may_answer : (operator : List ℕ) (failures : Failures) (book : Book) (caller : Caller) (now : ℕ) (asked : Request) (reply : Answer) (after : Book)
+    → MayAnswerIn operator (pass book now) caller now asked reply after → MayAnswer operator failures book caller now asked reply after
+may_answer operator failures book caller now asked reply after (inl verdict) = inl verdict
+may_answer operator failures book caller now asked reply after (inr (out, left)) = inr (inl out, inr (inl left))
+
+-- a view may be answered as it is shown
+pub view_answered : (operator : List ℕ) (failures : Failures) (book : Book) (caller : Caller) (now : ℕ) (view : View) (reply : Answer)
+    → IsShown (view_answer (pass book now) caller view) reply → MayAnswer operator failures book caller now (request.View view) reply (pass book now)
+view_answered operator failures book caller now view (answer.Done number made) is = inl (ap (λ (a : Answer). record { answer = a; book = pass book now }) is)
+view_answered operator failures book caller now view (answer.Shown shown) is = inl (ap (λ (a : Answer). record { answer = a; book = pass book now }) is)
+view_answered operator failures book caller now view (answer.Rule rule) is = inl (ap (λ (a : Answer). record { answer = a; book = pass book now }) is)
+view_answered operator failures book caller now view answer.Unknown is = inl (ap (λ (a : Answer). record { answer = a; book = pass book now }) is)
+view_answered operator failures book caller now view answer.Keeper is = absurd is
+view_answered operator failures book caller now view (answer.Damaged key) is = absurd is
+view_answered operator failures book caller now view answer.Memory is = inr (inl refl, inr (inl refl))
+
+pub view_late : (operator : List ℕ) (book : Book) (caller : Caller) (now : ℕ) (view : View) (reply : Answer)
+    → IsShown (view_answer book caller view) reply → IsOutLate operator book caller now (request.View view) reply
+view_late operator book caller now view (answer.Done number made) is = tt
+view_late operator book caller now view (answer.Shown shown) is = tt
+view_late operator book caller now view (answer.Rule rule) is = tt
+view_late operator book caller now view answer.Unknown is = tt
+view_late operator book caller now view answer.Keeper is = tt
+view_late operator book caller now view (answer.Damaged key) is = tt
+view_late operator book caller now view answer.Memory is = λ verdict same. subst (λ (v : Verdict). IsGrant v.answer) (sym same) is

@@ -1,3 +1,4 @@
 pub mod AnswerFacts
+pub mod HostFacts
 pub mod LastFacts
 pub mod RuledFacts

@@ -12,6 +12,7 @@ use Rattle.season_book.specs.Doing.{IsGranted, IsRefused}
 use Rattle.season_book.specs.Hosts.{row_at}
 use Rattle.season_book.specs.Verdict.{Outcome, accepted, judged, ruled}
 use Rattle.season_book.specs.declared.answer.Answer.{Answer}
+use Rattle.season_book.specs.declared.answer.Answer.TheVariants as answer
 use Rattle.season_book.specs.declared.command.Command.{Command}
 use Rattle.season_book.specs.declared.command.Command.TheVariants as command
 use Rattle.season_book.specs.declared.made.Made.{Made}
@@ -44,6 +45,12 @@ IsGrantedIn part.Deeds running e now command =
 
 abbrev pub IsGrantedTo : Running → Caller → ℕ → Command → Type 0
 IsGrantedTo running caller now command = IsGrantedIn (part_of command) running (caller_number caller) now command
+
+-- an answer that refuses by a rule, or because something is not there
+abbrev pub IsRefusal : Answer → Type 0
+IsRefusal (answer.Rule rule) = ⊤
+IsRefusal answer.Unknown = ⊤
+IsRefusal reply = ⊥
 
 -- a command was judged as it is ruled in a book
 abbrev pub IsRuled : {T : Type 0} → Result Outcome Answer → Result T Answer → Type 0

@@ -1,5 +1,7 @@
 // A command that is judged, done, and kept as its caller's last one.
+ghost use Rattle.std.specs.Prelude.{IfErr};
 ghost use Rattle.season_book.specs.Commands.{IsCommand};
+ghost use Rattle.season_book.specs.Doing.{IsStoreless};
 ghost use Rattle.season_host.specs.Accepting.{IsBegunAndKept, IsGrantedTo, IsKept, IsTaken, IsTakenOrOut};
 
 use crate::lasts::{LastCommand, Lasts};
@@ -23,7 +25,8 @@ pub fn accept<L: Ledger>(
     steps: &mut Steps<L>,
 ) -> Result<Made, Answer>
     requires { IsCommand command.now }
-    ensures { IsTaken operator.now caller.now now number command.now running.old running.new lasts.old lasts.new result }
+    ensures taken { IsTaken operator.now caller.now now number command.now running.old running.new lasts.old lasts.new result }
+    ensures storeless { IfErr result IsStoreless }
 {
     match running.judge(operator, caller, now, command, steps) {
         Ok(()) => match change(running, lasts, caller, now, number, command) {

@@ -1,5 +1,5 @@
 // The host of a season.
-ghost use Rattle.std.specs.Prelude.{◌≡◌, ◌≤◌, Some, MatchResult, IsOk};
+ghost use Rattle.std.specs.Prelude.{◌≡◌, ◌≤◌, Some, IfErr, MatchResult, IsOk};
 ghost use Rattle.rule_book.specs.Refusals.{IsJudged};
 ghost use Rattle.season_book.specs.Book.{Book, last_number};
 ghost use Rattle.season_book.specs.Commands.{IsCommand};
@@ -205,6 +205,7 @@ impl Host {
         requires { IsCommand command.now }
         ensures accepted { IsAccepted self.old self.new caller.now now number command.now result }
         ensures operator { self.new.operator ≡ self.old.operator }
+        ensures storeless { IfErr result IsStoreless }
     {
         match &mut self.running {
             Some(running) => accept(
@@ -217,11 +218,13 @@ impl Host {
                 command,
                 steps,
             ),
-            None => {
-                let running = begin(self.alloc, &mut self.lasts, caller, now, number, command)?;
-                self.running = Some(running);
-                Ok(Made::Nothing)
-            }
+            None => match begin(self.alloc, &mut self.lasts, caller, now, number, command) {
+                Ok(running) => {
+                    self.running = Some(running);
+                    Ok(Made::Nothing)
+                }
+                Err(refused) => Err(refused),
+            },
         }
     }
 }

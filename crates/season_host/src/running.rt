@@ -1,26 +1,26 @@
 // A season with its entries.
-ghost use Rattle.std.specs.Prelude.{◌≡◌, ◌≤◌, ℕ, List, [], OnOk, OnErr, None, length, if◌then◌else◌};
+ghost use Rattle.std.specs.Prelude.{◌≡◌, ◌≤◌, ℕ, List, [], IfErr, OnOk, OnErr, None, length, if◌then◌else◌};
 ghost use Rattle.fpl_base.specs.Texts.{is_key};
 ghost use Rattle.fpl_base.specs.declared.kinds.Caller.{Caller};
 ghost use Rattle.manager_book.specs.Managers.{manager_in};
 ghost use Rattle.season_book.specs.Book.{Book, caller_number, last_number};
 ghost use Rattle.season_book.specs.Commands.{IsCommand, part_of};
-ghost use Rattle.season_book.specs.Doing.{IsGranted};
+ghost use Rattle.season_book.specs.Doing.{IsGranted, IsStoreless};
 ghost use Rattle.season_book.specs.Verdict.{locked_at, ruled, seen_in};
 ghost use Rattle.season_book.specs.declared.part.Part.TheVariants as part;
 ghost use Rattle.season_book.specs.declared.request.View.TheVariants as view;
 ghost use Rattle.season_entries.specs.Deeds.{IsDeedGranted};
 ghost use Rattle.season_entries.specs.Keys.{keys_of};
 ghost use Rattle.season_book.specs.Hosts.{entry_with};
-ghost use Rattle.season_host.specs.Accepting.{HasRoom, IsDone, IsGrantedTo, IsRuled, made_by};
+ghost use Rattle.season_host.specs.Accepting.{HasRoom, IsDone, IsGrantedTo, IsRefusal, IsRuled, made_by};
 ghost use Rattle.season_host.specs.Standing.{Plays};
 
 use fpl_base::{Caller, EntryId, Key, Memory, Moment, Rule, Steps};
 use manager_book::ManagerBook;
 use season_book::{Answer, Command, Made, Part, Shown};
 use season_entries::{
-    do_deed, do_key, early_is_in_time, entries_are_issued, facts_leave_entries, judge_deed, judge_key,
-    moments_leave_entries, owners_are_alike,
+    do_deed, do_key, early_is_in_time, entries_are_issued, facts_leave_entries, judge_deed,
+    judge_key, moments_leave_entries, owners_are_alike,
 };
 use season_facts::Season;
 use season_views::{entry_gameweek, my_entry};
@@ -102,6 +102,7 @@ impl RunningSeason {
         requires { IsCommand command.now }
         ensures granted { OnOk result (IsGrantedTo self.now caller.now now command.now) }
         ensures ruled { (book : Book) → Plays self.now book → IsRuled (ruled operator.now book caller.now now command.now) result }
+        ensures refusal { IfErr result IsRefusal }
     {
         match command.part() {
             Part::Facts => self.season.judge(now, command, steps),
@@ -115,6 +116,7 @@ impl RunningSeason {
         requires { part_of command.now ≡ part.Entries }
         ensures granted { (now : ℕ) (caller : Caller) → OnOk result (IsGrantedTo self.now caller now command.now) }
         ensures ruled { (now : ℕ) (caller : Caller) (book : Book) → Plays self.now book → IsRuled (ruled operator.now book caller now command.now) result }
+        ensures refusal { IfErr result IsRefusal }
     {
         match command {
             Command::Key { key, .. } => match judge_key(operator, &self.managers, key) {
@@ -131,6 +133,7 @@ impl RunningSeason {
         requires deed { part_of command.now ≡ part.Deeds }
         ensures granted { (now : ℕ) → OnOk result (IsGrantedTo self.now caller.now now command.now) }
         ensures ruled { (operator : List ℕ) (now : ℕ) (book : Book) → Plays self.now book → IsRuled (ruled operator book caller.now now command.now) result }
+        ensures refusal { IfErr result IsRefusal }
     {
         // The laws on which entries are there, and when their managers act, for the prover.
         entries_are_issued();
@@ -175,7 +178,12 @@ impl RunningSeason {
     }
 
     // Does a command on the facts.
-    fn change_facts(&mut self, caller: &Caller, now: Moment, command: &Command) -> Result<(), Memory>
+    fn change_facts(
+        &mut self,
+        caller: &Caller,
+        now: Moment,
+        command: &Command,
+    ) -> Result<(), Memory>
         requires facts { part_of command.now ≡ part.Facts }
         requires granted { IsGranted self.old.facts now command.now }
         ensures done { OnOk result (IsDone caller.now now command.now self.old self.new) }
@@ -222,7 +230,8 @@ impl RunningSeason {
     /// What a caller sees of his own entry, under the number of his last command. It is computed from his rows and the
     /// facts: each line of a match that it reads is a counted read.
     pub fn my_entry<L: Ledger>(&self, caller: &Caller, last: u64, steps: &mut Steps<L>) -> Answer
-        ensures { (book : Book) → Plays self.now book → last ≡ last_number book caller.now → result ≡ seen_in book caller.now view.Me self.now.facts }
+        ensures seen { (book : Book) → Plays self.now book → last ≡ last_number book caller.now → result ≡ seen_in book caller.now view.Me self.now.facts }
+        ensures storeless { IsStoreless result }
     {
         // The law on which entries are there, and that the ids of players differ, for the prover.
         entries_are_issued();
@@ -248,7 +257,8 @@ impl RunningSeason {
         gameweek: u32,
         steps: &mut Steps<L>,
     ) -> Answer
-        ensures { (caller : Caller) (book : Book) → Plays self.now book → result ≡ seen_in book caller (view.EntryGameweek entry gameweek) self.now.facts }
+        ensures seen { (caller : Caller) (book : Book) → Plays self.now book → result ≡ seen_in book caller (view.EntryGameweek entry gameweek) self.now.facts }
+        ensures storeless { IsStoreless result }
     {
         match entry_gameweek(&self.season, &self.managers, entry, gameweek, steps) {
             Some(shown) => Answer::Shown(Shown::EntryGameweek(shown)),

@@ -1,10 +1,16 @@
-use Rattle.std.proofs.Common.{Some, refl}
-use Rattle.season_book.specs.Verdict.{judged}
-use Rattle.season_host.proofs.AnswerFacts.{refused_as, rules_judged}
+use Rattle.std.proofs.Common.{refl}
+use Rattle.season_book.specs.Verdict.{ruled}
+use Rattle.season_host.proofs.AnswerFacts.{refused_as, storeless_refusal}
 use Rattle.season_host.proofs.accept.accept.Goals as goal
 
-pub returns-in-Err : goal.returns-in-Err
-returns-in-Err g c =
-    let facts = c.args.season.now in
-    let verdict = judged (Some facts) c.args.now c.args.command.now in
-    (refl, refl, refused_as verdict c.in-Err.refused (rules_judged (Some facts) c.args.now c.args.command.now) c.in-Err.ensures)
+pub returns-in-Err-clause-taken : goal.returns-in-Err-clause-taken
+returns-in-Err-clause-taken g c = (
+  refl,
+  refl,
+  λ book plays.
+      refused_as (ruled c.args.operator.now book c.args.caller.now c.args.now c.args.command.now) c.in-Err.refused c.in-Err.ensures.refusal
+      (c.in-Err.ensures.ruled book plays),
+)
+
+pub returns-in-Err-clause-storeless : goal.returns-in-Err-clause-storeless
+returns-in-Err-clause-storeless g c = storeless_refusal c.in-Err.refused c.in-Err.ensures.refusal

@@ -1,3 +1,4 @@
+use Rattle.season_host.proofs.AnswerFacts.{weighed_refusal}
 use Rattle.season_host.proofs.running.RunningSeason.judge.Goals as goal
 
 pub returns-in-Entries-clause-ruled : goal.returns-in-Entries-clause-ruled
@@ -5,3 +6,6 @@ returns-in-Entries-clause-ruled g c = λ book plays. c.judge_entry.ensures.ruled
 
 pub returns-in-Deeds-clause-ruled : goal.returns-in-Deeds-clause-ruled
 returns-in-Deeds-clause-ruled g c = λ book plays. c.judge_deed.ensures.ruled c.args.operator.now c.args.now book plays
+
+pub returns-in-Facts-clause-refusal : goal.returns-in-Facts-clause-refusal
+returns-in-Facts-clause-refusal g c = weighed_refusal c.self.inside.season c.args.now c.args.command.now c.judge.result c.judge.ensures

@@ -1,6 +1,9 @@
 use Rattle.std.proofs.Common.{◌≡◌, ◌≤◌, ◌<◌, None, ap, arith, length, refl, subst, sym}
+use Rattle.manager_book.specs.Managers.{season_of}
 use Rattle.season_book.specs.Book.{Book, caller_number}
+use Rattle.season_entries.specs.Deeds.{rows_refusal}
 use Rattle.season_host.specs.Standing.{Plays, Running}
+use Rattle.season_host.proofs.AnswerFacts.{deed_refusal_is}
 use Rattle.season_host.proofs.RuledFacts.{deed_ruled, nobody_ruled}
 use Rattle.season_host.proofs.running.RunningSeason.judge_deed.Goals as goal
 
@@ -21,3 +24,10 @@ returns-else-get-entries-clause-ruled c = λ operator now book plays.
     nobody_ruled operator book c.args.caller.now now c.args.command.now running plays_here c.entries_are_issued.ensures c.in-Entry.entry
     c.requires.deed (ap caller_number c.in-Entry.is)
     ((c.entries_are_issued.ensures running.facts.players running.managers book.entries c.in-Entry.entry plays_here.entries).none past)
+
+pub returns-then-get-entries-clause-refusal : goal.returns-then-get-entries-clause-refusal
+returns-then-get-entries-clause-refusal c =
+    let season = c.self.inside.season in
+    let managers = c.self.inside.managers in
+    deed_refusal_is season (rows_refusal season (season_of managers c.in-Entry.entry) c.args.command.now) c.args.command.now c.judge_deed.result
+    c.judge_deed.ensures.rows

@@ -17,8 +17,8 @@ use Rattle.season_host.specs.Standing.{Plays, Running}
 use Rattle.season_host.proofs.RuledFacts.{me_seen, me_unseen}
 use Rattle.season_host.proofs.running.RunningSeason.my_entry.Goals as goal
 
-pub returns-then-get-entries : goal.returns-then-get-entries
-returns-then-get-entries g c = λ book plays is_last.
+pub returns-then-get-entries-clause-seen : goal.returns-then-get-entries-clause-seen
+returns-then-get-entries-clause-seen g c = λ book plays is_last.
     let running : Running = record { facts = c.self.inside.season; managers = c.self.inside.managers.managers } in
     let here : Plays running book = subst (λ r. Plays r book) (sym c.self.view_is) plays in
     let past : length running.managers < c.in-Entry.entry = omega (arith, c.get.ensures.value, c.entries.ensures.count, c.if-get-entries.true) in
@@ -30,8 +30,8 @@ my_entry-requires-clause-later g c =
     let seen = gameweek_seen c.self.inside.season.calendar in
     in_time_at (Some seen) (Some seen) c.self.inside.managers c.in-Entry.entry refl c.self.invariant.early
 
-pub returns-in-Some : goal.returns-in-Some
-returns-in-Some g c = λ book plays is_last.
+pub returns-in-Some-clause-seen : goal.returns-in-Some-clause-seen
+returns-in-Some-clause-seen g c = λ book plays is_last.
     let running : Running = record { facts = c.self.inside.season; managers = c.self.inside.managers.managers } in
     let here : Plays running book = subst (λ r. Plays r book) (sym c.self.view_is) plays in
     let one : 1 ≤ c.in-Entry.entry = subst (λ n. 1 ≤ n) c.get.ensures.value c.get.ensures.range in
@@ -44,8 +44,8 @@ returns-in-Some g c = λ book plays is_last.
     (me_seen book running.facts c.args.caller.now c.in-Entry.entry c.args.last there.0 there.1 (ap caller_number c.in-Entry.is) is_last c.in-Some.shown
     (sym (c.my_entry.ensures there.0.history stands) ∙ c.in-Some.is))
 
-pub returns-in-None : goal.returns-in-None
-returns-in-None g c = λ book plays is_last.
+pub returns-in-None-clause-seen : goal.returns-in-None-clause-seen
+returns-in-None-clause-seen g c = λ book plays is_last.
     let running : Running = record { facts = c.self.inside.season; managers = c.self.inside.managers.managers } in
     let here : Plays running book = subst (λ r. Plays r book) (sym c.self.view_is) plays in
     let one : 1 ≤ c.in-Entry.entry = subst (λ n. 1 ≤ n) c.get.ensures.value c.get.ensures.range in
