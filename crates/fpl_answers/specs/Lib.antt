@@ -1,5 +1,6 @@
 pub mod Answers
 pub mod KeptPlaces
+pub mod KindNames
 pub mod MemberData
 pub mod RuleData
 pub mod ShownData

@@ -3,6 +3,8 @@
 #![tactic(auto)]
 
 mod answers;
+mod entries;
+mod kinds;
 mod members;
 mod rules;
 mod texts;

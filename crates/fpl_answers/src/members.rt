@@ -1,11 +1,12 @@
 // Members of an answer, written one at a time, and objects of one or two numbers. What is inlined tests no constant
 // name for escapes when it runs.
-ghost use Rattle.std.specs.Prelude.{◌≡◌};
+ghost use Rattle.std.specs.Prelude.{◌≡◌, codes};
 ghost use Rattle.serde_json.specs.Data.{boolean, member, no_members, null, number, object, string};
 ghost use Rattle.serde_json.specs.Find.{of_integer};
-ghost use Rattle.fpl_answers.specs.MemberData.{count};
+ghost use Rattle.fpl_answers.specs.MemberData.{count, count_or_null};
 ghost use Rattle.fpl_answers.specs.Tokens.{Appends, member_tokens, tokens_of};
 
+use fpl_base::Gw;
 use json::Writer;
 use std::alloc::AllocError;
 
@@ -50,6 +51,16 @@ pub(crate) fn write_nothing(out: &mut Writer, name: &str) -> Result<(), AllocErr
 {
     out.key(name)?;
     out.null()
+}
+
+/// A gameweek, or `null` where there is none.
+pub(crate) fn write_gameweek(out: &mut Writer, gameweek: Option<Gw>) -> Result<(), AllocError>
+    ensures { Appends result out.old out.new (member_tokens (codes "gameweek") (count_or_null gameweek)) }
+{
+    match gameweek {
+        Some(gameweek) => write_count(out, "gameweek", u64::from(gameweek.get())),
+        None => write_nothing(out, "gameweek"),
+    }
 }
 
 /// An object of one number.

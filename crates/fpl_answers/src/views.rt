@@ -1,13 +1,15 @@
 // What the views show: a small function for each, and one for each list in it.
-ghost use Rattle.std.specs.Prelude.{◌≡◌, codes, map};
+ghost use Rattle.std.specs.Prelude.{◌≡◌, map};
 ghost use Rattle.serde_json.specs.Data.{array};
 ghost use Rattle.serde_json.specs.View.{items_of};
-ghost use Rattle.fpl_answers.specs.MemberData.{count, count_or_null};
+ghost use Rattle.fpl_answers.specs.MemberData.{count};
 ghost use Rattle.fpl_answers.specs.ShownData.{club_data, figures_data, fixture_data, line_data, player_data, season_data, shown_data};
-ghost use Rattle.fpl_answers.specs.Tokens.{Appends, member_tokens, tokens_of};
+ghost use Rattle.fpl_answers.specs.Tokens.{Appends, tokens_of};
 
-use crate::members::{write_count, write_integer, write_nothing, write_text, write_truth};
-use fpl_base::{ClubId, Gw, Moment, Name};
+use crate::entries::{write_entry_gameweek, write_me};
+use crate::kinds::profile_number;
+use crate::members::{write_count, write_gameweek, write_integer, write_text, write_truth};
+use fpl_base::{ClubId, Moment, Name};
 use json::Writer;
 use rule_book::{Figures, Player};
 use season_book::{Shown, ShownFixture, ShownLine, ShownSeason};
@@ -30,6 +32,8 @@ pub(crate) fn room_of(shown: &Shown) -> usize {
                 .saturating_mul(56)
                 .saturating_add(128)
         }
+        Shown::Me(_) => 1280,
+        Shown::EntryGameweek(_) => 320,
         _ => 160,
     }
 }
@@ -42,6 +46,8 @@ pub(crate) fn write_shown(out: &mut Writer, shown: &Shown) -> Result<(), AllocEr
         Shown::Player(player) => write_player(out, player),
         Shown::PlayerGameweek(figures) => write_figures(out, figures),
         Shown::Fixture(fixture) => write_fixture(out, fixture),
+        Shown::Me(me) => write_me(out, me),
+        Shown::EntryGameweek(gameweek) => write_entry_gameweek(out, gameweek),
     }
 }
 
@@ -54,6 +60,7 @@ fn write_season(out: &mut Writer, season: &ShownSeason) -> Result<(), AllocError
     out.key("deadlines")?;
     write_moments(out, season.deadlines.as_slice())?;
     write_count(out, "locked", u64::from(season.locked))?;
+    write_count(out, "profile", u64::from(profile_number(season.profile)))?;
     write_count(out, "split", u64::from(season.split))?;
     out.end_object()
 }
@@ -125,16 +132,6 @@ fn write_fixture(out: &mut Writer, shown: &ShownFixture) -> Result<(), AllocErro
     out.key("lines")?;
     write_lines(out, shown.lines.as_slice())?;
     out.end_object()
-}
-
-/// The gameweek of a fixture, or `null` where it stands in none.
-fn write_gameweek(out: &mut Writer, gameweek: Option<Gw>) -> Result<(), AllocError>
-    ensures { Appends result out.old out.new (member_tokens (codes "gameweek") (count_or_null gameweek)) }
-{
-    match gameweek {
-        Some(gameweek) => write_count(out, "gameweek", u64::from(gameweek.get())),
-        None => write_nothing(out, "gameweek"),
-    }
 }
 
 fn write_lines(out: &mut Writer, lines: &[ShownLine]) -> Result<(), AllocError>

@@ -1,12 +1,16 @@
 -- Members of bodies: what each is read as, and which is the first wrong one.
-use Rattle.std.specs.Prelude.{◌≡◌, ℕ, Bool, ◌&&◌, List, [], ◌∷◌, length, codes, nat_le, if◌then◌else◌, Option, Some, None, is_some, option_and_then, Result, Ok, Err, Vec, ⊤}
-use Rattle.std.specs.Option.{option_map}
+use Rattle.std.specs.Prelude.{◌≡◌, ℕ, Bool, ◌&&◌, ◌==◌, List, [], ◌∷◌, length, codes, nat_le, if◌then◌else◌, Option, Some, None, is_some, option_and_then, Result, Ok, Err, Vec, ⊤}
+use Rattle.std.specs.Option.{option_map, option_map_or}
 use Rattle.std.specs.declared.alloc.Global.{Global}
 use Rattle.std.specs.Borrow.{Bor}
 use Rattle.std.specs.Str.{bytes_eq, is_utf8}
+use Rattle.fpl_base.specs.declared.kinds.Chip.{Chip}
+use Rattle.fpl_base.specs.declared.kinds.Chip.TheVariants as chip
 use Rattle.fpl_base.specs.declared.kinds.Position.{Position}
 use Rattle.fpl_base.specs.declared.kinds.Position.TheVariants as position
-use Rattle.fpl_base.specs.Texts.{is_name}
+use Rattle.fpl_base.specs.declared.kinds.Profile.{Profile}
+use Rattle.fpl_base.specs.declared.kinds.Profile.TheVariants as profile
+use Rattle.fpl_base.specs.Texts.{is_key, is_name}
 use Rattle.serde_json.specs.Data.{Data, Items, no_items, item}
 use Rattle.serde_json.specs.Find.{get, as_array, as_bool, as_null, as_number, as_object, as_str, as_u64}
 use Rattle.serde_json.specs.Read.{read}
@@ -100,6 +104,13 @@ if_name which bytes = if is_name bytes then Ok bytes else Err which
 abbrev pub title : FieldName → Data → Result (List ℕ) FieldName
 title which d = text which d >>= if_name which
 
+-- a key
+abbrev pub if_key : FieldName → List ℕ → Result (List ℕ) FieldName
+if_key which bytes = if is_key bytes then Ok bytes else Err which
+
+abbrev pub key : FieldName → Data → Result (List ℕ) FieldName
+key which d = text which d >>= if_key which
+
 -- a position by its letter
 abbrev pub position_of : List ℕ → Option Position
 position_of letter =
@@ -111,6 +122,26 @@ position_of letter =
 
 abbrev pub position_in : FieldName → Data → Result Position FieldName
 position_in which d = text which d >>= λ letter. or_wrong which (position_of letter)
+
+-- a chip by its name
+abbrev pub chip_of : List ℕ → Option Chip
+chip_of name =
+    if bytes_eq name (codes "wildcard") then Some chip.Wildcard
+    else if bytes_eq name (codes "free_hit") then Some chip.FreeHit
+    else if bytes_eq name (codes "bench_boost") then Some chip.BenchBoost
+    else if bytes_eq name (codes "triple_captain") then Some chip.TripleCaptain
+    else None
+
+abbrev pub chip_in : FieldName → Data → Result Chip FieldName
+chip_in which d = text which d >>= λ name. or_wrong which (chip_of name)
+
+-- a profile by its number: 1 is A, and 2 is B
+abbrev pub profile_of : Data → Option Profile
+profile_of d = option_map (λ n. if n == 1 then profile.A else profile.B) (number_in 1 2 d)
+
+-- a profile, which is A where the member is missing
+abbrev pub profile_in : FieldName → Data → Result Profile FieldName
+profile_in which d = option_map_or (λ one. or_wrong which (profile_of one)) (member which d) (Ok profile.A)
 
 -- Lists.
 

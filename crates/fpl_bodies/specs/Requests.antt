@@ -2,6 +2,7 @@
 use Rattle.std.specs.Prelude.{ℕ, Bool, true, not, ◌==◌, ◌&&◌, List, [], ◌∷◌, length, if◌then◌else◌, Result, Ok, Err, slice_index}
 use Rattle.std.specs.List.{list_any}
 use Rattle.rule_book.specs.declared.line.Line.{Line}
+use Rattle.rule_book.specs.declared.transfers.Swap.{Swap}
 use Rattle.season_book.specs.declared.command.Command.{Command}
 use Rattle.season_book.specs.declared.command.Command.TheVariants as command
 use Rattle.season_book.specs.Commands.{club_ids}
@@ -19,7 +20,7 @@ use Rattle.fpl_routes.specs.declared.route.CommandRoute.TheVariants as route
 use Rattle.fpl_routes.specs.declared.route.Route.{Route}
 use Rattle.fpl_routes.specs.declared.route.ViewRoute.{ViewRoute}
 use Rattle.fpl_routes.specs.declared.route.ViewRoute.TheVariants as seen
-use Rattle.fpl_bodies.specs.Members.{◌>>=◌, club_id, entry, fixture_id, gameweek, last_moment, list, moment, object_of, place, player_id, position_in, price, title, truth, whole}
+use Rattle.fpl_bodies.specs.Members.{◌>>=◌, chip_in, club_id, entry, fixture_id, gameweek, key, last_moment, list, moment, object_of, place, player_id, position_in, price, profile_in, title, truth, whole}
 
 -- The parts of commands.
 
@@ -62,12 +63,25 @@ if_guest home away = if away == home then Err field.Away else Ok away
 abbrev pub guest : ℕ → Data → Result ℕ FieldName
 guest home d = club_id field.Away d >>= if_guest home
 
+-- fifteen players, by slot
+abbrev pub fifteen : Data → Result (List ℕ) FieldName
+fifteen d = list field.Players 15 15 (entry field.Players 1 999999) d
+
+-- who goes, and who comes
+abbrev pub swap : Data → Result Swap FieldName
+swap d = player_id field.Out d >>= λ out. player_id field.In d >>= λ into. Ok (record { out = out; into = into })
+
+-- 1 to 15 transfers
+abbrev pub swaps : Data → Result (List Swap) FieldName
+swaps d = list field.Swaps 1 15 swap d
+
 -- The commands, each by its members in their order.
 
 abbrev pub season : Data → Result Command FieldName
 season d =
     deadlines d >>= λ ms. whole field.Split 0 (length ms) d >>= λ split. clubs d >>= λ cs.
-    Ok (command.Season ms split cs)
+    profile_in field.Profile d >>= λ profile.
+    Ok (command.Season profile ms split cs)
 
 abbrev pub deadline : Data → Result Command FieldName
 deadline d = gameweek field.Gameweek d >>= λ g. moment field.Deadline d >>= λ m. Ok (command.Deadline g m)
@@ -108,6 +122,25 @@ drop f d = player_id field.Player d >>= λ p. Ok (command.Drop f p)
 abbrev pub finish : ℕ → Data → Result Command FieldName
 finish f d = truth field.Finished d >>= λ finished. Ok (command.Finished f finished)
 
+abbrev pub new_key : Data → Result Command FieldName
+new_key d = key field.Key d >>= λ k. title field.Name d >>= λ name. Ok (command.Key k name)
+
+abbrev pub squad : Data → Result Command FieldName
+squad d =
+    fifteen d >>= λ ps. player_id field.Captain d >>= λ captain. player_id field.Vice d >>= λ vice.
+    Ok (command.Squad ps captain vice)
+
+abbrev pub transfers : Data → Result Command FieldName
+transfers d = swaps d >>= λ ss. Ok (command.Transfers ss)
+
+abbrev pub lineup : Data → Result Command FieldName
+lineup d =
+    fifteen d >>= λ ps. player_id field.Captain d >>= λ captain. player_id field.Vice d >>= λ vice.
+    Ok (command.Lineup ps captain vice)
+
+abbrev pub play : Data → Result Command FieldName
+play d = chip_in field.Chip d >>= λ c. Ok (command.Chip c)
+
 -- the command of a route at a fixture, where its target names one
 abbrev pub command_of : CommandRoute → ℕ → Data → Result Command FieldName
 command_of route.Season f d = season d
@@ -122,15 +155,23 @@ command_of route.Sheet f d = sheet f d
 command_of route.Line f d = put f d
 command_of route.Drop f d = drop f d
 command_of route.Finished f d = finish f d
+command_of route.Keys f d = new_key d
+command_of route.Squad f d = squad d
+command_of route.Transfers f d = transfers d
+command_of route.Lineup f d = lineup d
+command_of route.Chip f d = play d
+command_of route.CancelChip f d = Ok command.CancelChip
 
 -- The requests.
 
 -- the view of a route, at the ids of its target
 abbrev pub view_of : ViewRoute → List ℕ → View
 view_of seen.ShowSeason ids = view.Season
+view_of seen.ShowMe ids = view.Me
 view_of seen.ShowPlayer ids = view.Player (slice_index ids 0)
 view_of seen.ShowPlayerGameweek ids = view.PlayerGameweek (slice_index ids 0) (slice_index ids 1)
 view_of seen.ShowFixture ids = view.Fixture (slice_index ids 0)
+view_of seen.ShowEntryGameweek ids = view.EntryGameweek (slice_index ids 0) (slice_index ids 1)
 
 -- the command that a body orders, under its number, which comes first
 abbrev pub ordered : CommandRoute → ℕ → List ℕ → Result Request FieldName

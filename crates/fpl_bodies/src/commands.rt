@@ -2,13 +2,13 @@
 ghost use Rattle.std.specs.Prelude.{◌≢◌, IfOk};
 ghost use Rattle.season_book.specs.Commands.{IsCommand};
 ghost use Rattle.fpl_bodies.specs.Members.{Gives};
-ghost use Rattle.fpl_bodies.specs.Requests.{command_of, deadline, drop, finish, fixture, gone, guest, move, new_club, new_price, player, put, season, sheet};
+ghost use Rattle.fpl_bodies.specs.Requests.{command_of, deadline, drop, finish, fixture, gone, guest, lineup, move, new_club, new_key, new_price, play, player, put, season, sheet, squad, transfers};
 ghost use Rattle.json_tree.specs.Trees.{view};
 
-use crate::lists::{clubs, deadlines, lines, player_line};
+use crate::lists::{clubs, deadlines, fifteen, lines, player_line, swaps};
 use crate::members::{
-    club_id, fixture_id, gameweek, moment, place, player_id, position, price, title, truth, whole,
-    wrong,
+    chip, club_id, fixture_id, gameweek, key, moment, place, player_id, position, price, profile,
+    title, truth, whole, wrong,
 };
 use crate::{FieldName, ReadFault};
 use fpl_base::ClubId;
@@ -40,6 +40,12 @@ pub(crate) fn read_command(
         CommandRoute::Line => put(alloc, fixture_there, value),
         CommandRoute::Drop => dropped(fixture_there, value),
         CommandRoute::Finished => finished(fixture_there, value),
+        CommandRoute::Keys => new_key(alloc, value),
+        CommandRoute::Squad => squad(alloc, value),
+        CommandRoute::Transfers => transfers(alloc, value),
+        CommandRoute::Lineup => lineup(alloc, value),
+        CommandRoute::Chip => play(value),
+        CommandRoute::CancelChip => Ok(Command::CancelChip),
     }
 }
 
@@ -51,7 +57,9 @@ fn season(alloc: Global, value: &Tree<'_>) -> Result<Command, ReadFault>
     let greatest = deadlines.as_slice().len() as u64;
     let split = whole(value, FieldName::Split, 0, greatest)?;
     let clubs = clubs(alloc, value)?;
+    let profile = profile(value, FieldName::Profile)?;
     Ok(Command::Season {
+        profile,
         deadlines,
         split: split as u8,
         clubs,
@@ -195,4 +203,57 @@ fn finished(fixture: u32, value: &Tree<'_>) -> Result<Command, ReadFault>
 {
     let finished = truth(value, FieldName::Finished)?;
     Ok(Command::Finished { fixture, finished })
+}
+
+fn new_key(alloc: Global, value: &Tree<'_>) -> Result<Command, ReadFault>
+    ensures gives { Gives result (new_key (view value.now)) }
+    ensures readable { IfOk result IsCommand }
+{
+    let key = key(alloc, value, FieldName::Key)?;
+    let name = title(alloc, value, FieldName::Name)?;
+    Ok(Command::Key { key, name })
+}
+
+fn squad(alloc: Global, value: &Tree<'_>) -> Result<Command, ReadFault>
+    ensures gives { Gives result (squad (view value.now)) }
+    ensures readable { IfOk result IsCommand }
+{
+    let players = fifteen(alloc, value)?;
+    let captain = player_id(value, FieldName::Captain)?;
+    let vice = player_id(value, FieldName::Vice)?;
+    Ok(Command::Squad {
+        players,
+        captain,
+        vice,
+    })
+}
+
+fn transfers(alloc: Global, value: &Tree<'_>) -> Result<Command, ReadFault>
+    ensures gives { Gives result (transfers (view value.now)) }
+    ensures readable { IfOk result IsCommand }
+{
+    let swaps = swaps(alloc, value)?;
+    Ok(Command::Transfers { swaps })
+}
+
+fn lineup(alloc: Global, value: &Tree<'_>) -> Result<Command, ReadFault>
+    ensures gives { Gives result (lineup (view value.now)) }
+    ensures readable { IfOk result IsCommand }
+{
+    let players = fifteen(alloc, value)?;
+    let captain = player_id(value, FieldName::Captain)?;
+    let vice = player_id(value, FieldName::Vice)?;
+    Ok(Command::Lineup {
+        players,
+        captain,
+        vice,
+    })
+}
+
+fn play(value: &Tree<'_>) -> Result<Command, ReadFault>
+    ensures gives { Gives result (play (view value.now)) }
+    ensures readable { IfOk result IsCommand }
+{
+    let chip = chip(value, FieldName::Chip)?;
+    Ok(Command::Chip { chip })
 }

@@ -6,15 +6,15 @@ ghost use Rattle.rule_book.specs.Ranks.{AllDiffer};
 ghost use Rattle.fpl_bodies.specs.declared.field.FieldName.{FieldName};
 ghost use Rattle.fpl_bodies.specs.declared.field.FieldName.TheVariants as field;
 ghost use Rattle.fpl_bodies.specs.Members.{Gives, GivesItems, each, entry, last_moment, under};
-ghost use Rattle.fpl_bodies.specs.Requests.{club, clubs, deadlines, differ, line, lines, player_line};
+ghost use Rattle.fpl_bodies.specs.Requests.{club, clubs, deadlines, differ, fifteen, line, lines, player_line, swap, swaps};
 ghost use Rattle.json_tree.specs.Trees.{items_view, view};
 
-use crate::members::{club_id, entry, items, moment_entry, player_id, title, wrong};
+use crate::members::{club_id, entry, items, moment_entry, player_entry, player_id, title, wrong};
 use crate::{FieldName, ReadFault};
 use fpl_base::{ClubId, Name, PlayerId};
 use json_tree::Tree;
-use rule_book::Line;
-use season_book::{Clubs, Lines, Moments};
+use rule_book::{Line, Swap};
+use season_book::{Clubs, Lines, Moments, Swaps};
 use std::alloc::Global;
 
 // Whatever is wrong inside of a list, the list is named.
@@ -169,4 +169,61 @@ fn each_line(alloc: Global, values: &[Tree<'_>]) -> Result<Lines, ReadFault>
         list.push(one)?;
     }
     Ok(list)
+}
+
+/// The fifteen players of a team, by slot.
+#[tactic(auto, using(crate::proofs::EntryLemmas::under_entry))]
+pub(crate) fn fifteen(alloc: Global, value: &Tree<'_>) -> Result<[PlayerId; 15], ReadFault>
+    ensures { Gives result (fifteen (view value.now)) }
+{
+    let values = items(value, FieldName::Players)?;
+    let list = each_player(alloc, values)?;
+    match <[PlayerId; 15]>::try_from(list.as_slice()) {
+        Ok(players) => Ok(players),
+        Err(_) => Err(wrong(FieldName::Players)),
+    }
+}
+
+fn each_player(alloc: Global, values: &[Tree<'_>]) -> Result<Vec<PlayerId>, ReadFault>
+    ensures { GivesItems result (each (entry field.Players 1 999999) (items_view values.now)) }
+{
+    let mut list = Vec::with_capacity(alloc, values.len().min(15))?;
+    for value in values {
+        let one = player_entry(value, FieldName::Players)?;
+        list.push(one)?;
+    }
+    Ok(list)
+}
+
+/// The transfers of a batch.
+pub(crate) fn swaps(alloc: Global, value: &Tree<'_>) -> Result<Swaps, ReadFault>
+    ensures gives { Gives result (swaps (view value.now)) }
+    ensures long { IfOk result (λ ss. (1 ≤ length ss) × (length ss ≤ 15)) }
+{
+    let values = items(value, FieldName::Swaps)?;
+    let list = under(each_swap(alloc, values), FieldName::Swaps)?;
+    if is_long(list.as_slice().len(), 1, 15) {
+        Ok(list)
+    } else {
+        Err(wrong(FieldName::Swaps))
+    }
+}
+
+fn each_swap(alloc: Global, values: &[Tree<'_>]) -> Result<Swaps, ReadFault>
+    ensures { Gives result (each swap (items_view values.now)) }
+{
+    let mut list = Swaps::new(alloc);
+    for value in values {
+        let one = swap(value)?;
+        list.push(one)?;
+    }
+    Ok(list)
+}
+
+fn swap(value: &Tree<'_>) -> Result<Swap, ReadFault>
+    ensures { Gives result (swap (view value.now)) }
+{
+    let out = player_id(value, FieldName::Out)?;
+    let into = player_id(value, FieldName::In)?;
+    Ok(Swap { out, into })
 }

@@ -1,11 +1,12 @@
 // Readers of members, each by its name. A fault names the member.
-ghost use Rattle.std.specs.Prelude.{◌≡◌, ◌≤◌, IfOk};
+ghost use Rattle.std.specs.Prelude.{◌≡◌, ◌≢◌, ◌≤◌, IfOk, IfSome};
+ghost use Rattle.fpl_base.specs.declared.kinds.Chip.TheVariants.{None as NoChip};
 ghost use Rattle.fpl_bodies.specs.declared.field.ReadFault.TheVariants as fault;
-ghost use Rattle.fpl_bodies.specs.Members.{Gives, GivesText, GivesTrees, club_id, entry, fixture_id, gameweek, items, last_moment, moment, number_in, place, place_in, player_id, position_in, position_of, price, text, title, truth, whole};
+ghost use Rattle.fpl_bodies.specs.Members.{Gives, GivesText, GivesTrees, chip_in, chip_of, club_id, entry, fixture_id, gameweek, items, key, last_moment, moment, number_in, place, place_in, player_id, position_in, position_of, price, profile_in, profile_of, text, title, truth, whole};
 ghost use Rattle.json_tree.specs.Trees.{view};
 
 use crate::{FieldName, ReadFault};
-use fpl_base::{ClubId, FixtureId, Gw, Moment, Name, PlayerId, Position};
+use fpl_base::{Chip, ClubId, FixtureId, Gw, Key, Moment, Name, PlayerId, Position, Profile};
 use json_tree::Tree;
 use std::alloc::Global;
 
@@ -91,6 +92,14 @@ pub(crate) fn moment_entry(value: &Tree<'_>, list: FieldName) -> Result<Moment, 
     Moment::new(n).ok_or(wrong(list))
 }
 
+/// The player that a value names, as an item of the list of this name.
+pub(crate) fn player_entry(value: &Tree<'_>, list: FieldName) -> Result<PlayerId, ReadFault>
+    ensures { Gives result (entry list 1 999999 (view value.now)) }
+{
+    let n = entry(value, list, 1, 999_999)?;
+    PlayerId::new(n as u32).ok_or(wrong(list))
+}
+
 /// The number that a value is, as an item of the list of this name.
 pub(crate) fn entry(
     value: &Tree<'_>,
@@ -125,6 +134,27 @@ fn place_in(value: &Tree<'_>) -> Option<Option<Gw>>
     Some(Gw::new(n as u8))
 }
 
+/// By which rules a season is played. The member may be missing.
+pub(crate) fn profile(value: &Tree<'_>, which: FieldName) -> Result<Profile, ReadFault>
+    ensures { Gives result (profile_in which (view value.now)) }
+{
+    match value.get(which.name()) {
+        Some(one) => profile_of(one).ok_or(wrong(which)),
+        None => Ok(Profile::A),
+    }
+}
+
+fn profile_of(value: &Tree<'_>) -> Option<Profile>
+    ensures { result ≡ profile_of (view value.now) }
+{
+    let n = number_in(value, 1, 2)?;
+    if n == 1 {
+        Some(Profile::A)
+    } else {
+        Some(Profile::B)
+    }
+}
+
 // Other kinds.
 
 pub(crate) fn truth(value: &Tree<'_>, which: FieldName) -> Result<bool, ReadFault>
@@ -156,6 +186,17 @@ pub(crate) fn title(alloc: Global, value: &Tree<'_>, which: FieldName) -> Result
     }
 }
 
+/// A key.
+pub(crate) fn key(alloc: Global, value: &Tree<'_>, which: FieldName) -> Result<Key, ReadFault>
+    ensures { Gives result (key which (view value.now)) }
+{
+    let text = text(value, which)?;
+    match Key::new(alloc, text.as_bytes())? {
+        Some(key) => Ok(key),
+        None => Err(wrong(which)),
+    }
+}
+
 pub(crate) fn position(value: &Tree<'_>, which: FieldName) -> Result<Position, ReadFault>
     ensures { Gives result (position_in which (view value.now)) }
 {
@@ -167,6 +208,28 @@ fn position_of(letter: &[u8]) -> Option<Position>
     ensures { result ≡ position_of letter.now }
 {
     Position::from_letter(letter)
+}
+
+/// A chip.
+pub(crate) fn chip(value: &Tree<'_>, which: FieldName) -> Result<Chip, ReadFault>
+    ensures gives { Gives result (chip_in which (view value.now)) }
+    ensures one { IfOk result (λ chip. chip ≢ NoChip) }
+{
+    let text = text(value, which)?;
+    chip_of(text).ok_or(wrong(which))
+}
+
+fn chip_of(name: &str) -> Option<Chip>
+    ensures gives { result ≡ chip_of name.now }
+    ensures one { IfSome result (λ chip. chip ≢ NoChip) }
+{
+    match name {
+        "wildcard" => Some(Chip::Wildcard),
+        "free_hit" => Some(Chip::FreeHit),
+        "bench_boost" => Some(Chip::BenchBoost),
+        "triple_captain" => Some(Chip::TripleCaptain),
+        _ => None,
+    }
 }
 
 /// The items of a list.

@@ -39,12 +39,17 @@ fn view_of(view: ViewRoute, ids: [u32; 2]) -> View
 {
     match view {
         ViewRoute::ShowSeason => View::Season,
+        ViewRoute::ShowMe => View::Me,
         ViewRoute::ShowPlayer => View::Player { player: ids[0] },
         ViewRoute::ShowPlayerGameweek => View::PlayerGameweek {
             player: ids[0],
             gameweek: ids[1],
         },
         ViewRoute::ShowFixture => View::Fixture { fixture: ids[0] },
+        ViewRoute::ShowEntryGameweek => View::EntryGameweek {
+            entry: ids[0],
+            gameweek: ids[1],
+        },
     }
 }
 

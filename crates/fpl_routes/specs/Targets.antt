@@ -5,7 +5,7 @@ use Rattle.std.specs.Str.{IsUtf8, bytes_eq}
 use Rattle.fpl_routes.specs.declared.route.Asks.{Asks}
 use Rattle.fpl_routes.specs.declared.route.Asks.TheVariants.{Command, View}
 use Rattle.fpl_routes.specs.declared.route.Callers.{Callers}
-use Rattle.fpl_routes.specs.declared.route.Callers.TheVariants.{Operator, Both}
+use Rattle.fpl_routes.specs.declared.route.Callers.TheVariants.{Operator, Entry, Both}
 use Rattle.fpl_routes.specs.declared.route.CommandRoute.TheVariants as command
 use Rattle.fpl_routes.specs.declared.route.Found.{Found}
 use Rattle.fpl_routes.specs.declared.route.Found.TheVariants as found
@@ -36,10 +36,18 @@ served =
     ∷ (Post, codes "/fixtures/{f}/line", Operator, Command command.Line)
     ∷ (Post, codes "/fixtures/{f}/drop", Operator, Command command.Drop)
     ∷ (Post, codes "/fixtures/{f}/finished", Operator, Command command.Finished)
+    ∷ (Post, codes "/keys", Operator, Command command.Keys)
+    ∷ (Post, codes "/squad", Entry, Command command.Squad)
+    ∷ (Post, codes "/transfers", Entry, Command command.Transfers)
+    ∷ (Post, codes "/lineup", Entry, Command command.Lineup)
+    ∷ (Post, codes "/chip", Entry, Command command.Chip)
+    ∷ (Post, codes "/chip/cancel", Entry, Command command.CancelChip)
     ∷ (Get, codes "/season", Both, View view.ShowSeason)
+    ∷ (Get, codes "/me", Entry, View view.ShowMe)
     ∷ (Get, codes "/players/{p}", Both, View view.ShowPlayer)
     ∷ (Get, codes "/players/{p}/gameweeks/{g}", Both, View view.ShowPlayerGameweek)
     ∷ (Get, codes "/fixtures/{f}", Both, View view.ShowFixture)
+    ∷ (Get, codes "/entries/{e}/gameweeks/{g}", Both, View view.ShowEntryGameweek)
     ∷ []
 
 abbrev pub is_method : Method → Method → Bool

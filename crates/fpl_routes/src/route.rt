@@ -25,15 +25,23 @@ pub enum CommandRoute {
     Line,
     Drop,
     Finished,
+    Keys,
+    Squad,
+    Transfers,
+    Lineup,
+    Chip,
+    CancelChip,
 }
 
 /// The views that have a route.
 #[derive(Clone, Copy, Debug, PartialEq, Eq)]
 pub enum ViewRoute {
     ShowSeason,
+    ShowMe,
     ShowPlayer,
     ShowPlayerGameweek,
     ShowFixture,
+    ShowEntryGameweek,
 }
 
 /// What a route asks of the host.
@@ -48,8 +56,11 @@ pub enum Asks {
 /// Who may ask a route.
 #[derive(Clone, Copy, Debug, PartialEq, Eq)]
 pub enum Callers {
+    /// The operator alone.
     Operator,
+    /// The managers of entries alone.
     Entry,
+    /// Every caller.
     Both,
 }
 

@@ -5,11 +5,14 @@ ghost use Rattle.fpl_routes.specs.Tables.{IsAt, IsNowhere, IsOne, all_added, row
 ghost use Rattle.fpl_routes.specs.Targets.{AreIds, IsFound, IsId, IsShaped, after_segment, braces, ids_in, is_method, method_of, own_segment, place_of, rows_at};
 
 use crate::Asks::{Command, View};
-use crate::Callers::{Both, Operator};
+use crate::Callers::{Both, Entry, Operator};
 use crate::CommandRoute::{
-    Clubs, Deadlines, Drop, Finished, Fixtures, Gone, Line, Move, Players, Prices, Season, Sheet,
+    CancelChip, Chip, Clubs, Deadlines, Drop, Finished, Fixtures, Gone, Keys, Line, Lineup, Move,
+    Players, Prices, Season, Sheet, Squad, Transfers,
 };
-use crate::ViewRoute::{ShowFixture, ShowPlayer, ShowPlayerGameweek, ShowSeason};
+use crate::ViewRoute::{
+    ShowEntryGameweek, ShowFixture, ShowMe, ShowPlayer, ShowPlayerGameweek, ShowSeason,
+};
 use crate::route::Method::{self, Get, Post};
 use crate::{Asks, Callers, Found, Route};
 use fpl_base::{Memory, read_number};
@@ -34,7 +37,7 @@ struct Place {
 }
 
 // Each route: its method, the pattern of its targets with a name in braces for each id, who may ask it, what it asks.
-static SERVED: [(Method, &str, Callers, Asks); 16] = [
+static SERVED: [(Method, &str, Callers, Asks); 24] = [
     (Post, "/season", Operator, Command(Season)),
     (Post, "/deadlines", Operator, Command(Deadlines)),
     (Post, "/players", Operator, Command(Players)),
@@ -47,7 +50,14 @@ static SERVED: [(Method, &str, Callers, Asks); 16] = [
     (Post, "/fixtures/{f}/line", Operator, Command(Line)),
     (Post, "/fixtures/{f}/drop", Operator, Command(Drop)),
     (Post, "/fixtures/{f}/finished", Operator, Command(Finished)),
+    (Post, "/keys", Operator, Command(Keys)),
+    (Post, "/squad", Entry, Command(Squad)),
+    (Post, "/transfers", Entry, Command(Transfers)),
+    (Post, "/lineup", Entry, Command(Lineup)),
+    (Post, "/chip", Entry, Command(Chip)),
+    (Post, "/chip/cancel", Entry, Command(CancelChip)),
     (Get, "/season", Both, View(ShowSeason)),
+    (Get, "/me", Entry, View(ShowMe)),
     (Get, "/players/{p}", Both, View(ShowPlayer)),
     (
         Get,
@@ -56,6 +66,12 @@ static SERVED: [(Method, &str, Callers, Asks); 16] = [
         View(ShowPlayerGameweek),
     ),
     (Get, "/fixtures/{f}", Both, View(ShowFixture)),
+    (
+        Get,
+        "/entries/{e}/gameweeks/{g}",
+        Both,
+        View(ShowEntryGameweek),
+    ),
 ];
 
 /// The table of all routes, ready for look-ups.

@@ -15,6 +15,17 @@ fn targets_have_their_routes(rt: HostRuntime) {
             "/players/12/gameweeks/3",
             Some(Asks::View(ViewRoute::ShowPlayerGameweek)),
         ),
+        (
+            "POST",
+            "/chip/cancel",
+            Some(Asks::Command(CommandRoute::CancelChip)),
+        ),
+        ("GET", "/me", Some(Asks::View(ViewRoute::ShowMe))),
+        (
+            "GET",
+            "/entries/2/gameweeks/1",
+            Some(Asks::View(ViewRoute::ShowEntryGameweek)),
+        ),
         ("POST", "/fixtures/07/sheet", None),
         ("DELETE", "/season", None),
     ] {

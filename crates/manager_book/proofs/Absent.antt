@@ -8,29 +8,26 @@ use Rattle.rule_book.specs.HistoryRules.{FirstTold}
 use Rattle.rule_book.specs.HistoryTeam.{TeamTold}
 use Rattle.rule_book.specs.HistoryTransfers.{FreeTold, cost_at, counted_through, counted_from}
 use Rattle.season_ledger.specs.declared.row.Row.{Row}
-use Rattle.season_ledger.specs.Rows.{IsKept, used_by, chip_by, counted_by}
+use Rattle.season_ledger.specs.Rows.{used_by, chip_by, counted_by}
 use Rattle.season_ledger.specs.Stands.{StandsFor}
-use Rattle.season_ledger.proofs.Season.{standing_for, first_for, free_for, cost_for, counted_for}
+use Rattle.season_ledger.proofs.Season.{rows_tell}
 use Rattle.manager_book.specs.declared.manager.Manager.{Manager}
 use Rattle.manager_book.specs.Managers.{nobody}
-
-kept_nil : IsKept []
-kept_nil = record { rise = tt; bare = tt; fit = tt }
 
 nil_for : (position : ℕ → Position) (rows : List Row) (h : List Event) → rows ≡ [] → StandsFor position rows h → StandsFor position [] h
 nil_for position rows h e st = subst (λ (r : List Row). StandsFor position r h) e st
 
 pub none_team : (position : ℕ → Position) (rows : List Row) (h : List Event) (g : ℕ) → rows ≡ [] → StandsFor position rows h → TeamTold position h g None
-none_team position rows h g e st = standing_for position [] h g kept_nil (nil_for position rows h e st)
+none_team position rows h g e st = (rows_tell position [] h (nil_for position rows h e st)).team g
 
 pub none_first : (position : ℕ → Position) (rows : List Row) (h : List Event) → rows ≡ [] → StandsFor position rows h → FirstTold h None
-none_first position rows h e st = first_for position [] h kept_nil (nil_for position rows h e st)
+none_first position rows h e st = (rows_tell position [] h (nil_for position rows h e st)).first
 
 pub none_free : (p : Profile) (position : ℕ → Position) (rows : List Row) (h : List Event) (g : ℕ) → rows ≡ [] → StandsFor position rows h → FreeTold p h g None
-none_free p position rows h g e st = free_for p position [] h g kept_nil (nil_for position rows h e st)
+none_free p position rows h g e st = (rows_tell position [] h (nil_for position rows h e st)).free p g
 
 pub none_cost : (p : Profile) (position : ℕ → Position) (rows : List Row) (h : List Event) (g : ℕ) → rows ≡ [] → StandsFor position rows h → 0 ≡ cost_at p h g
-none_cost p position rows h g e st = cost_for p position [] h g kept_nil (nil_for position rows h e st)
+none_cost p position rows h g e st = (rows_tell position [] h (nil_for position rows h e st)).cost p g
 
 abbrev nothing : Bool → ℕ
 nothing b = cond b 0 0
@@ -44,7 +41,7 @@ counted_nil zero = refl
 counted_nil (suc n) = let i : 0 ≡ counted_by [] n = counted_nil n in let z : nothing (nat_eq (suc n) 0 || false) ≡ 0 = nothing_is (nat_eq (suc n) 0 || false) in omega (arith, i, z)
 
 pub none_counted : (position : ℕ → Position) (rows : List Row) (h : List Event) (n : ℕ) → rows ≡ [] → StandsFor position rows h → 0 ≡ counted_through h n
-none_counted position rows h n e st = counted_nil n ∙ counted_for position [] h n kept_nil (nil_for position rows h e st)
+none_counted position rows h n e st = counted_nil n ∙ (rows_tell position [] h (nil_for position rows h e st)).counted n
 
 -- places of managers
 pub get_some : (ms : List Manager) (i : ℕ) (m : Manager) → slice_get ms i ≡ Some m → get_or ms i nobody ≡ m

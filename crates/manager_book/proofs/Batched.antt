@@ -1,22 +1,29 @@
 -- A batch that was done to the team that stands.
-use Rattle.std.proofs.Common.{◌≡◌, ◌≢◌, ◌<◌, ◌≤◌, ◌+◌, ◌∷◌, [], ◌++◌, ℕ, zero, suc, Bool, true, false, cond, ◌||◌, List, Option, Some, None, length, map, get_or, arith, refl, sym, ap, ◌∙◌, subst, nat_eq}
+use Rattle.std.proofs.Common.{◌≡◌, ◌≢◌, ◌<◌, ◌≤◌, ◌+◌, ◌∷◌, [], ◌++◌, ℕ, zero, suc, Bool, true, false, cond, ◌||◌, List, Option, Some, None, Result, Ok, Err, IfOk, length, map, get_or, arith, refl, sym, ap, ◌∙◌, subst, nat_eq}
 use Rattle.std.specs.List.{AllByRecursion as Each}
 use Rattle.std.specs.Prelude.{All}
+use Rattle.std.proofs.lemmas.List.{length-map}
 use Rattle.std.proofs.lemmas.List.Sums.{sum_by-cons}
 use Rattle.fpl_base.specs.declared.kinds.Position.{Position}
+use Rattle.fpl_base.specs.declared.rule.Rule.{Rule}
+use Rattle.rule_book.specs.declared.player.Player.{Player}
 use Rattle.rule_book.specs.declared.team.Pick.{Pick}
 use Rattle.rule_book.specs.declared.team.Team.{Team}
 use Rattle.rule_book.specs.declared.transfers.Sale.{Sale}
-use Rattle.rule_book.specs.Batch.{is_held, place_taken, place_given, GoOneByOne, AreDifferent, ArePlaced, IsTeamAfter, paid_by, earned_by}
+use Rattle.rule_book.specs.declared.transfers.Swap.{Swap}
+use Rattle.rule_book.specs.Batch.{is_held, place_taken, place_given, GoOneByOne, AreDifferent, ArePlaced, HavePositions, IsTeamAfter, sale_of, sales_of, paid_by, earned_by}
 use Rattle.rule_book.specs.EntryRecords.{swapped, after_sales, paid_for, earned_for}
-use Rattle.rule_book.specs.History.{Holding}
-use Rattle.rule_book.specs.HistoryTeam.{holding_of, holdings, is_held as is_holding}
+use Rattle.rule_book.specs.History.{Holding, Event}
+use Rattle.rule_book.specs.HistoryTeam.{TeamTold, holding_of, holdings, is_held as is_holding}
 use Rattle.transfer_book.specs.Bounds.{IsCheap}
+use Rattle.season_ledger.specs.declared.row.Row.{Row}
 use Rattle.season_ledger.specs.declared.row.Standing.{Standing}
-use Rattle.season_ledger.specs.Rows.{IsFitTeam}
+use Rattle.season_ledger.specs.Rows.{FitsIn, IsFitTeam, standing_at, team_in, used_by}
 use Rattle.season_ledger.specs.Batches.{GoHeld, ComeFresh, AfterBatch, BatchOn}
-use Rattle.season_ledger.specs.Stands.{IsPlaced}
+use Rattle.season_ledger.specs.Stands.{IsPlaced, StandsFor}
+use Rattle.manager_book.specs.Calls.{IsBatchOf}
 use Rattle.manager_book.proofs.Entries.{all_each}
+use Rattle.manager_book.proofs.Lined.{placed_of}
 
 held_same : (picks : List Pick) (p : ℕ) → is_holding p (holdings picks) ≡ is_held picks p
 held_same [] p = refl
@@ -92,3 +99,25 @@ all_placed position picks a = walk picks (all_each (λ k. k.position ≡ positio
     walk : (l : List Pick) → Each (λ k. k.position ≡ position k.player) l → IsPlaced position l
     walk [] h = tt
     walk (k ∷ l) h = (h.0, walk l h.1)
+
+-- what a batch comes to
+pub batch_of : (g : ℕ) (players : List Player) (swaps : List Swap) (rows : List Row) (s : Standing) (r : Result (Team × List Sale) Rule)
+    → standing_at rows g ≡ Some s → FitsIn g (Some s) → ((position : ℕ → Position) (h : List Event) → StandsFor position rows h → TeamTold position h g (Some s.team))
+    → used_by rows g + length swaps ≤ 1000
+    → IfOk r (λ done. done.1 ≡ sales_of players s.team.picks swaps) → IfOk r (λ done. IsTeamAfter done.1 s.team done.0) → IfOk r (λ done. GoOneByOne done.1 s.team.picks done.0.picks)
+    → IfOk r (λ done. AreDifferent s.team.picks → AreDifferent done.0.picks)
+    → IfOk r (λ done. (position : ℕ → Position) → HavePositions position players → ArePlaced position s.team.picks → ArePlaced position done.0.picks)
+    → IfOk r (λ done. All IsCheap done.1)
+    → IfOk r (λ done. IsBatchOf g players swaps rows done.1 done.0)
+batch_of g players swaps rows s (Err e) at fit told few sold after one different placed cheap = tt
+batch_of g players swaps rows s (Ok done) at fit told few sold after one different placed cheap = record {
+  before = s.team;
+  stood = ap team_in at;
+  sold = sold;
+  team = after;
+  few = (let n : length done.1 ≡ length swaps = ap length sold ∙ length-map swaps (sale_of players s.team.picks) in omega arith);
+  on = batch_on (standing_at rows g) s done.0 done.1 at after one;
+  cheap = sold_cheap done.1 cheap;
+  fit = fit_batch done.1 s.team done.0 fit.team one different cheap;
+  placed = λ position h have st. all_placed position done.0.picks (placed position have (placed_all position s.team.picks (placed_of position h g (Some s) s refl (told position h st))));
+}

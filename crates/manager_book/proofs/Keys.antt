@@ -27,6 +27,15 @@ number_least n (m ∷ ms) key k e = step (bytes_eq key m.key) (λ f. number_leas
     step true ih e = let x : n ≡ k = cc in omega arith
     step false ih e = let x : n + 1 ≤ k = ih e in omega arith
 
+-- and there are as many as managers
+pub number_most : (n : ℕ) (ms : List Manager) (key : List ℕ) (k : ℕ) → number_from n ms key ≡ Some k → k < n + length ms
+number_most n [] key k e = cc
+number_most n (m ∷ ms) key k e = step (bytes_eq key m.key) (λ f. number_most (n + 1) ms key k f) e
+  where
+    step : (b : Bool) → (number_from (n + 1) ms key ≡ Some k → k < (n + 1) + length ms) → cond b (Some n) (number_from (n + 1) ms key) ≡ Some k → k < n + length (m ∷ ms)
+    step true ih e = let x : n ≡ k = cc in omega arith
+    step false ih e = let x : k < (n + 1) + length ms = ih e in omega arith
+
 -- one manager more
 abbrev other_of : Option ℕ → Option ℕ → Option ℕ
 other_of None y = y

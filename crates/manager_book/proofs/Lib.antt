@@ -5,3 +5,4 @@ pub mod Firsts
 pub mod Keys
 pub mod Absent
 pub mod Changed
+pub mod Alike

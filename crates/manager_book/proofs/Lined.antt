@@ -1,5 +1,5 @@
 -- The fifteen in another order.
-use Rattle.std.proofs.Common.{◌≡◌, ◌≢◌, ◌<◌, ◌≤◌, ◌+◌, ◌⊎◌, ◌∷◌, [], ◌++◌, ℕ, zero, suc, Bool, true, false, cond, not, ◌||◌, List, Option, Some, None, length, map, take, drop, set, get_or, arith, refl, sym, ap, ◌∙◌, subst, ⊎_elim, nat_eq}
+use Rattle.std.proofs.Common.{◌≡◌, ◌≢◌, ◌<◌, ◌≤◌, ◌+◌, ◌⊎◌, ◌∷◌, [], ◌++◌, ℕ, zero, suc, Bool, true, false, cond, not, ◌||◌, List, Option, Some, None, Result, Ok, Err, IfOk, length, map, take, drop, set, get_or, arith, refl, sym, ap, ◌∙◌, subst, ⊎_elim, nat_eq}
 use Rattle.std.specs.List.{AllByRecursion as Each, flat_map, list_any}
 use Rattle.std.specs.Prelude.{find, All, AllPairs}
 use Rattle.std.specs.Option.{option_to_list}
@@ -10,6 +10,7 @@ use Rattle.std.proofs.lemmas.List.Elements.{All-head, All-tail}
 use Rattle.std.proofs.lemmas.List.{append-nil}
 use Rattle.std.proofs.lemmas.List.Concat.{flat_map-append}
 use Rattle.fpl_base.specs.declared.kinds.Position.{Position}
+use Rattle.fpl_base.specs.declared.rule.Rule.{Rule}
 use Rattle.rule_book.specs.declared.team.Pick.{Pick}
 use Rattle.rule_book.specs.declared.team.Team.{Team}
 use Rattle.rule_book.specs.Batch.{is_held, pick_of, AreDifferent}
@@ -21,13 +22,14 @@ use Rattle.rule_book.specs.HistoryTeam.{holding_of, holdings, is_held as is_hold
 use Rattle.rule_book.specs.Repeats.{first_repeat}
 use Rattle.rule_book.specs.Squads.{players_of}
 use Rattle.squad_rules.proofs.Legal.{apart_when}
+use Rattle.season_ledger.specs.declared.row.Row.{Row}
 use Rattle.season_ledger.specs.declared.row.Standing.{Standing}
-use Rattle.season_ledger.specs.Rows.{IsFitTeam, FitsIn, team_in}
+use Rattle.season_ledger.specs.Rows.{IsFitTeam, FitsIn, standing_at, team_in}
 use Rattle.season_ledger.specs.Batches.{rearranged, AfterLineup, LineupOn}
-use Rattle.season_ledger.specs.Stands.{IsPlaced}
+use Rattle.season_ledger.specs.Stands.{IsPlaced, StandsFor}
 use Rattle.season_ledger.proofs.Pigeons.{pigeons}
 use Rattle.rule_book.specs.EntryCalls.{first_stranger, lined_picks}
-use Rattle.manager_book.specs.Calls.{IsLined}
+use Rattle.manager_book.specs.Calls.{IsLined, IsLineupOf}
 
 -- one more of the order
 abbrev found_of : (ℕ → Option Pick) → List ℕ → List Pick
@@ -244,3 +246,18 @@ fit_of g o s e f = let i : FitsIn g (Some s) = subst (FitsIn g) e f in i.team
 -- what a history says of the team that stands
 pub placed_of : (position : ℕ → Position) (h : List Event) (g : ℕ) (o : Option Standing) (s : Standing) → o ≡ Some s → TeamTold position h g (team_in o) → IsPlaced position s.team.picks
 placed_of position h g o s e t = let i : TeamTold position h g (Some s.team) = subst (λ x. TeamTold position h g (team_in x)) e t in team_placed position h g s.team i.1
+
+-- what an order of the team that stands comes to
+pub lineup_of : (g : ℕ) (order : List ℕ) (c v : ℕ) (rows : List Row) (s : Standing) (r : Result Team Rule)
+    → standing_at rows g ≡ Some s → FitsIn g (Some s) → ((position : ℕ → Position) (h : List Event) → StandsFor position rows h → TeamTold position h g (Some s.team))
+    → length order ≡ 15 → length s.team.picks ≡ 15 → IfOk r (IsLined order c v s.team) → IfOk r (IsLineupOf g order c v rows)
+lineup_of g order c v rows s (Err e) at fit told lo lk l = tt
+lineup_of g order c v rows s (Ok u) at fit told lo lk l = record {
+  before = s.team;
+  stood = ap team_in at;
+  lined = l;
+  named = lined_order order c v s.team u l;
+  on = lineup_on (standing_at rows g) order c v s u at lo lk fit.team l;
+  fit = fit_lined order c v s.team u fit.team l;
+  placed = λ position h st. placed_lined position order c v s.team u (placed_of position h g (Some s) s refl (told position h st)) l;
+}

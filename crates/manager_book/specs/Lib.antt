@@ -1,3 +1,4 @@
 pub mod Managers
 pub mod Calls
 pub mod Indexed
+pub mod HistoryLaws

@@ -4,26 +4,51 @@ ghost use Rattle.fpl_base.specs.declared.kinds.Position.{Position};
 ghost use Rattle.rule_book.specs.Batch.{AreIncomersThere, HavePositions, sales_of, IsTeamAfter};
 ghost use Rattle.rule_book.specs.History.{Event, in_gameweek};
 ghost use Rattle.rule_book.specs.History.Deed.{Swap as Swapped};
-ghost use Rattle.rule_book.specs.Refusals.{IsJudgedOrOut};
+ghost use Rattle.rule_book.specs.Refusals.{IsJudged, IsJudgedOrOut};
 ghost use Rattle.season_ledger.specs.Rows.{AllUpTo, used_by};
 ghost use Rattle.season_ledger.specs.Stands.{StandsFor};
-ghost use Rattle.manager_book.specs.Calls.{team_at, limit_by, transfer_broken, Moves};
+ghost use Rattle.manager_book.specs.Calls.{team_at, limit_by, transfer_broken, IsBatchOf, Moves};
 
 use crate::chips::{is_first, waives};
 use fpl_base::{Gw, Refused, Rule};
 use player_prices::Players;
-use rule_book::Swap;
+use rule_book::{Swap, Team};
 use season_ledger::Entry;
 use transfer_book::{Sales, apply};
 
 // How many transfers the gameweek may have.
 fn limit(season: &Entry, g: Gw) -> u16
-    ensures { result ≡ limit_by season.now g }
+    ensures limit { result ≡ limit_by season.now g }
+    ensures most { result ≤ 1000 }
 {
     if is_first(season, g) {
         return 1000;
     }
     if waives(season.chip(g)) { 1000 } else { 20 }
+}
+
+/// What a batch comes to, unless a rule refuses it: the team after it, and its sales. It takes no memory.
+pub fn judge_batch(
+    season: &Entry,
+    g: Gw,
+    players: &Players,
+    swaps: &[Swap],
+) -> Result<(Team, Sales), Rule>
+    requires later { AllUpTo g season.now }
+    requires early { g ≤ 38 }
+    requires some { 0 < length swaps.now }
+    requires few { length swaps.now ≤ 15 }
+    requires there { AreIncomersThere players.now swaps.now }
+    ensures judged { IsJudged (transfer_broken season.now players.now swaps.now g) result }
+    ensures batch { IfOk result (λ done. IsBatchOf g players.now swaps.now season.now done.1 done.0) }
+{
+    let Some(standing) = season.standing(g) else {
+        return Err(Rule::NotRegistered);
+    };
+    if season.made(g) + swaps.len() as u16 > limit(season, g) {
+        return Err(Rule::TransferLimit);
+    }
+    apply(&standing.team, swaps, players)
 }
 
 /// Makes a batch of transfers. It answers how many the gameweek had before, and the sales.
@@ -44,17 +69,11 @@ pub fn transfer(
     ensures history { (position : ℕ → Position) (h : List Event) → HavePositions position players.now → StandsFor position season.old h → IfOk result (λ done. StandsFor position season.new (h ++ in_gameweek g (map Swapped done.1))) }
     ensures err { OnErr result (season.new ≡ season.old) }
 {
-    let Some(standing) = season.standing(g) else {
-        return Err(Refused::Rule(Rule::NotRegistered));
-    };
-    let made = season.made(g);
-    if made + swaps.len() as u16 > limit(season, g) {
-        return Err(Refused::Rule(Rule::TransferLimit));
-    }
-    let (after, sales) = match apply(&standing.team, swaps, players) {
+    let (after, sales) = match judge_batch(season, g, players, swaps) {
         Ok(done) => done,
         Err(rule) => return Err(Refused::Rule(rule)),
     };
+    let made = season.made(g);
     match season.transfer(g, sales.as_slice(), &after) {
         Ok(()) => Ok((u32::from(made), sales)),
         Err(_) => Err(Refused::Memory),

@@ -32,9 +32,6 @@ use std::marker::Model;
 use std::sync::ledger::Ledger;
 use transfer_book::Sales;
 
-// So many entries are in a season at most.
-const MOST_ENTRIES: usize = 2048;
-
 /// The entries of a season, numbered from 1 in the order of issue, at most 2,048. An entry is registered once its first
 /// squad was accepted.
 #[derive(Drop)]
@@ -87,14 +84,22 @@ impl ManagerBook {
         self.managers.len() as u32
     }
 
+    /// The entry whose key these bytes are, if one has it. Bytes that no key can be are nobody's.
+    pub fn owner_of(&self, bytes: &[u8]) -> Option<EntryId>
+        ensures owner { result ≡ entry_with self.now bytes.now }
+        ensures issued { IfSome result (λ e. e ≤ length self.now.managers) }
+    {
+        match self.numbers.get(bytes) {
+            Some(number) => EntryId::new(*number),
+            None => None,
+        }
+    }
+
     /// The entry with a key, if one has it.
     pub fn entry_of(&self, key: &Key) -> Option<EntryId>
         ensures { result ≡ entry_with self.now key.now }
     {
-        match self.numbers.get(key.bytes()) {
-            Some(number) => EntryId::new(*number),
-            None => None,
-        }
+        self.owner_of(key.bytes())
     }
 
     // The manager of an entry.
@@ -135,6 +140,14 @@ impl ManagerBook {
         }
     }
 
+    // The season of an entry that was issued.
+    pub(crate) fn issued(&self, e: EntryId) -> &Entry
+        requires { e ≤ length self.now.managers }
+        ensures { result.now ≡ season_of self.now e }
+    {
+        &self.managers[e.get() as usize - 1].season
+    }
+
     // An entry's team in a gameweek.
     fn team_in(&self, e: EntryId, g: Gw) -> Option<Team>
         ensures rows { result ≡ team_at (season_of self.now e) g }
@@ -162,6 +175,7 @@ impl ManagerBook {
     // The points that an entry's transfers of a gameweek cost.
     fn cost_in(&self, e: EntryId, g: Gw) -> u32
         ensures rows { result ≡ cost_by self.now.profile (season_of self.now e) g }
+        ensures most { result ≤ 4000 }
         ensures history { (position : ℕ → Position) (h : List Event) → StandsFor position (season_of self.now e) h → result ≡ cost_at self.now.profile h g }
     {
         let profile = self.profile;
@@ -231,6 +245,7 @@ impl ManagerBook {
     pub fn cost<L: Ledger>(&self, e: EntryId, g: Gw, steps: &mut Steps<L>) -> u32
         ensures counted { steps.new ≡ steps.old + 1 }
         ensures rows { result ≡ cost_by self.now.profile (season_of self.now e) g }
+        ensures most { result ≤ 4000 }
         ensures history { (position : ℕ → Position) (h : List Event) → StandsFor position (season_of self.now e) h → result ≡ cost_at self.now.profile h g }
     {
         steps.tick();
@@ -411,12 +426,7 @@ impl ManagerBook {
         ensures ok { OnOk result (self.new ≡ record { profile = self.old.profile; managers = self.old.managers ++ record { key = key; name = name; season = [] } ∷ [] }) }
         ensures err { OnErr result (self.new ≡ self.old) }
     {
-        if self.managers.len() >= MOST_ENTRIES {
-            return Err(Refused::Rule(Rule::EntriesFull));
-        }
-        if self.entry_of(&key).is_some() {
-            return Err(Refused::Rule(Rule::KeyThere));
-        }
+        self.judge_issue(&key)?;
         let Some(e) = EntryId::new(self.managers.len() as u32 + 1) else {
             return Err(Refused::Rule(Rule::EntriesFull));
         };

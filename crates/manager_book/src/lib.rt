@@ -4,11 +4,14 @@
 mod batch;
 mod book;
 mod chips;
+mod judges;
+mod laws;
 mod lineup;
 mod manager;
 mod register;
 
 pub use book::ManagerBook;
+pub use laws::rows_refuse_alike;
 pub use rule_book::{Pick, Sale, Swap, Team};
 pub use transfer_book::Sales;
 

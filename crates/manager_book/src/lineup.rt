@@ -8,7 +8,7 @@ ghost use Rattle.rule_book.specs.Refusals.{IsJudged, IsJudgedOrOut};
 ghost use Rattle.season_ledger.specs.Rows.{AllUpTo};
 ghost use Rattle.season_ledger.specs.Stands.{StandsFor};
 ghost use Rattle.rule_book.specs.EntryCalls.{slot_of, first_stranger, lined_picks, order_refusal};
-ghost use Rattle.manager_book.specs.Calls.{lineup_broken, IsLined, LinesUp};
+ghost use Rattle.manager_book.specs.Calls.{lineup_broken, order_broken, IsLined, IsLineupOf, LinesUp};
 
 use fpl_base::{Gw, PlayerId, Refused, Rule};
 use rule_book::{Pick, Team};
@@ -78,6 +78,26 @@ fn team_lined(team: &Team, order: &[PlayerId; 15], captain: u8, vice: u8) -> Res
     })
 }
 
+/// The team of a gameweek in another order, with other armbands, unless a rule refuses it. It takes no memory.
+pub fn judge_lineup(
+    season: &Entry,
+    g: Gw,
+    order: &[PlayerId; 15],
+    captain: PlayerId,
+    vice: PlayerId,
+) -> Result<Team, Rule>
+    requires later { AllUpTo g season.now }
+    ensures judged { IsJudged (order_broken season.now order.now captain vice g) result }
+    ensures lineup { IfOk result (IsLineupOf g order.now (slot_of order.now captain) (slot_of order.now vice) season.now) }
+{
+    let Some(standing) = season.standing(g) else {
+        return Err(Rule::NotRegistered);
+    };
+    let captain = slot_of(order, captain);
+    let vice = slot_of(order, vice);
+    team_lined(&standing.team, order, captain, vice)
+}
+
 /// Puts the fifteen of a gameweek's team into another order, with other armbands.
 pub fn line_up(
     season: &mut Entry,
@@ -92,12 +112,7 @@ pub fn line_up(
     ensures history { (position : ℕ → Position) (h : List Event) → StandsFor position season.old h → OnOk result (StandsFor position season.new (h ++ in_gameweek g (Lineup order.now (slot_of order.now captain) (slot_of order.now vice) ∷ []))) }
     ensures err { OnErr result (season.new ≡ season.old) }
 {
-    let Some(standing) = season.standing(g) else {
-        return Err(Refused::Rule(Rule::NotRegistered));
-    };
-    let captain = slot_of(order, captain);
-    let vice = slot_of(order, vice);
-    let after = match team_lined(&standing.team, order, captain, vice) {
+    let after = match judge_lineup(season, g, order, captain, vice) {
         Ok(after) => after,
         Err(rule) => return Err(Refused::Rule(rule)),
     };

@@ -10,7 +10,7 @@ ghost use Rattle.rule_book.specs.Players.{player_of};
 ghost use Rattle.rule_book.specs.Refusals.{IsJudged, IsJudgedOrOut};
 ghost use Rattle.season_ledger.specs.Stands.{StandsFor};
 ghost use Rattle.rule_book.specs.EntryCalls.{pick_from, picks_from, clubs_of, cost_of, slot_of, first_refusal};
-ghost use Rattle.manager_book.specs.Calls.{register_broken, IsFirstOf, Registers};
+ghost use Rattle.manager_book.specs.Calls.{register_broken, squad_broken, IsFirstOf, Registers};
 
 use crate::lineup::slot_of;
 use fpl_base::{Chip, ClubId, Gw, PlayerId, Refused, Rule, Tenths};
@@ -148,6 +148,30 @@ fn first_team(
     })
 }
 
+/// The first team of an entry, unless a rule refuses it. It takes no memory.
+pub fn judge_squad(
+    season: &Entry,
+    players: &Players,
+    squad: &[PlayerId; 15],
+    captain: PlayerId,
+    vice: PlayerId,
+) -> Result<Team, Rule>
+    requires { All (λ id. IsSome (player_of players.now id)) squad.now }
+    ensures judged { IsJudged (squad_broken season.now players.now squad.now captain vice) result }
+    ensures new { OnOk result (season.now ≡ []) }
+    ensures team { IfOk result (IsFirstOf players.now squad.now (slot_of squad.now captain) (slot_of squad.now vice)) }
+{
+    if season.first().is_some() {
+        return Err(Rule::Registered);
+    }
+    first_team(
+        players,
+        squad,
+        slot_of(squad, captain),
+        slot_of(squad, vice),
+    )
+}
+
 /// Registers an entry by its first squad, each bought at his present price.
 pub fn register(
     season: &mut Entry,
@@ -163,12 +187,7 @@ pub fn register(
     ensures history { (position : ℕ → Position) (h : List Event) → HavePositions position players.now → StandsFor position season.old h → OnOk result (StandsFor position season.new (h ++ in_gameweek g (First (holdings (picks_from players.now squad.now)) (slot_of squad.now captain) (slot_of squad.now vice) ∷ []))) }
     ensures err { OnErr result (season.new ≡ season.old) }
 {
-    if season.first().is_some() {
-        return Err(Refused::Rule(Rule::Registered));
-    }
-    let captain = slot_of(squad, captain);
-    let vice = slot_of(squad, vice);
-    let team = match first_team(players, squad, captain, vice) {
+    let team = match judge_squad(season, players, squad, captain, vice) {
         Ok(team) => team,
         Err(rule) => return Err(Refused::Rule(rule)),
     };

@@ -1,7 +1,6 @@
 -- A command that can be ordered is read of its bytes, and what is read is such a command with these bytes.
-use Rattle.std.proofs.Common.{◌≡◌, ℕ, zero, suc, ◌^◌, ◌<◌, ◌≤◌, Bool, true, false, cond, ◌&&◌, ◌==◌, nat_le, List, [], ◌∷◌, ◌++◌, length, flat_map, Option, Some, None, refl, sym, ap, subst, ◌∙◌, append_assoc, arith}
+use Rattle.std.proofs.Common.{◌≡◌, ℕ, suc, ◌^◌, ◌<◌, ◌≤◌, Bool, true, false, cond, ◌==◌, nat_le, List, [], ◌∷◌, ◌++◌, length, Option, Some, None, refl, sym, ap, subst, ◌∙◌, append_assoc, arith}
 use Rattle.std.specs.List.{AllByRecursion}
-use Rattle.std.specs.Int.{w16, w32, w64}
 use Rattle.std.proofs.lemmas.Bool.{eqb-true}
 use Rattle.std.proofs.lemmas.Bool.Decides.{nat_tests}
 use Rattle.std.proofs.lemmas.Option.{same_Some, none-some, cond_some}
@@ -10,18 +9,20 @@ use Rattle.fpl_base.specs.declared.kinds.Chip.{Chip}
 use Rattle.fpl_base.specs.declared.kinds.Chip.TheVariants as chip
 use Rattle.fpl_base.specs.declared.kinds.Position.{Position}
 use Rattle.fpl_base.specs.declared.kinds.Position.TheVariants as position
+use Rattle.fpl_base.specs.declared.kinds.Profile.{Profile}
+use Rattle.fpl_base.specs.declared.kinds.Profile.TheVariants as profile
 use Rattle.rule_book.specs.declared.league.LeagueKind.{LeagueKind}
 use Rattle.rule_book.specs.declared.league.LeagueKind.TheVariants as kind
 use Rattle.rule_book.specs.declared.line.Line.{Line}
 use Rattle.rule_book.specs.declared.transfers.Swap.{Swap}
 use Rattle.season_book.specs.declared.command.Command.{Command}
 use Rattle.season_book.specs.declared.command.Command.TheVariants as command
-use Rattle.record_codec.specs.Commands.{whole, target, club_bytes, line_bytes, row_bytes, swap_bytes, bytes_of_command, is_between, is_command}
-use Rattle.record_codec.specs.CommandReading.{whole_in, place_at, flag_at, position_at, chip_at, kind_at, long_text_at, list_at, player_at, club_at, gameweek_at, moment_at, id_at, target_at, line_of, line_at, row_at, swap_of, swap_at, club_row_at, fifteen_at, made, season_at, deadline_at, new_player_at, price_at, new_club_at, gone_at, new_fixture_at, move_at, sheet_at, one_line_at, drop_at, finished_at, new_key_at, squad_at, transfers_at, lineup_at, new_chip_at, cancel_at, new_league_at, join_at, draw_at, new_cup_at, numbered_at, command_at, command_of}
-use Rattle.record_codec.specs.Fields.{byte, number, or_zero, long_text, listed, flag, position_number, chip_number, kind_number}
+use Rattle.record_codec.specs.Commands.{whole, club_bytes, line_bytes, row_bytes, swap_bytes, bytes_of_command, is_between, is_command}
+use Rattle.record_codec.specs.CommandReading.{whole_in, place_at, flag_at, profile_end_at, position_at, chip_at, kind_at, long_text_at, list_at, player_at, club_at, gameweek_at, moment_at, id_at, line_of, line_at, row_at, swap_of, swap_at, club_row_at, fifteen_at, made, season_at, deadline_at, new_player_at, price_at, new_club_at, gone_at, new_fixture_at, move_at, sheet_at, one_line_at, drop_at, finished_at, new_key_at, squad_at, transfers_at, lineup_at, new_chip_at, cancel_at, new_league_at, join_at, draw_at, new_cup_at, command_at, command_of}
+use Rattle.record_codec.specs.Fields.{byte, or_zero, long_text, listed, flag, profile_end, position_number, chip_number, kind_number}
 use Rattle.record_codec.specs.Ranges.{IsClub, IsPlayer, IsId, IsGameweek, is_place, IsMoment, IsFigure, IsWide, HasRanges, IsCommand}
-use Rattle.record_codec.specs.Reading.{Reader, ◌>>=◌, byte_at, number_at, meant, both_at, ◌then◌, counted, kept, within, text_at, numbered, gameweek_of, whole_of}
-use Rattle.record_codec.proofs.FieldLaws.{IsBytes, Taken, Reads, got, byte_reads, u16_reads, u32_reads, u64_reads, both_reads, meant_reads, kept_reads, numbered_reads, within_reads, gameweek_reads, counted_reads, text_reads, whole_again, whole_takes, refit}
+use Rattle.record_codec.specs.Reading.{Reader, ◌>>=◌, ◌then◌, kept, numbered}
+use Rattle.record_codec.proofs.FieldLaws.{IsBytes, Taken, Takes, Reads, ReadsLast, at_last, got, byte_reads, u16_reads, u32_reads, u64_reads, both_reads, both_last, meant_reads, kept_reads, numbered_reads, within_reads, gameweek_reads, counted_reads, text_reads, whole_again, whole_takes, refit}
 
 -- Members.
 
@@ -71,6 +72,24 @@ position_reads = numbered_reads position_number positions there byte_reads
     there position.Defender = (refl, omega arith)
     there position.Midfielder = (refl, omega arith)
     there position.Forward = (refl, omega arith)
+
+-- behind all else, where nothing is a profile too
+profile_end_reads : ReadsLast profile_end (λ p. Unit {0}) profile_end_at
+unfolding profile_end_at
+profile_end_reads = record { again = again; takes = takes }
+  where
+    again : (p : Profile) → Unit {0} → profile_end_at (profile_end p) ≡ Some (p, [])
+    again profile.A fits = refl
+    again profile.B fits = refl
+
+    takes : Takes profile_end (λ p. Unit {0}) profile_end_at
+    takes [] x fits e =
+        subst (λ (y : Profile × List ℕ). Taken [] (profile_end y.0) y.1 (Unit {0})) (same_Some {A = Profile × List ℕ} (profile.A, []) x e)
+        (record { parts = refl; bytes_behind = fits; fits = tt })
+    takes (n ∷ rest) x fits e =
+        let both = cond_some (n == 2) (profile.B, rest) x e in
+        subst (λ (y : Profile × List ℕ). Taken (n ∷ rest) (profile_end y.0) y.1 (Unit {0})) both.1
+        (record { parts = ap (λ m. m ∷ rest) (eqb-true n 2 both.0); bytes_behind = λ i. fits (suc i); fits = tt })
 
 abbrev chips : List Chip
 chips = chip.None ∷ chip.Wildcard ∷ chip.FreeHit ∷ chip.BenchBoost ∷ chip.TripleCaptain ∷ []
@@ -157,23 +176,23 @@ fifteen_reads =
 
 -- Commands.
 
-made_again : {A : Type 0} {w : A → List ℕ} {F : A → Type 0} {r : Reader A} (of : A → Command) → Reads w F r
-    → (a : A) (rest : List ℕ) → F a → is_command (of a) ≡ true → made of r (w a ++ rest) ≡ Some (of a, rest)
-made_again {A} of reads a rest fits is =
-    ap (λ (o : Option (A × List ℕ)). o >>= λ x. kept is_command (of x.0) >>= λ c. Some (c, x.1)) (reads.again a rest fits)
-    ∙ ap (λ b. cond b (Some (of a)) None >>= λ c. Some (c, rest)) is
+made_again : {A : Type 0} {w : A → List ℕ} {F : A → Type 0} {r : Reader A} (of : A → Command) → ReadsLast w F r
+    → (a : A) → F a → is_command (of a) ≡ true → made of r (w a) ≡ Some (of a, [])
+made_again {A} of reads a fits is =
+    ap (λ (o : Option (A × List ℕ)). o >>= λ x. kept is_command (of x.0) >>= λ c. Some (c, x.1)) (reads.again a fits)
+    ∙ ap (λ b. cond b (Some (of a)) None >>= λ c. Some (c, [])) is
 
 -- behind its number
-command_made : {A : Type 0} {w : A → List ℕ} {F : A → Type 0} {r : Reader A} (of : A → Command) (k : ℕ) → Reads w F r
+command_made : {A : Type 0} {w : A → List ℕ} {F : A → Type 0} {r : Reader A} (of : A → Command) (k : ℕ) → ReadsLast w F r
     → ((a : A) → bytes_of_command (of a) ≡ k ∷ w a) → ((t : List ℕ) → command_at (k ∷ t) ≡ made of r t)
-    → (a : A) (rest : List ℕ) → F a → is_command (of a) ≡ true → command_at (bytes_of_command (of a) ++ rest) ≡ Some (of a, rest)
-command_made {A} {w} of k reads spelled numbered a rest fits is =
-    ap (λ (t : List ℕ). command_at (t ++ rest)) (spelled a) ∙ numbered (w a ++ rest) ∙ made_again of reads a rest fits is
+    → (a : A) → F a → is_command (of a) ≡ true → command_at (bytes_of_command (of a)) ≡ Some (of a, [])
+command_made {A} {w} of k reads spelled numbered a fits is =
+    ap command_at (spelled a) ∙ numbered (w a) ∙ made_again of reads a fits is
 
 abbrev TakesCommand : ℕ → List ℕ → Command × List ℕ → Type 0
 TakesCommand k bytes x = Taken (k ∷ bytes) (bytes_of_command x.0) x.1 (IsCommand x.0)
 
-made_takes : {A : Type 0} {w : A → List ℕ} {F : A → Type 0} {r : Reader A} (of : A → Command) (k : ℕ) → Reads w F r
+made_takes : {A : Type 0} {w : A → List ℕ} {F : A → Type 0} {r : Reader A} (of : A → Command) (k : ℕ) → ReadsLast w F r
     → ((a : A) → F a → HasRanges (of a)) → ((a : A) → bytes_of_command (of a) ≡ k ∷ w a)
     → (bytes : List ℕ) (x : Command × List ℕ) → IsBytes bytes → made of r bytes ≡ Some x → TakesCommand k bytes x
 made_takes {A} {w} {F} {r} of k reads ranges spelled bytes x fits e =
@@ -188,89 +207,94 @@ made_takes {A} {w} {F} {r} of k reads ranges spelled bytes x fits e =
       fits = (ranges a.0.0 t.fits, both.0);
     })
 
+season_reads : ReadsLast (λ (x : List ℕ × (ℕ × (List (ℕ × List ℕ) × Profile))). listed whole x.0 ++ (whole x.1.0 ++ (listed club_bytes x.1.1.0 ++ profile_end x.1.1.1)))
+    (λ x. ((length x.0 < 2 ^ 16) × AllByRecursion IsMoment x.0) × ((is_between 0 255 x.1.0 ≡ true) × (((length x.1.1.0 < 2 ^ 16) × AllByRecursion (λ club. IsClub club.0 × (is_name club.1 ≡ true)) x.1.1.0) × Unit {0})))
+    (list_at moment_at then whole_in 0 255 then list_at club_row_at then profile_end_at)
+season_reads = both_last (list_reads moment_reads) (λ a. both_last (whole_reads 0 255 (omega arith)) (λ b. both_last (list_reads club_row_reads) (λ c. profile_end_reads)))
+
 season_takes : (bytes : List ℕ) (x : Command × List ℕ) → IsBytes bytes → season_at bytes ≡ Some x → TakesCommand 1 bytes x
 unfolding season_at
-season_takes = made_takes (λ (x : List ℕ × (ℕ × List (ℕ × List ℕ))). command.Season x.0 x.1.0 x.1.1) 1 (both_reads (list_reads moment_reads) (λ a. both_reads (whole_reads 0 255 (omega arith)) (λ b. list_reads club_row_reads))) (λ a f. (f.0.1, f.1.0, f.1.1.1)) (λ a. simp append_assoc)
+season_takes = made_takes (λ (x : List ℕ × (ℕ × (List (ℕ × List ℕ) × Profile))). command.Season x.1.1.1 x.0 x.1.0 x.1.1.0) 1 season_reads (λ a f. (f.0.1, f.1.0, f.1.1.0.1)) (λ a. simp append_assoc)
 
 deadline_takes : (bytes : List ℕ) (x : Command × List ℕ) → IsBytes bytes → deadline_at bytes ≡ Some x → TakesCommand 2 bytes x
 unfolding deadline_at
-deadline_takes = made_takes (λ (x : ℕ × ℕ). command.Deadline x.0 x.1) 2 (both_reads start_reads (λ a. moment_reads)) (λ a f. f) (λ a. refl)
+deadline_takes = made_takes (λ (x : ℕ × ℕ). command.Deadline x.0 x.1) 2 (at_last (both_reads start_reads (λ a. moment_reads))) (λ a f. f) (λ a. refl)
 
 player_takes : (bytes : List ℕ) (x : Command × List ℕ) → IsBytes bytes → new_player_at bytes ≡ Some x → TakesCommand 3 bytes x
 unfolding new_player_at
-player_takes = made_takes (λ (x : ℕ × (List ℕ × (Position × (ℕ × ℕ)))). command.Player x.0 x.1.0 x.1.1.0 x.1.1.1.0 x.1.1.1.1) 3 (both_reads player_reads (λ a. both_reads name_reads (λ b. both_reads position_reads (λ c. both_reads club_reads (λ d. figure_reads))))) (λ a f. (f.0, f.1.0, f.1.1.1.0, f.1.1.1.1)) (λ a. simp append_assoc)
+player_takes = made_takes (λ (x : ℕ × (List ℕ × (Position × (ℕ × ℕ)))). command.Player x.0 x.1.0 x.1.1.0 x.1.1.1.0 x.1.1.1.1) 3 (at_last (both_reads player_reads (λ a. both_reads name_reads (λ b. both_reads position_reads (λ c. both_reads club_reads (λ d. figure_reads)))))) (λ a f. (f.0, f.1.0, f.1.1.1.0, f.1.1.1.1)) (λ a. simp append_assoc)
 
 price_takes : (bytes : List ℕ) (x : Command × List ℕ) → IsBytes bytes → price_at bytes ≡ Some x → TakesCommand 4 bytes x
 unfolding price_at
-price_takes = made_takes (λ (x : ℕ × ℕ). command.Price x.0 x.1) 4 (both_reads player_reads (λ a. figure_reads)) (λ a f. f) (λ a. refl)
+price_takes = made_takes (λ (x : ℕ × ℕ). command.Price x.0 x.1) 4 (at_last (both_reads player_reads (λ a. figure_reads))) (λ a f. f) (λ a. refl)
 
 club_takes : (bytes : List ℕ) (x : Command × List ℕ) → IsBytes bytes → new_club_at bytes ≡ Some x → TakesCommand 5 bytes x
 unfolding new_club_at
-club_takes = made_takes (λ (x : ℕ × ℕ). command.Club x.0 x.1) 5 (both_reads player_reads (λ a. club_reads)) (λ a f. f) (λ a. refl)
+club_takes = made_takes (λ (x : ℕ × ℕ). command.Club x.0 x.1) 5 (at_last (both_reads player_reads (λ a. club_reads))) (λ a f. f) (λ a. refl)
 
 gone_takes : (bytes : List ℕ) (x : Command × List ℕ) → IsBytes bytes → gone_at bytes ≡ Some x → TakesCommand 6 bytes x
 unfolding gone_at
-gone_takes = made_takes (λ (x : ℕ × Bool). command.Gone x.0 x.1) 6 (both_reads player_reads (λ a. flag_reads)) (λ a f. f.0) (λ a. refl)
+gone_takes = made_takes (λ (x : ℕ × Bool). command.Gone x.0 x.1) 6 (at_last (both_reads player_reads (λ a. flag_reads))) (λ a f. f.0) (λ a. refl)
 
 fixture_takes : (bytes : List ℕ) (x : Command × List ℕ) → IsBytes bytes → new_fixture_at bytes ≡ Some x → TakesCommand 7 bytes x
 unfolding new_fixture_at
-fixture_takes = made_takes (λ (x : ℕ × (ℕ × (ℕ × (Option ℕ × ℕ)))). command.Fixture x.0 x.1.0 x.1.1.0 x.1.1.1.0 x.1.1.1.1) 7 (both_reads player_reads (λ a. both_reads club_reads (λ b. both_reads club_reads (λ c. both_reads place_reads (λ d. moment_reads))))) (λ a f. (f.0, f.1.0, f.1.1.0, f.1.1.1.0, f.1.1.1.1)) (λ a. simp append_assoc)
+fixture_takes = made_takes (λ (x : ℕ × (ℕ × (ℕ × (Option ℕ × ℕ)))). command.Fixture x.0 x.1.0 x.1.1.0 x.1.1.1.0 x.1.1.1.1) 7 (at_last (both_reads player_reads (λ a. both_reads club_reads (λ b. both_reads club_reads (λ c. both_reads place_reads (λ d. moment_reads)))))) (λ a f. (f.0, f.1.0, f.1.1.0, f.1.1.1.0, f.1.1.1.1)) (λ a. simp append_assoc)
 
 move_takes : (bytes : List ℕ) (x : Command × List ℕ) → IsBytes bytes → move_at bytes ≡ Some x → TakesCommand 8 bytes x
 unfolding move_at
-move_takes = made_takes (λ (x : ℕ × (Option ℕ × ℕ)). command.Move x.0 x.1.0 x.1.1) 8 (both_reads u32_reads (λ a. both_reads place_reads (λ b. moment_reads))) (λ a f. (f.0, f.1.0, f.1.1)) (λ a. simp append_assoc)
+move_takes = made_takes (λ (x : ℕ × (Option ℕ × ℕ)). command.Move x.0 x.1.0 x.1.1) 8 (at_last (both_reads u32_reads (λ a. both_reads place_reads (λ b. moment_reads)))) (λ a f. (f.0, f.1.0, f.1.1)) (λ a. simp append_assoc)
 
 sheet_takes : (bytes : List ℕ) (x : Command × List ℕ) → IsBytes bytes → sheet_at bytes ≡ Some x → TakesCommand 9 bytes x
 unfolding sheet_at
-sheet_takes = made_takes (λ (x : ℕ × (List (ℕ × Line) × Bool)). command.Sheet x.0 x.1.0 x.1.1) 9 (both_reads u32_reads (λ a. both_reads (list_reads row_reads) (λ b. flag_reads))) (λ a f. (f.0, f.1.0.1)) (λ a. simp append_assoc)
+sheet_takes = made_takes (λ (x : ℕ × (List (ℕ × Line) × Bool)). command.Sheet x.0 x.1.0 x.1.1) 9 (at_last (both_reads u32_reads (λ a. both_reads (list_reads row_reads) (λ b. flag_reads)))) (λ a f. (f.0, f.1.0.1)) (λ a. simp append_assoc)
 
 line_takes : (bytes : List ℕ) (x : Command × List ℕ) → IsBytes bytes → one_line_at bytes ≡ Some x → TakesCommand 10 bytes x
 unfolding one_line_at
-line_takes = made_takes (λ (x : ℕ × (ℕ × Line)). command.Line x.0 x.1.0 x.1.1) 10 (both_reads u32_reads (λ a. both_reads player_reads (λ b. line_reads))) (λ a f. (f.0, f.1.0, f.1.1)) (λ a. simp append_assoc)
+line_takes = made_takes (λ (x : ℕ × (ℕ × Line)). command.Line x.0 x.1.0 x.1.1) 10 (at_last (both_reads u32_reads (λ a. both_reads player_reads (λ b. line_reads)))) (λ a f. (f.0, f.1.0, f.1.1)) (λ a. simp append_assoc)
 
 drop_takes : (bytes : List ℕ) (x : Command × List ℕ) → IsBytes bytes → drop_at bytes ≡ Some x → TakesCommand 11 bytes x
 unfolding drop_at
-drop_takes = made_takes (λ (x : ℕ × ℕ). command.Drop x.0 x.1) 11 (both_reads u32_reads (λ a. player_reads)) (λ a f. f) (λ a. refl)
+drop_takes = made_takes (λ (x : ℕ × ℕ). command.Drop x.0 x.1) 11 (at_last (both_reads u32_reads (λ a. player_reads))) (λ a f. f) (λ a. refl)
 
 finished_takes : (bytes : List ℕ) (x : Command × List ℕ) → IsBytes bytes → finished_at bytes ≡ Some x → TakesCommand 12 bytes x
 unfolding finished_at
-finished_takes = made_takes (λ (x : ℕ × Bool). command.Finished x.0 x.1) 12 (both_reads u32_reads (λ a. flag_reads)) (λ a f. f.0) (λ a. refl)
+finished_takes = made_takes (λ (x : ℕ × Bool). command.Finished x.0 x.1) 12 (at_last (both_reads u32_reads (λ a. flag_reads))) (λ a f. f.0) (λ a. refl)
 
 key_takes : (bytes : List ℕ) (x : Command × List ℕ) → IsBytes bytes → new_key_at bytes ≡ Some x → TakesCommand 13 bytes x
 unfolding new_key_at
-key_takes = made_takes (λ (x : List ℕ × List ℕ). command.Key x.0 x.1) 13 (both_reads key_reads (λ a. name_reads)) (λ a f. f) (λ a. refl)
+key_takes = made_takes (λ (x : List ℕ × List ℕ). command.Key x.0 x.1) 13 (at_last (both_reads key_reads (λ a. name_reads))) (λ a f. f) (λ a. refl)
 
 squad_takes : (bytes : List ℕ) (x : Command × List ℕ) → IsBytes bytes → squad_at bytes ≡ Some x → TakesCommand 14 bytes x
 unfolding squad_at
-squad_takes = made_takes (λ (x : List ℕ × (ℕ × ℕ)). command.Squad x.0 x.1.0 x.1.1) 14 (both_reads fifteen_reads (λ a. both_reads player_reads (λ b. player_reads))) (λ a f. (f.0.0, f.0.1, f.1.0, f.1.1)) (λ a. simp append_assoc)
+squad_takes = made_takes (λ (x : List ℕ × (ℕ × ℕ)). command.Squad x.0 x.1.0 x.1.1) 14 (at_last (both_reads fifteen_reads (λ a. both_reads player_reads (λ b. player_reads)))) (λ a f. (f.0.0, f.0.1, f.1.0, f.1.1)) (λ a. simp append_assoc)
 
 transfers_takes : (bytes : List ℕ) (x : Command × List ℕ) → IsBytes bytes → transfers_at bytes ≡ Some x → TakesCommand 15 bytes x
 unfolding transfers_at
-transfers_takes = made_takes (λ (x : List Swap). command.Transfers x) 15 (list_reads swap_reads) (λ a f. f.1) (λ a. refl)
+transfers_takes = made_takes (λ (x : List Swap). command.Transfers x) 15 (at_last (list_reads swap_reads)) (λ a f. f.1) (λ a. refl)
 
 lineup_takes : (bytes : List ℕ) (x : Command × List ℕ) → IsBytes bytes → lineup_at bytes ≡ Some x → TakesCommand 16 bytes x
 unfolding lineup_at
-lineup_takes = made_takes (λ (x : List ℕ × (ℕ × ℕ)). command.Lineup x.0 x.1.0 x.1.1) 16 (both_reads fifteen_reads (λ a. both_reads player_reads (λ b. player_reads))) (λ a f. (f.0.0, f.0.1, f.1.0, f.1.1)) (λ a. simp append_assoc)
+lineup_takes = made_takes (λ (x : List ℕ × (ℕ × ℕ)). command.Lineup x.0 x.1.0 x.1.1) 16 (at_last (both_reads fifteen_reads (λ a. both_reads player_reads (λ b. player_reads)))) (λ a f. (f.0.0, f.0.1, f.1.0, f.1.1)) (λ a. simp append_assoc)
 
 chip_takes : (bytes : List ℕ) (x : Command × List ℕ) → IsBytes bytes → new_chip_at bytes ≡ Some x → TakesCommand 17 bytes x
 unfolding new_chip_at
-chip_takes = made_takes (λ (x : Chip). command.Chip x) 17 (chip_reads) (λ a f. tt) (λ a. refl)
+chip_takes = made_takes (λ (x : Chip). command.Chip x) 17 (at_last chip_reads) (λ a f. tt) (λ a. refl)
 
 league_takes : (bytes : List ℕ) (x : Command × List ℕ) → IsBytes bytes → new_league_at bytes ≡ Some x → TakesCommand 19 bytes x
 unfolding new_league_at
-league_takes = made_takes (λ (x : LeagueKind × (List ℕ × (List ℕ × ℕ))). command.League x.0 x.1.0 x.1.1.0 x.1.1.1) 19 (both_reads kind_reads (λ a. both_reads name_reads (λ b. both_reads code_reads (λ c. start_reads)))) (λ a f. (f.1.0, f.1.1.0, f.1.1.1)) (λ a. simp append_assoc)
+league_takes = made_takes (λ (x : LeagueKind × (List ℕ × (List ℕ × ℕ))). command.League x.0 x.1.0 x.1.1.0 x.1.1.1) 19 (at_last (both_reads kind_reads (λ a. both_reads name_reads (λ b. both_reads code_reads (λ c. start_reads))))) (λ a f. (f.1.0, f.1.1.0, f.1.1.1)) (λ a. simp append_assoc)
 
 join_takes : (bytes : List ℕ) (x : Command × List ℕ) → IsBytes bytes → join_at bytes ≡ Some x → TakesCommand 20 bytes x
 unfolding join_at
-join_takes = made_takes (λ (x : ℕ × List ℕ). command.Join x.0 x.1) 20 (both_reads u32_reads (λ a. code_reads)) (λ a f. f) (λ a. refl)
+join_takes = made_takes (λ (x : ℕ × List ℕ). command.Join x.0 x.1) 20 (at_last (both_reads u32_reads (λ a. code_reads))) (λ a f. f) (λ a. refl)
 
 draw_takes : (bytes : List ℕ) (x : Command × List ℕ) → IsBytes bytes → draw_at bytes ≡ Some x → TakesCommand 21 bytes x
 unfolding draw_at
-draw_takes = made_takes (λ (x : ℕ × List ℕ). command.Draw x.0 x.1) 21 (both_reads u32_reads (λ a. list_reads entry_reads)) (λ a f. (f.0, f.1.1)) (λ a. simp append_assoc)
+draw_takes = made_takes (λ (x : ℕ × List ℕ). command.Draw x.0 x.1) 21 (at_last (both_reads u32_reads (λ a. list_reads entry_reads))) (λ a f. (f.0, f.1.1)) (λ a. simp append_assoc)
 
 cup_takes : (bytes : List ℕ) (x : Command × List ℕ) → IsBytes bytes → new_cup_at bytes ≡ Some x → TakesCommand 22 bytes x
 unfolding new_cup_at
-cup_takes = made_takes (λ (x : ℕ × (List ℕ × List ℕ)). command.Cup x.0 x.1.0 x.1.1) 22 (both_reads start_reads (λ a. both_reads (list_reads (whole_reads 0 4294967295 (omega arith))) (λ b. list_reads (whole_reads 0 255 (omega arith))))) (λ a f. (f.0, f.1.0.1, f.1.1.1)) (λ a. simp append_assoc)
+cup_takes = made_takes (λ (x : ℕ × (List ℕ × List ℕ)). command.Cup x.0 x.1.0 x.1.1) 22 (at_last (both_reads start_reads (λ a. both_reads (list_reads (whole_reads 0 4294967295 (omega arith))) (λ b. list_reads (whole_reads 0 255 (omega arith)))))) (λ a f. (f.0, f.1.0.1, f.1.1.1)) (λ a. simp append_assoc)
 
 -- the chain of the numbers
 choose : (n k : ℕ) (bytes : List ℕ) (x : Command × List ℕ) (here other : Option (Command × List ℕ)) → (here ≡ Some x → TakesCommand k bytes x)
@@ -319,11 +343,11 @@ command_takes (n ∷ bytes) x whole_fits e =
 at_most : (most n : ℕ) → most < 2 ^ 16 → nat_le n most ≡ true → n < 2 ^ 16
 at_most most n small is = grind (arith, nat_tests, is)
 
-season_deadlines : (d : List ℕ) (s : ℕ) (c : List (ℕ × List ℕ)) → is_command (command.Season d s c) ≡ true → length d < 2 ^ 16
-season_deadlines d s c is = grind (arith, nat_tests, is)
+season_deadlines : (p : Profile) (d : List ℕ) (s : ℕ) (c : List (ℕ × List ℕ)) → is_command (command.Season p d s c) ≡ true → length d < 2 ^ 16
+season_deadlines p d s c is = grind (arith, nat_tests, is)
 
-season_clubs : (d : List ℕ) (s : ℕ) (c : List (ℕ × List ℕ)) → is_command (command.Season d s c) ≡ true → length c < 2 ^ 16
-season_clubs d s c is = grind (arith, nat_tests, is)
+season_clubs : (p : Profile) (d : List ℕ) (s : ℕ) (c : List (ℕ × List ℕ)) → is_command (command.Season p d s c) ≡ true → length c < 2 ^ 16
+season_clubs p d s c is = grind (arith, nat_tests, is)
 
 swaps_len : (s : List Swap) → is_between 1 15 (length s) ≡ true → length s < 2 ^ 16
 swaps_len s is = grind (arith, nat_tests, is)
@@ -334,32 +358,32 @@ cup_slots g s c is = grind (arith, nat_tests, is)
 cup_coins : (g : ℕ) (s c : List ℕ) → is_command (command.Cup g s c) ≡ true → length c < 2 ^ 16
 cup_coins g s c is = grind (arith, nat_tests, is)
 
-command_again : (c : Command) (rest : List ℕ) → IsCommand c → command_at (bytes_of_command c ++ rest) ≡ Some (c, rest)
+command_again : (c : Command) → IsCommand c → command_at (bytes_of_command c) ≡ Some (c, [])
 unfolding command_at season_at deadline_at new_player_at price_at new_club_at gone_at new_fixture_at move_at sheet_at one_line_at drop_at finished_at new_key_at squad_at transfers_at lineup_at new_chip_at cancel_at new_league_at join_at draw_at new_cup_at
-command_again (command.Season d s c) rest fits = command_made (λ (x : List ℕ × (ℕ × List (ℕ × List ℕ))). command.Season x.0 x.1.0 x.1.1) 1 (both_reads (list_reads moment_reads) (λ a. both_reads (whole_reads 0 255 (omega arith)) (λ b. list_reads club_row_reads))) (λ a. simp append_assoc) (λ t. refl) (d, (s, c)) rest ((season_deadlines d s c fits.1, fits.0.0), (fits.0.1, (season_clubs d s c fits.1, fits.0.2))) fits.1
-command_again (command.Deadline g d) rest fits = command_made (λ (x : ℕ × ℕ). command.Deadline x.0 x.1) 2 (both_reads start_reads (λ a. moment_reads)) (λ a. refl) (λ t. refl) (g, d) rest fits.0 fits.1
-command_again (command.Player id n p c t) rest fits = command_made (λ (x : ℕ × (List ℕ × (Position × (ℕ × ℕ)))). command.Player x.0 x.1.0 x.1.1.0 x.1.1.1.0 x.1.1.1.1) 3 (both_reads player_reads (λ a. both_reads name_reads (λ b. both_reads position_reads (λ c. both_reads club_reads (λ d. figure_reads))))) (λ a. simp append_assoc) (λ t. refl) (id, (n, (p, (c, t)))) rest (fits.0.0, (fits.0.1, (tt, (fits.0.2, fits.0.3)))) fits.1
-command_again (command.Price p t) rest fits = command_made (λ (x : ℕ × ℕ). command.Price x.0 x.1) 4 (both_reads player_reads (λ a. figure_reads)) (λ a. refl) (λ t. refl) (p, t) rest fits.0 fits.1
-command_again (command.Club p c) rest fits = command_made (λ (x : ℕ × ℕ). command.Club x.0 x.1) 5 (both_reads player_reads (λ a. club_reads)) (λ a. refl) (λ t. refl) (p, c) rest fits.0 fits.1
-command_again (command.Gone p g) rest fits = command_made (λ (x : ℕ × Bool). command.Gone x.0 x.1) 6 (both_reads player_reads (λ a. flag_reads)) (λ a. refl) (λ t. refl) (p, g) rest (fits.0, tt) fits.1
-command_again (command.Fixture id h a g k) rest fits = command_made (λ (x : ℕ × (ℕ × (ℕ × (Option ℕ × ℕ)))). command.Fixture x.0 x.1.0 x.1.1.0 x.1.1.1.0 x.1.1.1.1) 7 (both_reads player_reads (λ a. both_reads club_reads (λ b. both_reads club_reads (λ c. both_reads place_reads (λ d. moment_reads))))) (λ a. simp append_assoc) (λ t. refl) (id, (h, (a, (g, k)))) rest (fits.0.0, (fits.0.1, (fits.0.2, (fits.0.3, fits.0.4)))) fits.1
-command_again (command.Move x g k) rest fits = command_made (λ (x : ℕ × (Option ℕ × ℕ)). command.Move x.0 x.1.0 x.1.1) 8 (both_reads u32_reads (λ a. both_reads place_reads (λ b. moment_reads))) (λ a. simp append_assoc) (λ t. refl) (x, (g, k)) rest (fits.0.0, (fits.0.1, fits.0.2)) fits.1
-command_again (command.Sheet x l m) rest fits = command_made (λ (x : ℕ × (List (ℕ × Line) × Bool)). command.Sheet x.0 x.1.0 x.1.1) 9 (both_reads u32_reads (λ a. both_reads (list_reads row_reads) (λ b. flag_reads))) (λ a. simp append_assoc) (λ t. refl) (x, (l, m)) rest (fits.0.0, ((at_most 100 (length l) (omega arith) fits.1, fits.0.1), tt)) fits.1
-command_again (command.Line x p l) rest fits = command_made (λ (x : ℕ × (ℕ × Line)). command.Line x.0 x.1.0 x.1.1) 10 (both_reads u32_reads (λ a. both_reads player_reads (λ b. line_reads))) (λ a. simp append_assoc) (λ t. refl) (x, (p, l)) rest (fits.0.0, (fits.0.1, fits.0.2)) fits.1
-command_again (command.Drop x p) rest fits = command_made (λ (x : ℕ × ℕ). command.Drop x.0 x.1) 11 (both_reads u32_reads (λ a. player_reads)) (λ a. refl) (λ t. refl) (x, p) rest fits.0 fits.1
-command_again (command.Finished x m) rest fits = command_made (λ (x : ℕ × Bool). command.Finished x.0 x.1) 12 (both_reads u32_reads (λ a. flag_reads)) (λ a. refl) (λ t. refl) (x, m) rest (fits.0, tt) fits.1
-command_again (command.Key k n) rest fits = command_made (λ (x : List ℕ × List ℕ). command.Key x.0 x.1) 13 (both_reads key_reads (λ a. name_reads)) (λ a. refl) (λ t. refl) (k, n) rest fits.0 fits.1
-command_again (command.Squad p c v) rest fits = command_made (λ (x : List ℕ × (ℕ × ℕ)). command.Squad x.0 x.1.0 x.1.1) 14 (both_reads fifteen_reads (λ a. both_reads player_reads (λ b. player_reads))) (λ a. simp append_assoc) (λ t. refl) (p, (c, v)) rest ((fits.0.0, fits.0.1), (fits.0.2, fits.0.3)) fits.1
-command_again (command.Transfers s) rest fits = command_made (λ (x : List Swap). command.Transfers x) 15 (list_reads swap_reads) (λ a. refl) (λ t. refl) s rest (swaps_len s fits.1, fits.0) fits.1
-command_again (command.Lineup p c v) rest fits = command_made (λ (x : List ℕ × (ℕ × ℕ)). command.Lineup x.0 x.1.0 x.1.1) 16 (both_reads fifteen_reads (λ a. both_reads player_reads (λ b. player_reads))) (λ a. simp append_assoc) (λ t. refl) (p, (c, v)) rest ((fits.0.0, fits.0.1), (fits.0.2, fits.0.3)) fits.1
-command_again (command.Chip c) rest fits = command_made (λ (x : Chip). command.Chip x) 17 (chip_reads) (λ a. refl) (λ t. refl) c rest tt fits.1
-command_again command.CancelChip rest fits = refl
-command_again (command.League k n c g) rest fits = command_made (λ (x : LeagueKind × (List ℕ × (List ℕ × ℕ))). command.League x.0 x.1.0 x.1.1.0 x.1.1.1) 19 (both_reads kind_reads (λ a. both_reads name_reads (λ b. both_reads code_reads (λ c. start_reads)))) (λ a. simp append_assoc) (λ t. refl) (k, (n, (c, g))) rest (tt, (fits.0.0, (fits.0.1, fits.0.2))) fits.1
-command_again (command.Join x c) rest fits = command_made (λ (x : ℕ × List ℕ). command.Join x.0 x.1) 20 (both_reads u32_reads (λ a. code_reads)) (λ a. refl) (λ t. refl) (x, c) rest fits.0 fits.1
-command_again (command.Draw x o) rest fits = command_made (λ (x : ℕ × List ℕ). command.Draw x.0 x.1) 21 (both_reads u32_reads (λ a. list_reads entry_reads)) (λ a. simp append_assoc) (λ t. refl) (x, o) rest (fits.0.0, (at_most 64 (length o) (omega arith) fits.1, fits.0.1)) fits.1
-command_again (command.Cup g s c) rest fits = command_made (λ (x : ℕ × (List ℕ × List ℕ)). command.Cup x.0 x.1.0 x.1.1) 22 (both_reads start_reads (λ a. both_reads (list_reads (whole_reads 0 4294967295 (omega arith))) (λ b. list_reads (whole_reads 0 255 (omega arith))))) (λ a. simp append_assoc) (λ t. refl) (g, (s, c)) rest (fits.0.0, ((cup_slots g s c fits.1, fits.0.1), (cup_coins g s c fits.1, fits.0.2))) fits.1
+command_again (command.Season p d s c) fits = command_made (λ (x : List ℕ × (ℕ × (List (ℕ × List ℕ) × Profile))). command.Season x.1.1.1 x.0 x.1.0 x.1.1.0) 1 season_reads (λ a. simp append_assoc) (λ t. refl) (d, (s, (c, p))) ((season_deadlines p d s c fits.1, fits.0.0), (fits.0.1, ((season_clubs p d s c fits.1, fits.0.2), tt))) fits.1
+command_again (command.Deadline g d) fits = command_made (λ (x : ℕ × ℕ). command.Deadline x.0 x.1) 2 (at_last (both_reads start_reads (λ a. moment_reads))) (λ a. refl) (λ t. refl) (g, d) fits.0 fits.1
+command_again (command.Player id n p c t) fits = command_made (λ (x : ℕ × (List ℕ × (Position × (ℕ × ℕ)))). command.Player x.0 x.1.0 x.1.1.0 x.1.1.1.0 x.1.1.1.1) 3 (at_last (both_reads player_reads (λ a. both_reads name_reads (λ b. both_reads position_reads (λ c. both_reads club_reads (λ d. figure_reads)))))) (λ a. simp append_assoc) (λ t. refl) (id, (n, (p, (c, t)))) (fits.0.0, (fits.0.1, (tt, (fits.0.2, fits.0.3)))) fits.1
+command_again (command.Price p t) fits = command_made (λ (x : ℕ × ℕ). command.Price x.0 x.1) 4 (at_last (both_reads player_reads (λ a. figure_reads))) (λ a. refl) (λ t. refl) (p, t) fits.0 fits.1
+command_again (command.Club p c) fits = command_made (λ (x : ℕ × ℕ). command.Club x.0 x.1) 5 (at_last (both_reads player_reads (λ a. club_reads))) (λ a. refl) (λ t. refl) (p, c) fits.0 fits.1
+command_again (command.Gone p g) fits = command_made (λ (x : ℕ × Bool). command.Gone x.0 x.1) 6 (at_last (both_reads player_reads (λ a. flag_reads))) (λ a. refl) (λ t. refl) (p, g) (fits.0, tt) fits.1
+command_again (command.Fixture id h a g k) fits = command_made (λ (x : ℕ × (ℕ × (ℕ × (Option ℕ × ℕ)))). command.Fixture x.0 x.1.0 x.1.1.0 x.1.1.1.0 x.1.1.1.1) 7 (at_last (both_reads player_reads (λ a. both_reads club_reads (λ b. both_reads club_reads (λ c. both_reads place_reads (λ d. moment_reads)))))) (λ a. simp append_assoc) (λ t. refl) (id, (h, (a, (g, k)))) (fits.0.0, (fits.0.1, (fits.0.2, (fits.0.3, fits.0.4)))) fits.1
+command_again (command.Move x g k) fits = command_made (λ (x : ℕ × (Option ℕ × ℕ)). command.Move x.0 x.1.0 x.1.1) 8 (at_last (both_reads u32_reads (λ a. both_reads place_reads (λ b. moment_reads)))) (λ a. simp append_assoc) (λ t. refl) (x, (g, k)) (fits.0.0, (fits.0.1, fits.0.2)) fits.1
+command_again (command.Sheet x l m) fits = command_made (λ (x : ℕ × (List (ℕ × Line) × Bool)). command.Sheet x.0 x.1.0 x.1.1) 9 (at_last (both_reads u32_reads (λ a. both_reads (list_reads row_reads) (λ b. flag_reads)))) (λ a. simp append_assoc) (λ t. refl) (x, (l, m)) (fits.0.0, ((at_most 100 (length l) (omega arith) fits.1, fits.0.1), tt)) fits.1
+command_again (command.Line x p l) fits = command_made (λ (x : ℕ × (ℕ × Line)). command.Line x.0 x.1.0 x.1.1) 10 (at_last (both_reads u32_reads (λ a. both_reads player_reads (λ b. line_reads)))) (λ a. simp append_assoc) (λ t. refl) (x, (p, l)) (fits.0.0, (fits.0.1, fits.0.2)) fits.1
+command_again (command.Drop x p) fits = command_made (λ (x : ℕ × ℕ). command.Drop x.0 x.1) 11 (at_last (both_reads u32_reads (λ a. player_reads))) (λ a. refl) (λ t. refl) (x, p) fits.0 fits.1
+command_again (command.Finished x m) fits = command_made (λ (x : ℕ × Bool). command.Finished x.0 x.1) 12 (at_last (both_reads u32_reads (λ a. flag_reads))) (λ a. refl) (λ t. refl) (x, m) (fits.0, tt) fits.1
+command_again (command.Key k n) fits = command_made (λ (x : List ℕ × List ℕ). command.Key x.0 x.1) 13 (at_last (both_reads key_reads (λ a. name_reads))) (λ a. refl) (λ t. refl) (k, n) fits.0 fits.1
+command_again (command.Squad p c v) fits = command_made (λ (x : List ℕ × (ℕ × ℕ)). command.Squad x.0 x.1.0 x.1.1) 14 (at_last (both_reads fifteen_reads (λ a. both_reads player_reads (λ b. player_reads)))) (λ a. simp append_assoc) (λ t. refl) (p, (c, v)) ((fits.0.0, fits.0.1), (fits.0.2, fits.0.3)) fits.1
+command_again (command.Transfers s) fits = command_made (λ (x : List Swap). command.Transfers x) 15 (at_last (list_reads swap_reads)) (λ a. refl) (λ t. refl) s (swaps_len s fits.1, fits.0) fits.1
+command_again (command.Lineup p c v) fits = command_made (λ (x : List ℕ × (ℕ × ℕ)). command.Lineup x.0 x.1.0 x.1.1) 16 (at_last (both_reads fifteen_reads (λ a. both_reads player_reads (λ b. player_reads)))) (λ a. simp append_assoc) (λ t. refl) (p, (c, v)) ((fits.0.0, fits.0.1), (fits.0.2, fits.0.3)) fits.1
+command_again (command.Chip c) fits = command_made (λ (x : Chip). command.Chip x) 17 (at_last chip_reads) (λ a. refl) (λ t. refl) c tt fits.1
+command_again command.CancelChip fits = refl
+command_again (command.League k n c g) fits = command_made (λ (x : LeagueKind × (List ℕ × (List ℕ × ℕ))). command.League x.0 x.1.0 x.1.1.0 x.1.1.1) 19 (at_last (both_reads kind_reads (λ a. both_reads name_reads (λ b. both_reads code_reads (λ c. start_reads))))) (λ a. simp append_assoc) (λ t. refl) (k, (n, (c, g))) (tt, (fits.0.0, (fits.0.1, fits.0.2))) fits.1
+command_again (command.Join x c) fits = command_made (λ (x : ℕ × List ℕ). command.Join x.0 x.1) 20 (at_last (both_reads u32_reads (λ a. code_reads))) (λ a. refl) (λ t. refl) (x, c) fits.0 fits.1
+command_again (command.Draw x o) fits = command_made (λ (x : ℕ × List ℕ). command.Draw x.0 x.1) 21 (at_last (both_reads u32_reads (λ a. list_reads entry_reads))) (λ a. simp append_assoc) (λ t. refl) (x, o) (fits.0.0, (at_most 64 (length o) (omega arith) fits.1, fits.0.1)) fits.1
+command_again (command.Cup g s c) fits = command_made (λ (x : ℕ × (List ℕ × List ℕ)). command.Cup x.0 x.1.0 x.1.1) 22 (at_last (both_reads start_reads (λ a. both_reads (list_reads (whole_reads 0 4294967295 (omega arith))) (λ b. list_reads (whole_reads 0 255 (omega arith)))))) (λ a. simp append_assoc) (λ t. refl) (g, (s, c)) (fits.0.0, ((cup_slots g s c fits.1, fits.0.1), (cup_coins g s c fits.1, fits.0.2))) fits.1
 
-pub command_reads : Reads bytes_of_command IsCommand command_at
+pub command_reads : ReadsLast bytes_of_command IsCommand command_at
 command_reads = record { again = command_again; takes = command_takes }
 
 -- so the bytes of a command that can be ordered are its own

@@ -6,7 +6,6 @@ use Rattle.std.specs.Int.{Width, w16, w32, w64, byte_len, from_be_bytes, to_be_b
 use Rattle.std.proofs.lemmas.Bool.{cases_lt, eqb-true, ltb-false, le-ltb}
 use Rattle.std.proofs.lemmas.Bool.Decides.{nat_tests}
 use Rattle.std.proofs.lemmas.List.{take_at, drop_at, take-append-drop, length-append, length-take, get_or-drop, get_or-take, get_or_past, nil_from_length}
-use Rattle.std.proofs.lemmas.List.Concat.{flat_map-cons}
 use Rattle.std.proofs.lemmas.Nat.{be_bytes_2, be_bytes_4, be_bytes_8, from_be_bytes-to_be_bytes_2, from_be_bytes-to_be_bytes_4, from_be_bytes-to_be_bytes_8}
 use Rattle.std.proofs.lemmas.Option.{same_Some, none-some, cond_some}
 use Rattle.record_codec.specs.Commands.{is_between}
@@ -36,10 +35,25 @@ pub record Taken (bytes text rest : List ℕ) (fact : Type 0) : Type 0 where
   pub bytes_behind : IsBytes rest
   pub fits : fact
 
+-- what is read was written, and fits
+abbrev pub Takes : {A : Type 0} → (A → List ℕ) → (A → Type 0) → Reader A → Type 0
+Takes {A} write Fits read = (bytes : List ℕ) (x : A × List ℕ) → IsBytes bytes → read bytes ≡ Some x → Taken bytes (write x.0) x.1 (Fits x.0)
+
 -- a way to write the values that fit, and to read them
 pub record Reads {A : Type 0} (write : A → List ℕ) (Fits : A → Type 0) (read : Reader A) : Type 0 where
   pub again : (a : A) (rest : List ℕ) → Fits a → read (write a ++ rest) ≡ Some (a, rest)
-  pub takes : (bytes : List ℕ) (x : A × List ℕ) → IsBytes bytes → read bytes ≡ Some x → Taken bytes (write x.0) x.1 (Fits x.0)
+  pub takes : Takes write Fits read
+
+-- the same of values that stand last: they need not tell where they end
+pub record ReadsLast {A : Type 0} (write : A → List ℕ) (Fits : A → Type 0) (read : Reader A) : Type 0 where
+  pub again : (a : A) → Fits a → read (write a) ≡ Some (a, [])
+  pub takes : Takes write Fits read
+
+pub at_last : {A : Type 0} {w : A → List ℕ} {F : A → Type 0} {r : Reader A} → Reads w F r → ReadsLast w F r
+at_last {A} {w} {F} {r} reads = record {
+  again = λ a fits. ap r (sym (append-nil (w a))) ∙ reads.again a [] fits;
+  takes = reads.takes;
+}
 
 -- the value of a step that did not fail
 pub got : {A B : Type 0} (o : Option A) (f : A → Option B) (y : B) → (o >>= f) ≡ Some y → (x : A) × (o ≡ Some x) × (f x ≡ Some y)
@@ -137,29 +151,45 @@ nothing_reads = record {
 
 -- Joining.
 
+both_takes : {A B : Type 0} {w : A → List ℕ} {F : A → Type 0} {r : Reader A} {v : A → B → List ℕ} {G : A → B → Type 0} {s : A → Reader B}
+    → Reads w F r → ((a : A) → ReadsLast (v a) (G a) (s a)) → Takes (λ (p : A × B). w p.0 ++ v p.0 p.1) (λ p. F p.0 × G p.0 p.1) (both_at r s)
+both_takes {A} {B} {w} {F} {r} {v} {G} {s} first second bytes x fits e =
+    let a = got (r bytes) (λ a. s a.0 a.1 >>= λ b. Some ((a.0, b.0), b.1)) x e in
+    let b = got (s a.0.0 a.0.1) (λ b. Some ((a.0.0, b.0), b.1)) x a.2 in
+    let t0 = first.takes bytes a.0 fits a.1 in
+    let t1 = (second a.0.0).takes a.0.1 b.0 t0.bytes_behind b.1 in
+    subst (λ (y : (A × B) × List ℕ). Taken bytes (w y.0.0 ++ v y.0.0 y.0.1) y.1 (F y.0.0 × G y.0.0 y.0.1))
+    (same_Some {A = (A × B) × List ℕ} ((a.0.0, b.0.0), b.0.1) x b.2)
+    (record {
+      parts = t0.parts ∙ ap (λ (t : List ℕ). w a.0.0 ++ t) t1.parts ∙ sym (append_assoc (w a.0.0) (v a.0.0 b.0.0) b.0.1);
+      bytes_behind = t1.bytes_behind;
+      fits = (t0.fits, t1.fits);
+    })
+
+-- where the second is read behind the first, both are
+both_again : {A B : Type 0} {w : A → List ℕ} {F : A → Type 0} {r : Reader A} (s : A → Reader B)
+    → Reads w F r → (p : A × B) (behind rest : List ℕ) → F p.0 → s p.0 behind ≡ Some (p.1, rest)
+    → both_at r s (w p.0 ++ behind) ≡ Some (p, rest)
+both_again {A} {B} {w} {F} {r} s first p behind rest fits second =
+    ap (λ (o : Option (A × List ℕ)). o >>= λ a. s a.0 a.1 >>= λ b. Some ((a.0, b.0), b.1)) (first.again p.0 behind fits)
+    ∙ ap (λ (o : Option (B × List ℕ)). o >>= λ b. Some ((p.0, b.0), b.1)) second
+
 pub both_reads : {A B : Type 0} {w : A → List ℕ} {F : A → Type 0} {r : Reader A} {v : A → B → List ℕ} {G : A → B → Type 0} {s : A → Reader B}
     → Reads w F r → ((a : A) → Reads (v a) (G a) (s a)) → Reads (λ (p : A × B). w p.0 ++ v p.0 p.1) (λ p. F p.0 × G p.0 p.1) (both_at r s)
-both_reads {A} {B} {w} {F} {r} {v} {G} {s} first second = record { again = again; takes = takes }
-  where
-    again : (p : A × B) (rest : List ℕ) → F p.0 × G p.0 p.1 → both_at r s ((w p.0 ++ v p.0 p.1) ++ rest) ≡ Some (p, rest)
-    again p rest fits =
-        ap (both_at r s) (append_assoc (w p.0) (v p.0 p.1) rest)
-        ∙ ap (λ (o : Option (A × List ℕ)). o >>= λ a. s a.0 a.1 >>= λ b. Some ((a.0, b.0), b.1)) (first.again p.0 (v p.0 p.1 ++ rest) fits.0)
-        ∙ ap (λ (o : Option (B × List ℕ)). o >>= λ b. Some ((p.0, b.0), b.1)) ((second p.0).again p.1 rest fits.1)
+both_reads {A} {B} {w} {F} {r} {v} {G} {s} first second = record {
+  again = λ p rest fits.
+      ap (both_at r s) (append_assoc (w p.0) (v p.0 p.1) rest)
+      ∙ both_again s first p (v p.0 p.1 ++ rest) rest fits.0 ((second p.0).again p.1 rest fits.1);
+  takes = both_takes first (λ a. at_last (second a));
+}
 
-    takes : (bytes : List ℕ) (x : (A × B) × List ℕ) → IsBytes bytes → both_at r s bytes ≡ Some x → Taken bytes (w x.0.0 ++ v x.0.0 x.0.1) x.1 (F x.0.0 × G x.0.0 x.0.1)
-    takes bytes x fits e =
-        let a = got (r bytes) (λ a. s a.0 a.1 >>= λ b. Some ((a.0, b.0), b.1)) x e in
-        let b = got (s a.0.0 a.0.1) (λ b. Some ((a.0.0, b.0), b.1)) x a.2 in
-        let t0 = first.takes bytes a.0 fits a.1 in
-        let t1 = (second a.0.0).takes a.0.1 b.0 t0.bytes_behind b.1 in
-        subst (λ (y : (A × B) × List ℕ). Taken bytes (w y.0.0 ++ v y.0.0 y.0.1) y.1 (F y.0.0 × G y.0.0 y.0.1))
-        (same_Some {A = (A × B) × List ℕ} ((a.0.0, b.0.0), b.0.1) x b.2)
-        (record {
-          parts = t0.parts ∙ ap (λ (t : List ℕ). w a.0.0 ++ t) t1.parts ∙ sym (append_assoc (w a.0.0) (v a.0.0 b.0.0) b.0.1);
-          bytes_behind = t1.bytes_behind;
-          fits = (t0.fits, t1.fits);
-        })
+pub both_last : {A B : Type 0} {w : A → List ℕ} {F : A → Type 0} {r : Reader A} {v : A → B → List ℕ} {G : A → B → Type 0} {s : A → Reader B}
+    → Reads w F r → ((a : A) → ReadsLast (v a) (G a) (s a))
+    → ReadsLast (λ (p : A × B). w p.0 ++ v p.0 p.1) (λ p. F p.0 × G p.0 p.1) (both_at r s)
+both_last {A} {B} {w} {F} {r} {v} {G} {s} first second = record {
+  again = λ p fits. both_again s first p (v p.0 p.1) [] fits.0 ((second p.0).again p.1 fits.1);
+  takes = both_takes first second;
+}
 
 pub meant_reads : {A B : Type 0} {w : A → List ℕ} {F : A → Type 0} {r : Reader A} (f : A → Option B) (back : B → A) (H : B → Type 0)
     → ((b : B) → H b → (f (back b) ≡ Some b) × F (back b)) → ((a : A) (b : B) → F a → f a ≡ Some b → (a ≡ back b) × H b)
@@ -331,11 +361,11 @@ text_reads test first = led_reads length first (λ n. kept_reads test (front_rea
 
 -- All of the bytes.
 
-pub whole_again : {A : Type 0} {w : A → List ℕ} {F : A → Type 0} {r : Reader A} → Reads w F r → (a : A) → F a → whole_of r (w a) ≡ Some a
+pub whole_again : {A : Type 0} {w : A → List ℕ} {F : A → Type 0} {r : Reader A} → ReadsLast w F r → (a : A) → F a → whole_of r (w a) ≡ Some a
 whole_again {A} {w} {F} {r} reads a fits =
-    ap (λ (o : Option (A × List ℕ)). o >>= λ x. cond (length x.1 == 0) (Some x.0) None) (ap r (sym (append-nil (w a))) ∙ reads.again a [] fits)
+    ap (λ (o : Option (A × List ℕ)). o >>= λ x. cond (length x.1 == 0) (Some x.0) None) (reads.again a fits)
 
-pub whole_takes : {A : Type 0} {w : A → List ℕ} {F : A → Type 0} {r : Reader A} → Reads w F r
+pub whole_takes : {A : Type 0} {w : A → List ℕ} {F : A → Type 0} {r : Reader A} → ReadsLast w F r
     → (bytes : List ℕ) (a : A) → IsBytes bytes → whole_of r bytes ≡ Some a → (bytes ≡ w a) × F a
 whole_takes {A} {w} {F} {r} reads bytes a fits e =
     let x = got (r bytes) (λ x. cond (length x.1 == 0) (Some x.0) None) a e in

@@ -1,7 +1,7 @@
 -- An item that can be is read of its key and body, and what is read is such an item with this key and body.
-use Rattle.std.proofs.Common.{◌≡◌, ℕ, zero, suc, ◌+◌, ◌-◌, ◌^◌, ◌<◌, ◌≤◌, Bool, true, false, cond, ◌&&◌, ◌==◌, nat_le, List, [], ◌∷◌, ◌++◌, length, flat_map, Option, Some, None, refl, sym, ap, subst, ◌∙◌, append_assoc, arith}
+use Rattle.std.proofs.Common.{◌≡◌, ℕ, ◌-◌, ◌^◌, ◌<◌, ◌≤◌, Bool, true, false, cond, ◌&&◌, nat_le, List, [], ◌∷◌, ◌++◌, length, flat_map, Option, Some, None, refl, sym, ap, subst, ◌∙◌, append_assoc, arith}
 use Rattle.std.specs.List.{AllByRecursion}
-use Rattle.std.specs.Int.{w16, w32, w64}
+use Rattle.std.specs.Int.{w32, w64}
 use Rattle.std.proofs.lemmas.Bool.Decides.{nat_tests}
 use Rattle.std.proofs.lemmas.Option.{none-some, cond_some}
 use Rattle.fpl_base.specs.Texts.{is_name, is_key, is_code}
@@ -17,14 +17,14 @@ use Rattle.record_codec.specs.Fields.{byte, number, or_zero, short_text, profile
 use Rattle.record_codec.specs.ItemReading.{byte_in, long_in, short_text_at, byte_place_at, profile_at, pick_at, made_item, season_in, club_in, player_in, fixture_in, line_in, entry_in, team_in, transfer_in, league_in, member_in, cup_in, last_in, item_in, item_of}
 use Rattle.record_codec.specs.Items.{slot_of_item, key_of_item, pick_bytes, league_body, body_of, is_item}
 use Rattle.record_codec.specs.Keys.{key_of, slot_of}
-use Rattle.record_codec.specs.Ranges.{IsClub, IsPlayer, IsId, IsGameweek, is_place, IsMoment, IsFigure, HasRanges, HasFieldRanges, IsItem}
-use Rattle.record_codec.specs.Reading.{Reader, ◌>>=◌, byte_at, number_at, nothing_at, meant, many_at, counted, kept, text_at, numbered, whole_of}
+use Rattle.record_codec.specs.Ranges.{IsClub, IsPlayer, IsId, IsGameweek, is_place, HasFieldRanges, IsItem}
+use Rattle.record_codec.specs.Reading.{Reader, ◌>>=◌, kept, numbered, whole_of}
 use Rattle.record_codec.specs.declared.item.Item.{Item}
 use Rattle.record_codec.specs.declared.item.Item.TheVariants as item
 use Rattle.record_codec.specs.declared.slot.Slot.{Slot}
 use Rattle.record_codec.specs.declared.slot.Slot.TheVariants as slot
 use Rattle.record_codec.proofs.CommandLaws.{flag_reads, position_reads, chip_reads, kind_reads, moment_reads, name_len, key_len, code_len, command_reads}
-use Rattle.record_codec.proofs.FieldLaws.{IsBytes, Reads, got, byte_reads, u16_reads, u32_reads, u64_reads, both_reads, within_reads, gameweek_reads, numbered_reads, many_reads, counted_reads, text_reads, nothing_reads, whole_again, whole_takes, refit}
+use Rattle.record_codec.proofs.FieldLaws.{IsBytes, Reads, ReadsLast, at_last, got, byte_reads, u16_reads, u32_reads, u64_reads, both_reads, both_last, within_reads, gameweek_reads, numbered_reads, many_reads, counted_reads, text_reads, nothing_reads, whole_again, whole_takes, refit}
 use Rattle.record_codec.proofs.KeyLaws.{named}
 
 -- Fields.
@@ -92,24 +92,33 @@ is_figure n fits = grind (arith, nat_tests, fits)
 
 -- Items.
 
-made_again : {A : Type 0} {w : A → List ℕ} {F : A → Type 0} {r : Reader A} (of : A → Item) → Reads w F r
+ended_again : {A : Type 0} {w : A → List ℕ} {F : A → Type 0} {r : Reader A} (of : A → Item) → ReadsLast w F r
     → (a : A) (body : List ℕ) → body ≡ w a → F a → is_item (of a) ≡ true → made_item of r body ≡ Some (of a)
-made_again {A} {w} {F} {r} of reads a body spelled fits is =
+ended_again {A} {w} {F} {r} of reads a body spelled fits is =
     ap (made_item of r) spelled
     ∙ ap (λ (o : Option A). o >>= λ x. kept is_item (of x)) (whole_again reads a fits)
     ∙ ap (λ b. cond b (Some (of a)) None) is
 
+made_again : {A : Type 0} {w : A → List ℕ} {F : A → Type 0} {r : Reader A} (of : A → Item) → Reads w F r
+    → (a : A) (body : List ℕ) → body ≡ w a → F a → is_item (of a) ≡ true → made_item of r body ≡ Some (of a)
+made_again of reads = ended_again of (at_last reads)
+
 abbrev Found : Slot → List ℕ → Item → Type 0
 Found s body i = IsItem i × (slot_of_item i ≡ s) × (body ≡ body_of i)
 
-made_takes : {A : Type 0} {w : A → List ℕ} {F : A → Type 0} {r : Reader A} (of : A → Item) (s : Slot) → Reads w F r
+ended_takes : {A : Type 0} {w : A → List ℕ} {F : A → Type 0} {r : Reader A} (of : A → Item) (s : Slot) → ReadsLast w F r
     → ((a : A) → F a → HasFieldRanges (of a)) → ((a : A) → slot_of_item (of a) ≡ s) → ((a : A) → F a → w a ≡ body_of (of a))
     → (body : List ℕ) (i : Item) → IsBytes body → made_item of r body ≡ Some i → Found s body i
-made_takes {A} {w} {F} {r} of s reads ranges own spelled body i fits e =
+ended_takes {A} {w} {F} {r} of s reads ranges own spelled body i fits e =
     let a = got (whole_of r body) (λ a. kept is_item (of a)) i e in
     let both = cond_some (is_item (of a.0)) (of a.0) i a.2 in
     let t = whole_takes reads body a.0 fits a.1 in
     subst (λ (x : Item). Found s body x) both.1 ((ranges a.0 t.1, both.0), own a.0, t.0 ∙ spelled a.0 t.1)
+
+made_takes : {A : Type 0} {w : A → List ℕ} {F : A → Type 0} {r : Reader A} (of : A → Item) (s : Slot) → Reads w F r
+    → ((a : A) → F a → HasFieldRanges (of a)) → ((a : A) → slot_of_item (of a) ≡ s) → ((a : A) → F a → w a ≡ body_of (of a))
+    → (body : List ℕ) (i : Item) → IsBytes body → made_item of r body ≡ Some i → Found s body i
+made_takes of s reads = ended_takes of s (at_last reads)
 
 gate : (b : Bool) (x : Option Item) (i : Item) → b ≡ true → x ≡ Some i → cond b x None ≡ Some i
 gate b x i holds is = ap (λ t. cond t x None) holds ∙ is
@@ -187,7 +196,7 @@ cup_takes cup own = made_takes (λ (x : ℕ × (List ℕ × List ℕ)). item.Cup
 
 last_takes : (caller : ℕ) → (body : List ℕ) (i : Item) → IsBytes body → last_in caller body ≡ Some i → Found (slot.Last caller) body i
 unfolding last_in
-last_takes caller = made_takes (λ (x : ℕ × (ℕ × (ℕ × Command))). item.Last caller x.0 x.1.0 x.1.1.0 x.1.1.1) (slot.Last caller) (both_reads u64_reads (λ a. both_reads u16_reads (λ b. both_reads u32_reads (λ c. command_reads)))) (λ a f. (f.0, f.1.0, f.1.1.0, f.1.1.1.0)) (λ a. refl) (λ a f. simp append_assoc)
+last_takes caller = ended_takes (λ (x : ℕ × (ℕ × (ℕ × Command))). item.Last caller x.0 x.1.0 x.1.1.0 x.1.1.1) (slot.Last caller) (both_last u64_reads (λ a. both_last u16_reads (λ b. both_last u32_reads (λ c. command_reads)))) (λ a f. (f.0, f.1.0, f.1.1.0, f.1.1.1.0)) (λ a. refl) (λ a f. simp append_assoc)
 
 in_takes : (s : Slot) (body : List ℕ) (i : Item) → IsBytes body → item_in s body ≡ Some i → Found s body i
 in_takes slot.Season body i fits e = season_takes body i fits e
@@ -222,4 +231,4 @@ item_back (item.Transfer entry gameweek n o t s b) fits = gate _ _ _ (and_true _
 item_back (item.League league k g c o d n) fits = gate _ _ _ fits.0.0 (made_again (λ (x : LeagueKind × (ℕ × (ℕ × (List ℕ × (List ℕ × List ℕ))))). item.League league x.0 x.1.0 x.1.1.0 x.1.1.1.0 x.1.1.1.1.0 x.1.1.1.1.1) (both_reads kind_reads (λ a. both_reads start_reads (λ b. both_reads id_reads (λ c. both_reads (counted_reads byte_reads id_reads) (λ d. both_reads code_reads (λ e. name_reads)))))) (k, (g, (c, (o, (d, n))))) _ (league_spelled k g c o d n) (tt, (fits.0.1, (fits.0.2, ((byte_len_fits (length o) fits.1, fits.0.3), (fits.0.4, fits.0.5))))) fits.1)
 item_back (item.Member league entry) fits = gate _ _ _ (and_true _ _ fits.0.0 fits.0.1) (made_again (λ (x : Unit {0}). item.Member league entry) (nothing_reads) tt _ refl tt fits.1)
 item_back (item.Cup cup g s c) fits = gate _ _ _ fits.0.0 (made_again (λ (x : ℕ × (List ℕ × List ℕ)). item.Cup cup x.0 x.1.0 x.1.1) (both_reads start_reads (λ a. both_reads (counted_reads u16_reads u32_reads) (λ slots. many_reads byte_reads (length slots - 1)))) (g, (s, c)) _ (simp append_assoc) (fits.0.1, ((cup_slots cup g s c fits.1, fits.0.2), (cup_coins cup g s c fits.1, fits.0.3))) fits.1)
-item_back (item.Last caller n s m c) fits = made_again (λ (x : ℕ × (ℕ × (ℕ × Command))). item.Last caller x.0 x.1.0 x.1.1.0 x.1.1.1) (both_reads u64_reads (λ a. both_reads u16_reads (λ b. both_reads u32_reads (λ c. command_reads)))) (n, (s, (m, c))) _ (simp append_assoc) (fits.0.0, (fits.0.1, (fits.0.2, (fits.0.3, fits.1)))) fits.1
+item_back (item.Last caller n s m c) fits = ended_again (λ (x : ℕ × (ℕ × (ℕ × Command))). item.Last caller x.0 x.1.0 x.1.1.0 x.1.1.1) (both_last u64_reads (λ a. both_last u16_reads (λ b. both_last u32_reads (λ c. command_reads)))) (n, (s, (m, c))) _ (simp append_assoc) (fits.0.0, (fits.0.1, (fits.0.2, (fits.0.3, fits.1)))) fits.1

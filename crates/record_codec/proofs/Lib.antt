@@ -2,3 +2,4 @@ pub mod CommandLaws
 pub mod FieldLaws
 pub mod ItemLaws
 pub mod KeyLaws
+pub mod Worked

@@ -6,6 +6,8 @@ use Rattle.fpl_base.specs.declared.kinds.Chip.{Chip}
 use Rattle.fpl_base.specs.declared.kinds.Chip.TheVariants as chip
 use Rattle.fpl_base.specs.declared.kinds.Position.{Position}
 use Rattle.fpl_base.specs.declared.kinds.Position.TheVariants as position
+use Rattle.fpl_base.specs.declared.kinds.Profile.{Profile}
+use Rattle.fpl_base.specs.declared.kinds.Profile.TheVariants as profile
 use Rattle.rule_book.specs.declared.league.LeagueKind.{LeagueKind}
 use Rattle.rule_book.specs.declared.league.LeagueKind.TheVariants as kind
 use Rattle.rule_book.specs.declared.line.Line.{Line}
@@ -13,7 +15,7 @@ use Rattle.rule_book.specs.declared.transfers.Swap.{Swap}
 use Rattle.season_book.specs.declared.command.Command.{Command}
 use Rattle.season_book.specs.declared.command.Command.TheVariants as command
 use Rattle.record_codec.specs.Commands.{is_command}
-use Rattle.record_codec.specs.Fields.{flag, position_number, chip_number, kind_number}
+use Rattle.record_codec.specs.Fields.{flag, profile_number, position_number, chip_number, kind_number}
 use Rattle.record_codec.specs.Reading.{Reader, ◌>>=◌, byte_at, number_at, meant, ◌then◌, counted, kept, within, text_at, numbered, gameweek_of, whole_of}
 
 -- Members.
@@ -26,6 +28,11 @@ place_at = meant gameweek_of (number_at w64)
 
 unfoldable pub flag_at : Reader Bool
 flag_at = meant (numbered flag (false ∷ true ∷ [])) byte_at
+
+-- what a season command ends with
+unfoldable pub profile_end_at : Reader Profile
+profile_end_at [] = Some (profile.A, [])
+profile_end_at (n ∷ rest) = if n == profile_number profile.B then Some (profile.B, rest) else None
 
 unfoldable pub position_at : Reader Position
 position_at = meant (numbered position_number (position.Keeper ∷ position.Defender ∷ position.Midfielder ∷ position.Forward ∷ [])) byte_at
@@ -90,7 +97,9 @@ abbrev pub made : {A : Type 0} → (A → Command) → Reader A → Reader Comma
 made command_of r = meant (λ a. kept is_command (command_of a)) r
 
 unfoldable pub season_at : Reader Command
-season_at = made (λ x. command.Season x.0 x.1.0 x.1.1) (list_at moment_at then whole_in 0 255 then list_at club_row_at)
+season_at =
+    made (λ x. command.Season x.1.1.1 x.0 x.1.0 x.1.1.0)
+    (list_at moment_at then whole_in 0 255 then list_at club_row_at then profile_end_at)
 
 unfoldable pub deadline_at : Reader Command
 deadline_at = made (λ x. command.Deadline x.0 x.1) (gameweek_at then moment_at)

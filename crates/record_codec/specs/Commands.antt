@@ -6,7 +6,7 @@ use Rattle.rule_book.specs.declared.line.Line.{Line}
 use Rattle.rule_book.specs.declared.transfers.Swap.{Swap}
 use Rattle.season_book.specs.declared.command.Command.{Command}
 use Rattle.season_book.specs.declared.command.Command.TheVariants as command
-use Rattle.record_codec.specs.Fields.{byte, number, or_zero, long_text, listed, flag, position_number, chip_number, kind_number}
+use Rattle.record_codec.specs.Fields.{byte, number, or_zero, long_text, listed, flag, profile_end, position_number, chip_number, kind_number}
 
 -- a whole number of a command
 abbrev pub whole : ℕ → List ℕ
@@ -30,7 +30,8 @@ abbrev pub swap_bytes : Swap → List ℕ
 swap_bytes swap = whole swap.out ++ whole swap.into
 
 abbrev pub bytes_of_command : Command → List ℕ
-bytes_of_command (command.Season deadlines split clubs) = byte 1 ++ listed whole deadlines ++ whole split ++ listed club_bytes clubs
+bytes_of_command (command.Season profile deadlines split clubs) =
+    byte 1 ++ listed whole deadlines ++ whole split ++ listed club_bytes clubs ++ profile_end profile
 bytes_of_command (command.Deadline gameweek deadline) = byte 2 ++ whole gameweek ++ whole deadline
 bytes_of_command (command.Player id name position club price) =
     byte 3 ++ whole id ++ long_text name ++ byte (position_number position) ++ whole club ++ whole price
@@ -71,7 +72,7 @@ abbrev pub club_ids : List (ℕ × List ℕ) → List ℕ
 club_ids clubs = map (λ club. club.0) clubs
 
 abbrev pub is_command : Command → Bool
-is_command (command.Season deadlines split clubs) =
+is_command (command.Season profile deadlines split clubs) =
     is_between 1 38 (length deadlines) && nat_le split (length deadlines) && is_between 1 20 (length clubs) && differ (club_ids clubs)
 is_command (command.Deadline gameweek deadline) = true
 is_command (command.Player id name position club price) = true

@@ -1,6 +1,6 @@
 -- The fields of records and commands, as bytes.
-use Rattle.std.specs.Prelude.{ℕ, zero, suc, Bool, true, false, List, [], ◌∷◌, ◌++◌, length, Option, Some, None, flat_map}
-use Rattle.std.specs.Int.{Width, w16, w32, w64, to_be_bytes}
+use Rattle.std.specs.Prelude.{ℕ, Bool, true, false, List, [], ◌∷◌, ◌++◌, length, Option, Some, None, flat_map}
+use Rattle.std.specs.Int.{Width, w16, to_be_bytes}
 use Rattle.fpl_base.specs.declared.kinds.Chip.{Chip}
 use Rattle.fpl_base.specs.declared.kinds.Chip.TheVariants as chip
 use Rattle.fpl_base.specs.declared.kinds.Position.{Position}
@@ -42,6 +42,11 @@ flag true = 1
 abbrev pub profile_number : Profile → ℕ
 profile_number profile.A = 1
 profile_number profile.B = 2
+
+-- what a season command ends with: nothing under profile A, and the number of B
+abbrev pub profile_end : Profile → List ℕ
+profile_end profile.A = []
+profile_end profile.B = byte (profile_number profile.B)
 
 abbrev pub position_number : Position → ℕ
 position_number position.Keeper = 0

@@ -1,12 +1,12 @@
 -- Records of keys and bodies.
-use Rattle.std.specs.Prelude.{ℕ, ◌-◌, Bool, true, ◌&&◌, ◌==◌, nat_le, if◌then◌else◌, List, [], ◌∷◌, length, Option, Some, None}
+use Rattle.std.specs.Prelude.{ℕ, ◌-◌, Bool, ◌&&◌, if◌then◌else◌, List, [], ◌∷◌, length, Option, None}
 use Rattle.std.specs.Int.{w16, w32, w64}
 use Rattle.fpl_base.specs.Texts.{is_name, is_key, is_code}
 use Rattle.fpl_base.specs.declared.kinds.Profile.{Profile}
 use Rattle.fpl_base.specs.declared.kinds.Profile.TheVariants as profile
 use Rattle.fpl_base.specs.declared.records.RecordKey.{RecordKey}
 use Rattle.record_codec.specs.Commands.{is_between}
-use Rattle.record_codec.specs.CommandReading.{flag_at, position_at, chip_at, kind_at, moment_at, line_of, command_at}
+use Rattle.record_codec.specs.CommandReading.{flag_at, position_at, chip_at, kind_at, moment_at, command_at}
 use Rattle.record_codec.specs.Fields.{profile_number}
 use Rattle.record_codec.specs.Items.{is_item}
 use Rattle.record_codec.specs.Keys.{slot_of}

@@ -1,9 +1,8 @@
 -- The ranges of the values that have types of their own.
-use Rattle.std.specs.Prelude.{◌≡◌, ◌<◌, ◌^◌, ℕ, Bool, true, IsTrue, ◌&&◌, List, length, Option, Some, None, ⊤}
+use Rattle.std.specs.Prelude.{◌≡◌, ◌<◌, ◌^◌, ℕ, Bool, true, IsTrue, length, Option, Some, None, ⊤}
 use Rattle.std.specs.List.{AllByRecursion}
 use Rattle.fpl_base.specs.Texts.{is_name, is_key, is_code}
 use Rattle.rule_book.specs.declared.line.Line.{Line}
-use Rattle.rule_book.specs.declared.transfers.Swap.{Swap}
 use Rattle.season_book.specs.declared.command.Command.{Command}
 use Rattle.season_book.specs.declared.command.Command.TheVariants as command
 use Rattle.record_codec.specs.Commands.{is_between, is_command}
@@ -40,7 +39,7 @@ IsWide line = (length line.figures ≡ 28) × AllByRecursion IsFigure line.figur
 
 -- what the types of a command's members say of them
 abbrev pub HasRanges : Command → Type 0
-HasRanges (command.Season deadlines split clubs) =
+HasRanges (command.Season profile deadlines split clubs) =
     AllByRecursion IsMoment deadlines × IsTrue (is_between 0 255 split) × AllByRecursion (λ club. IsClub club.0 × IsTrue (is_name club.1)) clubs
 HasRanges (command.Deadline gameweek deadline) = IsGameweek gameweek × IsMoment deadline
 HasRanges (command.Player id name position club price) = IsPlayer id × IsTrue (is_name name) × IsClub club × IsFigure price

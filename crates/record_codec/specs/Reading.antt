@@ -1,6 +1,6 @@
 -- Reading from left to right: a value that the bytes begin with, and the bytes behind it.
-use Rattle.std.specs.Prelude.{ℕ, zero, suc, Bool, ◌&&◌, ◌==◌, nat_lt, nat_le, if◌then◌else◌, List, [], ◌∷◌, length, take, drop, Option, Some, None, Result, Ok, Err, ◌≡◌, find}
-use Rattle.std.specs.Int.{Width, w16, byte_len, from_be_bytes}
+use Rattle.std.specs.Prelude.{ℕ, zero, suc, Bool, ◌==◌, nat_lt, if◌then◌else◌, List, [], ◌∷◌, length, take, drop, Option, Some, None, find}
+use Rattle.std.specs.Int.{Width, byte_len, from_be_bytes}
 use Rattle.record_codec.specs.Commands.{is_between}
 
 abbrev pub Reader : Type 0 → Type 0

@@ -1,12 +1,12 @@
 // Commands, appended to bytes.
 ghost use Rattle.std.specs.Prelude.{◌≡◌, ◌≤◌, ◌++◌, ℕ, OnOk, IsTrue, length};
 ghost use Rattle.record_codec.specs.Commands.{bytes_of_command, is_command, whole};
-ghost use Rattle.record_codec.specs.Fields.{byte, listed};
+ghost use Rattle.record_codec.specs.Fields.{byte, listed, profile_end};
 ghost use Rattle.season_book.specs.declared.command.Command.TheVariants as command;
 
 use crate::fields::{
     append_long_text, append_u8, append_u16, append_u32, append_u64, chip_byte, flag_byte,
-    gameweek_byte, kind_byte, position_byte,
+    gameweek_byte, kind_byte, position_byte, profile_byte,
 };
 use crate::lists::{
     append_clubs, append_line, append_moments, append_rows, append_swaps, append_whole_coins,
@@ -14,6 +14,7 @@ use crate::lists::{
 };
 use fpl_base::{
     Bytes, Chip, ClubId, Code, FixtureId, Gw, Key, Memory, Moment, Name, PlayerId, Position,
+    Profile,
 };
 use rule_book::{Coins, LeagueKind, Line, Slots};
 use season_book::{Clubs, Command, Lines, Moments, Order, Swaps};
@@ -25,10 +26,11 @@ pub fn append_command(bytes: &mut Bytes, command: &Command) -> Result<(), Memory
 {
     match *command {
         Command::Season {
+            profile,
             ref deadlines,
             split,
             ref clubs,
-        } => append_season(bytes, deadlines, split, clubs),
+        } => append_season(bytes, profile, deadlines, split, clubs),
         Command::Deadline { gameweek, deadline } => append_two(
             bytes,
             2,
@@ -114,20 +116,33 @@ fn append_two(bytes: &mut Bytes, number: u8, first: u64, second: u64) -> Result<
 
 fn append_season(
     bytes: &mut Bytes,
+    profile: Profile,
     deadlines: &Moments,
     split: u8,
     clubs: &Clubs,
 ) -> Result<(), Memory>
     requires deadlines { length deadlines.now ≤ 38 }
     requires clubs { length clubs.now ≤ 20 }
-    ensures { OnOk result (bytes.new ≡ bytes.old ++ bytes_of_command (command.Season deadlines.now split clubs.now)) }
+    ensures { OnOk result
+        (bytes.new ≡ bytes.old ++ bytes_of_command (command.Season profile deadlines.now split clubs.now)) }
 {
     append_u8(bytes, 1)?;
     append_u16(bytes, deadlines.as_slice().len() as u16)?;
     append_moments(bytes, deadlines.as_slice())?;
     append_u64(bytes, split as u64)?;
     append_u16(bytes, clubs.as_slice().len() as u16)?;
-    append_clubs(bytes, clubs.as_slice())
+    append_clubs(bytes, clubs.as_slice())?;
+    append_profile_end(bytes, profile)
+}
+
+// What a season command ends with: nothing for profile A, and the number of B.
+fn append_profile_end(bytes: &mut Bytes, profile: Profile) -> Result<(), Memory>
+    ensures { OnOk result (bytes.new ≡ bytes.old ++ profile_end profile) }
+{
+    match profile {
+        Profile::A => Ok(()),
+        Profile::B => append_u8(bytes, profile_byte(profile)),
+    }
 }
 
 fn append_player(

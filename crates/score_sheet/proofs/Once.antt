@@ -11,6 +11,7 @@ use Rattle.rule_book.specs.declared.line.Appearance.{Appearance}
 use Rattle.rule_book.specs.declared.line.Line.{Line}
 use Rattle.fpl_base.specs.Letters.{letter_of}
 use Rattle.score_sheet.specs.Rows.{Spells, Adds, AddAll, AreRows, IsWrongAt}
+use Rattle.fpl_base.specs.declared.kinds.Profile.{Profile}
 use Rattle.score_sheet.specs.Sheets.{Scores, HasWrongRow}
 use Rattle.score_sheet.specs.Scores.{score_text}
 use Rattle.score_sheet.proofs.Fields.{same_some, same_lines, none_some}
@@ -84,13 +85,13 @@ rows_not_wrong records rows n are wrong =
     let same : cut.0 ≡ wrong.rows = same_rows [] wrong.front cut.0 wrong.rows cut.1 wrong.before in
     wrong.wrong cut.2 (rw (← same) cut.3)
 
-pub one_text : (bytes t u : List ℕ) → Scores bytes t → Scores bytes u → t ≡ u
-one_text bytes t u p q =
+pub one_text : (profile : Profile) (bytes t u : List ℕ) → Scores profile bytes t → Scores profile bytes u → t ≡ u
+one_text profile bytes t u p q =
     let read = one_reading _ _ _ p.records q.records p.read q.read in
-    p.is_text ∙ ap score_text (same_rows [] p.records p.rows q.rows p.are_rows (rw read q.are_rows)) ∙ sym q.is_text
+    p.is_text ∙ ap (score_text profile) (same_rows [] p.records p.rows q.rows p.are_rows (rw read q.are_rows)) ∙ sym q.is_text
 
-pub text_or_wrong : (bytes t : List ℕ) (n : ℕ) → Scores bytes t → HasWrongRow bytes n → ⊥
-text_or_wrong bytes t n p q =
+pub text_or_wrong : (profile : Profile) (bytes t : List ℕ) (n : ℕ) → Scores profile bytes t → HasWrongRow bytes n → ⊥
+text_or_wrong profile bytes t n p q =
     let read = one_reading _ _ _ p.records q.records p.read q.read in
     rows_not_wrong p.records p.rows n p.are_rows (rw read q.wrong_at)
 

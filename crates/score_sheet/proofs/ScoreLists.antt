@@ -8,6 +8,7 @@ use Rattle.std.proofs.Math.Seq.{drop-cons, get_or-append_seam}
 use Rattle.std.proofs.lemmas.Option.{slice_get-get_or, slice_get-map}
 use Rattle.std.specs.Option.{option_map}
 use mir.Val.{bool_byte}
+use Rattle.fpl_base.specs.declared.kinds.Profile.{Profile}
 use Rattle.rule_book.specs.declared.line.Appearance.{Appearance}
 use Rattle.rule_book.specs.Bonus.{takes_part, standing, bonus_in}
 use Rattle.rule_book.specs.BonusPoints.{bps_of}
@@ -24,13 +25,13 @@ entry_of row = (row.player, bps_of row.position row.line)
 pub take_one_more : {X : Type 0} (xs : List X) (i : ℕ) (x : X) → i < length xs → x ≡ get_or xs i x → take (i + 1) xs ≡ take i xs ++ x ∷ []
 take_one_more xs i x h e = take_more xs i x h ∙ ap (λ y. take i xs ++ y ∷ []) (sym e)
 
-pub text_more : (rows : List Appearance) (i : ℕ) (row : Appearance) (old new piece : List ℕ) (won : ℕ)
-    → i < length rows → row ≡ get_or rows i row → new ≡ old ++ piece → piece ≡ line_text row won → won ≡ bonus_in rows row
-    → old ≡ flat_map (λ r. line_text r (bonus_in rows r)) (take i rows)
-    → new ≡ flat_map (λ r. line_text r (bonus_in rows r)) (take (i + 1) rows)
-text_more rows i row old new piece won h e joined is_piece is_won is_old =
-    let line : Appearance → List ℕ = λ r. line_text r (bonus_in rows r) in
-    let last : piece ≡ line row = is_piece ∙ ap (line_text row) is_won in
+pub text_more : (profile : Profile) (rows : List Appearance) (i : ℕ) (row : Appearance) (old new piece : List ℕ) (won : ℕ)
+    → i < length rows → row ≡ get_or rows i row → new ≡ old ++ piece → piece ≡ line_text profile row won → won ≡ bonus_in rows row
+    → old ≡ flat_map (λ r. line_text profile r (bonus_in rows r)) (take i rows)
+    → new ≡ flat_map (λ r. line_text profile r (bonus_in rows r)) (take (i + 1) rows)
+text_more profile rows i row old new piece won h e joined is_piece is_won is_old =
+    let line : Appearance → List ℕ = λ r. line_text profile r (bonus_in rows r) in
+    let last : piece ≡ line row = is_piece ∙ ap (line_text profile row) is_won in
     joined
     ∙ ap (λ xs. xs ++ piece) is_old
     ∙ ap (λ xs. flat_map line (take i rows) ++ xs) last

@@ -12,16 +12,20 @@ use rule_book::Appearance;
 use std::alloc::{AllocError, Global};
 
 // The lines of text for the rows.
-pub(crate) fn text_of(alloc: Global, rows: &[Appearance]) -> Result<String, Memory>
+pub(crate) fn text_of(
+    alloc: Global,
+    profile: Profile,
+    rows: &[Appearance],
+) -> Result<String, Memory>
     requires { All (λ (row : Appearance). IsLine row.line) rows.now }
-    ensures { IfOk result (λ text. string_bytes text ≡ score_text rows.now) }
+    ensures { IfOk result (λ text. string_bytes text ≡ score_text profile rows.now) }
 {
     let table = standing_of(alloc, rows)?;
     let mut text = String::new(alloc);
     let mut place = 0usize;
     for row in rows {
         let won = bonus_at(table.as_slice(), row, place);
-        let line = line_of(alloc, row, won)?;
+        let line = line_of(alloc, profile, row, won)?;
         text.push_str(line.as_str())?;
         place += has_minutes(row) as usize;
     }
@@ -62,12 +66,12 @@ fn bonus_at(table: &[(PlayerId, i32)], row: &Appearance, place: usize) -> u8
     }
 }
 
-fn line_of(alloc: Global, row: &Appearance, won: u8) -> Result<String, Memory>
+fn line_of(alloc: Global, profile: Profile, row: &Appearance, won: u8) -> Result<String, Memory>
     requires line { IsLine row.now.line }
     requires bonus { won ≤ 3 }
-    ensures { IfOk result (λ text. string_bytes text ≡ line_text row.now won) }
+    ensures { IfOk result (λ text. string_bytes text ≡ line_text profile row.now won) }
 {
-    let points = line_points(Profile::A, row.position, &row.line);
+    let points = line_points(profile, row.position, &row.line);
     let number = bps(row.position, &row.line);
     let total = points + i32::from(won);
     Ok(numbers(alloc, row.player.get(), points, number, won, total)?)

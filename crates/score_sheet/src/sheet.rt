@@ -3,6 +3,7 @@ ghost use Rattle.score_sheet.specs.Sheets.{Scores, ExplainsScore};
 
 use crate::rows::{RowFault, records_of, rows_of};
 use crate::scores::text_of;
+use fpl_base::Profile;
 use std::alloc::Global;
 
 /// Why a match has no text of what it scores.
@@ -14,11 +15,11 @@ pub enum SheetFault {
     Memory,
 }
 
-/// The text of what the rows of a finished match score, under the profile of season 2023/24: for each row a line of
-/// player, points without bonus, number in the bonus points system, bonus and total. The bytes are comma-separated
-/// rows of player, letter of his position and 28 figures, as docs/FORMATS.md has them under `score`.
-pub fn score_sheet(alloc: Global, bytes: &[u8]) -> Result<String, SheetFault>
-    ensures text { IfOk result (λ text. Scores bytes.now (string_bytes text)) }
+/// The text of what the rows of a finished match score by the rules of a profile: for each row a line of player, points
+/// without bonus, number in the bonus points system, bonus and total. The bytes are comma-separated rows of player,
+/// letter of his position and 28 figures, as docs/FORMATS.md has them under `score`.
+pub fn score_sheet(alloc: Global, profile: Profile, bytes: &[u8]) -> Result<String, SheetFault>
+    ensures text { IfOk result (λ text. Scores profile bytes.now (string_bytes text)) }
     ensures fault { IfErr result (ExplainsScore bytes.now) }
 {
     let Ok(records) = records_of(alloc, bytes) else {
@@ -29,7 +30,7 @@ pub fn score_sheet(alloc: Global, bytes: &[u8]) -> Result<String, SheetFault>
         Err(RowFault::Wrong(place)) => return Err(SheetFault::Row(place)),
         Err(RowFault::Memory) => return Err(SheetFault::Memory),
     };
-    match text_of(alloc, rows.as_slice()) {
+    match text_of(alloc, profile, rows.as_slice()) {
         Ok(text) => Ok(text),
         Err(_) => Err(SheetFault::Memory),
     }

@@ -16,14 +16,16 @@ use Rattle.rule_book.specs.ById.{at_id, placed_at}
 use Rattle.rule_book.proofs.AtId.{placed_other, placed_same}
 use Rattle.season_book.specs.Book.{Book, EntryFacts, Facts, Last, caller_number, last_number}
 use Rattle.season_book.specs.declared.command.Command.{Command}
-use Rattle.season_book.specs.Commands.{Part, are_there, begun_by, changed_by, part_of, refusal_of}
-use Rattle.season_book.specs.Commands.Part.{OnDeeds, OnFacts, OnKeys}
+use Rattle.season_book.specs.Commands.{are_there, begun_by, changed_by, part_of, refusal_of}
+use Rattle.season_book.specs.declared.command.Command.TheVariants as command
+use Rattle.season_book.specs.declared.part.Part.{Part}
+use Rattle.season_book.specs.declared.part.Part.TheVariants as part
 use Rattle.season_book.specs.EntryCommands.{deed_refusal, history_after, names_players}
 use Rattle.season_book.specs.EntryViews.{entry_shown, me_shown}
 use Rattle.season_book.specs.Hosts.{number_in}
 use Rattle.season_book.specs.Once.{Acted, Acts, CommandsActOnce, Rests, RiseByOne, WasDone, acted_numbers, number_asked}
 use Rattle.season_book.specs.Runs.{Asked}
-use Rattle.season_book.specs.Verdict.{Failures, IsVerdictIn, MayAnswer, MayBeLeft, Outcome, Verdict, accepted, begun, in_season, judged, key_refusal, my_answer, number_refusal, pass, ruled, ruled_by, ruled_in, ruled_of, seen_in, settled, shown_or_unknown, unless_broken, unless_misnumbered, unless_refused, view_answer, with_entry, with_history}
+use Rattle.season_book.specs.Verdict.{Failures, IsVerdictIn, MayAnswer, MayBeLeft, Outcome, Verdict, accepted, begun, in_season, judged, key_refusal, keyed, my_answer, number_refusal, pass, ruled, ruled_by, ruled_in, ruled_of, seen_in, settled, shown_or_unknown, unless_broken, unless_misnumbered, unless_refused, view_answer, with_entry, with_history}
 use Rattle.season_book.specs.Views.{shown_of}
 use Rattle.season_book.specs.declared.answer.Answer.{Answer}
 use Rattle.season_book.specs.declared.answer.Answer.TheVariants as answer
@@ -100,10 +102,35 @@ undone_unbroken : (broken : Option Rule) (outcome : Outcome) → IfErr (unless_b
 undone_unbroken None outcome = tt
 undone_unbroken (Some broken) outcome = tt
 
-undone_keyed : (operator key name : List ℕ) (book : Book) (facts : Option Facts)
-    → IfErr (in_season facts (λ f. unless_broken (key_refusal operator book.entries key) (with_entry book key name))) IsUndone
-undone_keyed operator key name book None = tt
-undone_keyed operator key name book (Some facts) = undone_unbroken (key_refusal operator book.entries key) (with_entry book key name)
+is_keyed : (P : Result Outcome Answer → Type 0) (operator : List ℕ) (book : Book) (command : Command)
+    → ((key name : List ℕ) → P (unless_broken (key_refusal operator book.entries key) (with_entry book key name))) → P (Err answer.Unknown) → P (keyed operator book command)
+is_keyed P operator book (command.Key key name) made unknown = made key name
+is_keyed P operator book (command.Season a b c d) made unknown = unknown
+is_keyed P operator book (command.Deadline a b) made unknown = unknown
+is_keyed P operator book (command.Player a b c d e) made unknown = unknown
+is_keyed P operator book (command.Price a b) made unknown = unknown
+is_keyed P operator book (command.Club a b) made unknown = unknown
+is_keyed P operator book (command.Gone a b) made unknown = unknown
+is_keyed P operator book (command.Fixture a b c d e) made unknown = unknown
+is_keyed P operator book (command.Move a b c) made unknown = unknown
+is_keyed P operator book (command.Sheet a b c) made unknown = unknown
+is_keyed P operator book (command.Line a b c) made unknown = unknown
+is_keyed P operator book (command.Drop a b) made unknown = unknown
+is_keyed P operator book (command.Finished a b) made unknown = unknown
+is_keyed P operator book (command.Squad a b c) made unknown = unknown
+is_keyed P operator book (command.Transfers a) made unknown = unknown
+is_keyed P operator book (command.Lineup a b c) made unknown = unknown
+is_keyed P operator book (command.Chip a) made unknown = unknown
+is_keyed P operator book command.CancelChip made unknown = unknown
+is_keyed P operator book (command.League a b c d) made unknown = unknown
+is_keyed P operator book (command.Join a b) made unknown = unknown
+is_keyed P operator book (command.Draw a b) made unknown = unknown
+is_keyed P operator book (command.Cup a b c) made unknown = unknown
+
+undone_keyed : (operator : List ℕ) (book : Book) (command : Command) (facts : Option Facts) → IfErr (in_season facts (λ f. keyed operator book command)) IsUndone
+undone_keyed operator book command None = tt
+undone_keyed operator book command (Some facts) =
+    is_keyed (λ r. IfErr r IsUndone) operator book command (λ key name. undone_unbroken (key_refusal operator book.entries key) (with_entry book key name)) tt
 
 chosen_outcome : (b : Bool) (P : Result Outcome Answer → Type 0) (x y : Result Outcome Answer) → P x → P y → P (if b then x else y)
 chosen_outcome true P x y px py = px
@@ -126,9 +153,9 @@ undone_by book (Ok facts) un = tt
 undone_by book (Err refused) un = un
 
 undone_ruled : (part : Part) (operator : List ℕ) (book : Book) (caller : Caller) (now : ℕ) (command : Command) → IfErr (ruled_in part operator book caller now command) IsUndone
-undone_ruled OnFacts operator book caller now command = undone_by book (judged book.facts now command) (undone_judged book.facts now command)
-undone_ruled (OnKeys key name) operator book caller now command = undone_keyed operator key name book book.facts
-undone_ruled OnDeeds operator book caller now command = undone_for book caller command book.facts
+undone_ruled part.Facts operator book caller now command = undone_by book (judged book.facts now command) (undone_judged book.facts now command)
+undone_ruled part.Entries operator book caller now command = undone_keyed operator book command book.facts
+undone_ruled part.Deeds operator book caller now command = undone_for book caller command book.facts
 
 -- a number that no rule refuses is the next one
 used_or_gap : (last : ℕ) (c : Bool) → (if c then Some (rule.NumberUsed last) else Some (rule.NumberGap last)) ≡ None → ⊥
@@ -270,10 +297,10 @@ lasts_unbroken : (broken : Option Rule) (outcome : Outcome) (lasts : List (ℕ �
 lasts_unbroken None outcome lasts same = same
 lasts_unbroken (Some broken) outcome lasts same = refl
 
-lasts_keyed : (operator key name : List ℕ) (book : Book) (facts : Option Facts)
-    → lasts_in (in_season facts (λ f. unless_broken (key_refusal operator book.entries key) (with_entry book key name))) book.lasts ≡ book.lasts
-lasts_keyed operator key name book None = refl
-lasts_keyed operator key name book (Some facts) = lasts_unbroken (key_refusal operator book.entries key) (with_entry book key name) book.lasts refl
+lasts_keyed : (operator : List ℕ) (book : Book) (command : Command) (facts : Option Facts) → lasts_in (in_season facts (λ f. keyed operator book command)) book.lasts ≡ book.lasts
+lasts_keyed operator book command None = refl
+lasts_keyed operator book command (Some facts) =
+    is_keyed (λ r. lasts_in r book.lasts ≡ book.lasts) operator book command (λ key name. lasts_unbroken (key_refusal operator book.entries key) (with_entry book key name) book.lasts refl) refl
 
 lasts_of : (book : Book) (facts : Facts) (e : ℕ) (command : Command) (entry : Option EntryFacts) → lasts_in (ruled_of book facts e command entry) book.lasts ≡ book.lasts
 lasts_of book facts e command None = refl
@@ -288,9 +315,9 @@ lasts_for book caller command None = refl
 lasts_for book caller command (Some facts) = lasts_of book facts (caller_number caller) command (entry_in book.entries (caller_number caller))
 
 lasts_ruled : (part : Part) (operator : List ℕ) (book : Book) (caller : Caller) (now : ℕ) (command : Command) → lasts_in (ruled_in part operator book caller now command) book.lasts ≡ book.lasts
-lasts_ruled OnFacts operator book caller now command = lasts_by book (judged book.facts now command)
-lasts_ruled (OnKeys key name) operator book caller now command = lasts_keyed operator key name book book.facts
-lasts_ruled OnDeeds operator book caller now command = lasts_for book caller command book.facts
+lasts_ruled part.Facts operator book caller now command = lasts_by book (judged book.facts now command)
+lasts_ruled part.Entries operator book caller now command = lasts_keyed operator book command book.facts
+lasts_ruled part.Deeds operator book caller now command = lasts_for book caller command book.facts
 
 ruled_lasts : (operator : List ℕ) (book : Book) (caller : Caller) (now : ℕ) (command : Command) (outcome : Outcome) → ruled operator book caller now command ≡ Ok outcome → outcome.book.lasts ≡ book.lasts
 ruled_lasts operator book caller now command outcome is =

@@ -15,6 +15,8 @@ use Rattle.rule_book.specs.CalendarCalls.{deadline_refusal, fixture_refusal, mov
 use Rattle.season_book.specs.Book.{Facts}
 use Rattle.season_book.specs.declared.command.Command.{Command}
 use Rattle.season_book.specs.declared.command.Command.TheVariants as command
+use Rattle.season_book.specs.declared.part.Part.{Part}
+use Rattle.season_book.specs.declared.part.Part.TheVariants as part
 
 -- What can be ordered at all.
 
@@ -37,21 +39,15 @@ IsCommand command = ⊤
 
 -- What it changes.
 
--- a part of the book: the facts, the list of entries, by a new one's key and name, or what the caller's entry did
-pub data Part : Type 0 where
-  OnFacts : Part
-  OnKeys : (key name : List ℕ) → Part
-  OnDeeds : Part
-
--- the part that a command changes; what no route orders yet changes no more than the facts
+-- the part of the book that a command changes; what no route orders yet changes no more than the facts
 abbrev pub part_of : Command → Part
-part_of (command.Key key name) = OnKeys key name
-part_of (command.Squad players captain vice) = OnDeeds
-part_of (command.Transfers swaps) = OnDeeds
-part_of (command.Lineup players captain vice) = OnDeeds
-part_of (command.Chip chip) = OnDeeds
-part_of command.CancelChip = OnDeeds
-part_of command = OnFacts
+part_of (command.Key key name) = part.Entries
+part_of (command.Squad players captain vice) = part.Deeds
+part_of (command.Transfers swaps) = part.Deeds
+part_of (command.Lineup players captain vice) = part.Deeds
+part_of (command.Chip chip) = part.Deeds
+part_of command.CancelChip = part.Deeds
+part_of command = part.Facts
 
 -- What has to be there.
 

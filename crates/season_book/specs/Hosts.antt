@@ -21,7 +21,7 @@ keys_of entries = map (λ entry. entry.key) entries
 
 -- the entry with a key, by its number from 1: the first that has it
 abbrev pub entry_with : List (List ℕ) → List ℕ → Option Caller
-entry_with keys key = option_map (λ place. Entry (place + 1)) (position (λ other. bytes_eq other key) keys)
+entry_with keys key = option_map (λ place. Entry (place + 1)) (position (bytes_eq key) keys)
 
 -- whose key it is: the operator's first, else that of the entry that has it
 abbrev pub caller_with : List ℕ → List (List ℕ) → List ℕ → Option Caller

@@ -12,14 +12,16 @@ use Rattle.rule_book.specs.HistoryRules.{is_started}
 use Rattle.rule_book.specs.Refusals.{first_broken, unless}
 use Rattle.season_book.specs.Book.{Book, EntryFacts, Facts, caller_number, histories_with, last_number, last_of, with_last}
 use Rattle.season_book.specs.declared.command.Command.{Command}
+use Rattle.season_book.specs.declared.command.Command.TheVariants as command
 use Rattle.season_book.specs.declared.made.Made.{Made}
 use Rattle.season_book.specs.declared.made.Made.TheVariants as made
-use Rattle.season_book.specs.Commands.{Part, are_there, begun_by, changed_by, part_of, refusal_of}
-use Rattle.season_book.specs.Commands.Part.{OnDeeds, OnFacts, OnKeys}
+use Rattle.season_book.specs.Commands.{are_there, begun_by, changed_by, part_of, refusal_of}
 use Rattle.season_book.specs.EntryCommands.{deed_refusal, history_after, names_players}
 use Rattle.season_book.specs.EntryViews.{entry_shown, me_shown}
 use Rattle.season_book.specs.Hosts.{caller_with, keys_of}
 use Rattle.season_book.specs.Views.{shown_of}
+use Rattle.season_book.specs.declared.part.Part.{Part}
+use Rattle.season_book.specs.declared.part.Part.TheVariants as part
 use Rattle.season_book.specs.declared.answer.Answer.{Answer}
 use Rattle.season_book.specs.declared.answer.Answer.TheVariants as answer
 use Rattle.season_book.specs.declared.request.Request.{Request}
@@ -99,6 +101,11 @@ with_entry book key name = record {
   book = record book { entries = book.entries ++ record { key = key; name = name; history = [] } ∷ [] };
 }
 
+-- what the command that makes an entry leads to
+abbrev pub keyed : List ℕ → Book → Command → Result Outcome Answer
+keyed operator book (command.Key key name) = unless_broken (key_refusal operator book.entries key) (with_entry book key name)
+keyed operator book command = Err answer.Unknown
+
 -- the book where an entry's manager did this
 abbrev pub with_history : Book → ℕ → List Event → Book
 with_history book e h = record book { entries = histories_with book.entries e h }
@@ -125,10 +132,9 @@ ruled_by book (Ok facts) = Ok (record { made = made.Nothing; book = record book 
 
 -- what a caller's command leads to at a moment, by the part of the book that it changes
 abbrev pub ruled_in : Part → List ℕ → Book → Caller → ℕ → Command → Result Outcome Answer
-ruled_in OnFacts operator book caller now command = ruled_by book (judged book.facts now command)
-ruled_in (OnKeys key name) operator book caller now command =
-    in_season book.facts (λ facts. unless_broken (key_refusal operator book.entries key) (with_entry book key name))
-ruled_in OnDeeds operator book caller now command = ruled_for book caller command
+ruled_in part.Facts operator book caller now command = ruled_by book (judged book.facts now command)
+ruled_in part.Entries operator book caller now command = in_season book.facts (λ facts. keyed operator book command)
+ruled_in part.Deeds operator book caller now command = ruled_for book caller command
 
 -- the same, or the answer that refuses it, where this is the operator's key
 abbrev pub ruled : List ℕ → Book → Caller → ℕ → Command → Result Outcome Answer

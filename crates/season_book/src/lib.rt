@@ -9,6 +9,7 @@ mod copies;
 mod laws;
 mod lists;
 mod made;
+mod part;
 mod request;
 mod same;
 mod shown;
@@ -19,6 +20,7 @@ pub use command::Command;
 pub use laws::commands_act_once;
 pub use lists::{Clubs, Lines, Moments, Order, Swaps};
 pub use made::Made;
+pub use part::Part;
 pub use request::{Request, View};
 pub use rule_book::{Coins, Slots};
 pub use shown::{

@@ -85,8 +85,8 @@ stands position rows h st = record { history = st.history; held = record { told 
 pub rows_placed : (position : ℕ → Position) (rows : List Row) (h : List Event) → StandsFor position rows h → RowsPlaced position rows
 rows_placed position rows h st = record { at = λ g s e. (let t : Tells position h g (Some s) = subst (Tells position h g) e (st.told g) in subst (IsPlaced position) (sym t.1.picks) (picks_placed position (kept h g))) }
 
-pub stands_for : (position : ℕ → Position) (rows : List Row) (h : List Event) → Stands rows h → RowsPlaced position rows → StandsFor position rows h
-stands_for position rows h st p = record { history = st.history; told = λ g. one g (row_at rows g) refl (st.held.told g) }
+pub stands_for : (position : ℕ → Position) (rows : List Row) (h : List Event) → Rise rows → Stands rows h → RowsPlaced position rows → StandsFor position rows h
+stands_for position rows h rise st p = record { rise = rise; history = st.history; told = λ g. one g (row_at rows g) refl (st.held.told g) }
   where
     one : (g : ℕ) (o : Option Standing) → row_at rows g ≡ o → Holds h g o → Tells position h g o
     one g None e t = t
@@ -109,9 +109,9 @@ standing_placed position rows g s rise p e = by_row (row_at rows g) (base_at row
     by_row None None a b e = cc
     by_row None (Some r) a b e = let i = base_some rows g r rise b in let x : record { made = 0; team = record r.standing.team { chip = NoChip } } ≡ s = cc in subst (λ (v : Standing). IsPlaced position v.team.picks) x (p.at r.gw r.standing i.there)
 
-pub told_up : (position : ℕ → Position) (rows : List Row) (h : List Event) (g : ℕ) → Rise rows → StandsFor position rows h → StandingHeld h g (standing_at rows g) → TeamTold position h g (team_in (standing_at rows g))
-told_up position rows h g rise st t = one (standing_at rows g) refl t
+pub told_up : (position : ℕ → Position) (rows : List Row) (h : List Event) (g : ℕ) → StandsFor position rows h → StandingHeld h g (standing_at rows g) → TeamTold position h g (team_in (standing_at rows g))
+told_up position rows h g st t = one (standing_at rows g) refl t
   where
     one : (o : Option Standing) → standing_at rows g ≡ o → StandingHeld h g o → TeamTold position h g (team_in o)
     one None e t = t
-    one (Some s) e t = (t.0, up position h g s t.1 (standing_placed position rows g s rise (rows_placed position rows h st) e))
+    one (Some s) e t = (t.0, up position h g s t.1 (standing_placed position rows g s st.rise (rows_placed position rows h st) e))

@@ -133,9 +133,9 @@ sold_count (e ∷ h) g = by_deed e.deed (nat_eq e.gw g) (sold_count h g)
     by_deed Cancel true i = i
     by_deed Cancel false i = i
 
-pub rows_stand : (teams : List (ℕ × Team)) (sales : List (ℕ × Sale)) (position : ℕ → Position) (h : List Event) → IsHistory h → HasRecords position h teams sales → StandsFor position (rows_of_records teams sales) h
+pub rows_stand : (teams : List (ℕ × Team)) (sales : List (ℕ × Sale)) (position : ℕ → Position) (h : List Event) → Rise (rows_of_records teams sales) → IsHistory h → HasRecords position h teams sales → StandsFor position (rows_of_records teams sales) h
 unfolding standing_recorded
-rows_stand teams sales position h k r = record { history = k; told = λ g. subst (Tells position h g) (sym (row_recorded teams sales g)) (one g (team_recorded teams g) (r.teams_told g)) }
+rows_stand teams sales position h rise k r = record { rise = rise; history = k; told = λ g. subst (Tells position h g) (sym (row_recorded teams sales g)) (one g (team_recorded teams g) (r.teams_told g)) }
   where
     one : (g : ℕ) (o : Option Team) → TeamRecorded position h g o → Tells position h g (standing_recorded (length (sales_in sales g)) o)
     one g None t = t

@@ -1,5 +1,5 @@
 -- The calls on an entry's rows: they stay in order, and stand for the history that goes on.
-use Rattle.std.proofs.Common.{◌≡◌, ◌<◌, ◌≤◌, ◌+◌, ◌*◌, ◌≢◌, ◌⊎◌, ◌∷◌, [], ◌++◌, ℕ, zero, suc, Bool, true, false, cond, not, ◌&&◌, List, Option, Some, None, Result, Ok, Err, OnOk, length, map, arith, refl, sym, ap, ◌∙◌, subst, inl, inr, ⊎_elim, nat_eq, nat_lt, nat_le}
+use Rattle.std.proofs.Common.{◌≡◌, ◌<◌, ◌≤◌, ◌+◌, ◌-◌, ◌*◌, ◌≢◌, ◌⊎◌, ◌∷◌, [], ◌++◌, ℕ, zero, suc, Bool, true, false, cond, not, ◌&&◌, List, Option, Some, None, Result, Ok, Err, OnOk, length, map, arith, refl, sym, ap, ◌∙◌, subst, inl, inr, ⊎_elim, nat_eq, nat_lt, nat_le}
 use Rattle.std.specs.List.{AllByRecursion as Each}
 use Rattle.std.proofs.lemmas.Bool.Decides.{nat_tests}
 use Rattle.std.proofs.lemmas.Bool.{cases_eq, cases_lt}
@@ -10,11 +10,11 @@ use Rattle.rule_book.specs.declared.team.Team.{Team}
 use Rattle.rule_book.specs.declared.transfers.Sale.{Sale}
 use Rattle.rule_book.specs.EntryRecords.{paid_for, earned_for}
 use Rattle.rule_book.specs.HistorySquad.{sum_bought}
-use Rattle.rule_book.specs.History.{Event, is_free_hit, is_touched, in_gameweek}
+use Rattle.rule_book.specs.History.{Event, chip_at, is_free_hit, is_touched, in_gameweek}
 use Rattle.rule_book.specs.History.Deed.{First, Swap, Lineup, Play, Cancel}
 use Rattle.rule_book.specs.HistoryRules.{can_cancel, first_gw, is_started, FirstTold, IsHistory, NoneAfter}
 use Rattle.fpl_base.specs.declared.kinds.Profile.{Profile}
-use Rattle.rule_book.specs.HistoryTransfers.{is_past_first, FreeTold, cost_at, counted_through}
+use Rattle.rule_book.specs.HistoryTransfers.{is_past_first, half_of, FreeTold, cost_at, counted_through}
 use Rattle.rule_book.specs.HistoryTeam.{IsTeam, TeamTold, TeamBalances, holdings}
 use Rattle.season_ledger.specs.declared.row.Standing.{Standing}
 use Rattle.season_ledger.specs.declared.row.Row.{Row}
@@ -24,6 +24,7 @@ use Rattle.season_ledger.specs.Stands.{IsPlaced, StandsFor, RowsAlwaysTell}
 use Rattle.season_ledger.proofs.Held.{Holds, RowsHold, Stands}
 use Rattle.season_ledger.proofs.Carry.{IsLastBase, base_some, standing_told}
 use Rattle.season_ledger.proofs.Frees.{chip_is, used_is, past_told, first_is, free_in_told, cost_told, counted_told}
+use Rattle.season_ledger.proofs.Chips.{among_agree}
 use Rattle.season_ledger.proofs.Places.{place_there}
 use Rattle.season_ledger.proofs.Steps.{rise-put, transferred, lined_up, played, cancelled, registered, nothing_done, team_balances}
 use Rattle.season_ledger.proofs.Placed.{stands, stands_for, rows_placed, placed_put, standing_placed, told_up}
@@ -133,7 +134,7 @@ transferred_for rows g sales u k up some b n position h p st = by_case (standing
   where
     by_case : (o : Option Standing) → standing_at rows g ≡ o → BatchOn sales o u.team → StandsFor position (put_row rows g u) (h ++ in_gameweek g (map Swap sales))
     by_case None e b = absurd b
-    by_case (Some t) e b = stands_for position (put_row rows g u) (h ++ in_gameweek g (map Swap sales))
+    by_case (Some t) e b = stands_for position (put_row rows g u) (h ++ in_gameweek g (map Swap sales)) (rise-put rows g u k.rise up)
         (transferred rows g sales t u k.rise up some e b (n ∙ ap (λ x. x + length sales) (sym (standing_made rows g t e))) h (stands position rows h st))
         (placed_put position rows g u (rows_placed position rows h st) p)
 
@@ -143,13 +144,14 @@ lined_up_for rows g u k up b n position h p st = by_case (standing_at rows g) re
   where
     by_case : (o : Option Standing) → standing_at rows g ≡ o → LineupOn o u.team → StandsFor position (put_row rows g u) (h ++ in_gameweek g (Lineup (players_of u.team) u.team.captain u.team.vice ∷ []))
     by_case None e b = absurd b
-    by_case (Some t) e b = stands_for position (put_row rows g u) (h ++ in_gameweek g (Lineup (players_of u.team) u.team.captain u.team.vice ∷ []))
+    by_case (Some t) e b = stands_for position (put_row rows g u) (h ++ in_gameweek g (Lineup (players_of u.team) u.team.captain u.team.vice ∷ [])) (rise-put rows g u k.rise up)
         (lined_up rows g (players_of u.team) u.team.captain u.team.vice t u k.rise up e b (n ∙ sym (standing_made rows g t e)) h (stands position rows h st))
         (placed_put position rows g u (rows_placed position rows h st) p)
 
 pub registered_for : (rows : List Row) (g : ℕ) (u : Standing) → rows ≡ [] → IsFirstTeam u.team → u.made ≡ 0
     → (position : ℕ → Position) (h : List Event) → IsPlaced position u.team.picks → StandsFor position rows h → StandsFor position (put_row rows g u) (h ++ in_gameweek g (First (holdings u.team.picks) u.team.captain u.team.vice ∷ []))
 registered_for rows g u none a n position h p st = stands_for position (put_row rows g u) (h ++ in_gameweek g (First (holdings u.team.picks) u.team.captain u.team.vice ∷ []))
+    (subst (λ (r : List Row). Rise (put_row r g u)) (sym none) (tt, tt))
     (registered rows g u none a n h (stands position rows h st))
     (placed_put position rows g u (rows_placed position rows h st) p)
 
@@ -166,7 +168,7 @@ played_for rows g chip k up can early position h st = by_case (standing_at rows 
   where
     by_case : (o : Option Standing) → standing_at rows g ≡ o → CanPlay o → StandsFor position (put_chip_on rows g chip o) (h ++ in_gameweek g (Play chip ∷ []))
     by_case None e b = absurd b
-    by_case (Some t) e b = stands_for position (put_row rows g (chipped chip t)) (h ++ in_gameweek g (Play chip ∷ []))
+    by_case (Some t) e b = stands_for position (put_row rows g (chipped chip t)) (h ++ in_gameweek g (Play chip ∷ [])) (rise-put rows g (chipped chip t) k.rise up)
         (played rows g chip t (chipped chip t) k.rise up e b (λ l s x. past_means rows l g k.rise s (early x)) refl h (stands position rows h st))
         (placed_put position rows g (chipped chip t) (rows_placed position rows h st) (standing_placed position rows g t k.rise (rows_placed position rows h st) e))
 
@@ -176,7 +178,7 @@ cancelled_for rows g k up can position h st = by_case (standing_at rows g) refl 
   where
     by_case : (o : Option Standing) → standing_at rows g ≡ o → CanCancel o → StandsFor position (put_chip_on rows g NoChip o) (h ++ in_gameweek g (Cancel ∷ []))
     by_case None e b = absurd b
-    by_case (Some t) e b = stands_for position (put_row rows g (chipped NoChip t)) (h ++ in_gameweek g (Cancel ∷ []))
+    by_case (Some t) e b = stands_for position (put_row rows g (chipped NoChip t)) (h ++ in_gameweek g (Cancel ∷ [])) (rise-put rows g (chipped NoChip t) k.rise up)
         (cancelled rows g t (chipped NoChip t) k.rise up e b refl h (stands position rows h st))
         (placed_put position rows g (chipped NoChip t) (rows_placed position rows h st) (standing_placed position rows g t k.rise (rows_placed position rows h st) e))
 
@@ -217,33 +219,33 @@ used_few rows g k = by_row (row_at rows g) refl
     by_row (Some s) e = let f : IsFit g s = fit_row rows g s k.fit e in f.few
 
 -- what stands is told
-pub standing_for : (position : ℕ → Position) (rows : List Row) (h : List Event) (g : ℕ) → IsKept rows → StandsFor position rows h → TeamTold position h g (team_in (standing_at rows g))
-standing_for position rows h g k st = told_up position rows h g k.rise st (let s = stands position rows h st in standing_told rows h g k.rise s.history s.held)
+pub standing_for : (position : ℕ → Position) (rows : List Row) (h : List Event) (g : ℕ) → StandsFor position rows h → TeamTold position h g (team_in (standing_at rows g))
+standing_for position rows h g st = told_up position rows h g st (let s = stands position rows h st in standing_told rows h g st.rise s.history s.held)
 
-pub balances_for : (position : ℕ → Position) (rows : List Row) (h : List Event) (g : ℕ) → IsKept rows → StandsFor position rows h → TeamBalances h g (team_in (standing_at rows g))
-balances_for position rows h g k st = team_balances rows h g k.rise (stands position rows h st)
+pub balances_for : (position : ℕ → Position) (rows : List Row) (h : List Event) (g : ℕ) → StandsFor position rows h → TeamBalances h g (team_in (standing_at rows g))
+balances_for position rows h g st = team_balances rows h g st.rise (stands position rows h st)
 
-pub first_for : (position : ℕ → Position) (rows : List Row) (h : List Event) → IsKept rows → StandsFor position rows h → FirstTold h (first_in rows)
-first_for position [] h k st = ap is_started (nothing_done h (stands position [] h st).held)
-first_for position (r ∷ rows) [] k st =
+pub first_for : (position : ℕ → Position) (rows : List Row) (h : List Event) → StandsFor position rows h → FirstTold h (first_in rows)
+first_for position [] h st = ap is_started (nothing_done h (stands position [] h st).held)
+first_for position (r ∷ rows) [] st =
     let u : nat_eq r.gw r.gw ≡ true = grind (arith, nat_tests) in
     let p : Holds [] r.gw (cond (nat_eq r.gw r.gw) (Some r.standing) (row_at rows r.gw)) = (stands position (r ∷ rows) [] st).held.told r.gw in
     let q : Holds [] r.gw (Some r.standing) = rw u at p in let bad : false ≡ true = q.0 in cc
-first_for position (r ∷ rows) (e ∷ h) k st = let s = stands position (r ∷ rows) (e ∷ h) st in (refl, first_is (r ∷ rows) (e ∷ h) k.rise s.history s.held)
+first_for position (r ∷ rows) (e ∷ h) st = let s = stands position (r ∷ rows) (e ∷ h) st in (refl, first_is (r ∷ rows) (e ∷ h) st.rise s.history s.held)
 
 -- what a call that writes promises of histories
 pub on_ok_to : {A E : Type 0} (r : Result A E) (P Q : Type 0) → (P → Q) → OnOk r P → OnOk r Q
 on_ok_to (Ok a) P Q f p = f p
 on_ok_to (Err e) P Q f p = p
 
-pub free_for : (p : Profile) (position : ℕ → Position) (rows : List Row) (h : List Event) (g : ℕ) → IsKept rows → StandsFor position rows h → FreeTold p h g (free_in p rows g)
-free_for p position rows h g k st = free_in_told p rows h g k.rise (stands position rows h st)
+pub free_for : (p : Profile) (position : ℕ → Position) (rows : List Row) (h : List Event) (g : ℕ) → StandsFor position rows h → FreeTold p h g (free_in p rows g)
+free_for p position rows h g st = free_in_told p rows h g st.rise (stands position rows h st)
 
-pub cost_for : (p : Profile) (position : ℕ → Position) (rows : List Row) (h : List Event) (g : ℕ) → IsKept rows → StandsFor position rows h → cost_by p rows g ≡ cost_at p h g
-cost_for p position rows h g k st = cost_told p rows h g k.rise (stands position rows h st)
+pub cost_for : (p : Profile) (position : ℕ → Position) (rows : List Row) (h : List Event) (g : ℕ) → StandsFor position rows h → cost_by p rows g ≡ cost_at p h g
+cost_for p position rows h g st = cost_told p rows h g st.rise (stands position rows h st)
 
-pub counted_for : (position : ℕ → Position) (rows : List Row) (h : List Event) (g : ℕ) → IsKept rows → StandsFor position rows h → counted_by rows g ≡ counted_through h g
-counted_for position rows h g k st = counted_told rows h g k.rise (stands position rows h st)
+pub counted_for : (position : ℕ → Position) (rows : List Row) (h : List Event) (g : ℕ) → StandsFor position rows h → counted_by rows g ≡ counted_through h g
+counted_for position rows h g st = counted_told rows h g st.rise (stands position rows h st)
 
 -- a chip that can be cancelled stands in a row of its own
 pub cancel_there : (rows : List Row) (g : ℕ) → CanCancel (standing_at rows g) → place_at rows g < length rows
@@ -352,4 +354,14 @@ rows_before g rows h n s = walk rows (λ w. s.told w) (λ w o. o)
     walk (r ∷ rs) told up = (touched_before g r.gw h n (touched r.gw (row_at rows r.gw) (told r.gw) (up r.gw (here r rs))), walk rs told (λ w b. up w (more r rs w b)))
 
 pub rows_tell : RowsAlwaysTell
-rows_tell position rows h st = let s = stands position rows h st in record { chips = λ g. chip_is rows h g s.held; used = λ g. used_is rows h g s.held; later = λ g n. rows_before g rows h n s.held }
+rows_tell position rows h st = let s = stands position rows h st in record {
+  chips = λ g. chip_is rows h g s.held;
+  chip_used = λ split chip g. among_agree (chip_by rows) (chip_at h) chip (half_of split chip g) (g - half_of split chip g) (λ w. chip_is rows h w s.held);
+  used = λ g. used_is rows h g s.held;
+  free = λ profile g. free_for profile position rows h g st;
+  cost = λ profile g. cost_for profile position rows h g st;
+  counted = λ g. counted_for position rows h g st;
+  first = first_for position rows h st;
+  team = λ g. standing_for position rows h g st;
+  later = λ g n. rows_before g rows h n s.held;
+}

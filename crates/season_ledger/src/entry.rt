@@ -121,9 +121,11 @@ impl Entry {
         Some(free_of(profile, self.rows.as_slice(), first, g.get()))
     }
 
-    /// The points that the transfers of a gameweek cost.
+    /// The points that the transfers of a gameweek cost, of which there are at most 1,000.
+    #[tactic(auto, using(crate::proofs::Season::used_few))]
     pub fn cost(&self, profile: Profile, g: Gw) -> u32
         ensures rows { result ≡ cost_by profile self.now g }
+        ensures most { result ≤ 4000 }
         ensures history { (position : ℕ → Position) (h : List Event) → StandsFor position self.now h → result ≡ cost_at profile h g }
     {
         match first_of(self.rows.as_slice()) {

@@ -1,5 +1,5 @@
 // Free transfers, what the others cost, and the transfers that a table counts.
-ghost use Rattle.std.specs.Prelude.{◌≡◌, ◌<◌, ◌≤◌, ◌+◌, ◌-◌, ◌==◌, ◌||◌, if◌then◌else◌};
+ghost use Rattle.std.specs.Prelude.{◌≡◌, ◌<◌, ◌≤◌, ◌+◌, ◌-◌, ◌*◌, ◌==◌, ◌||◌, if◌then◌else◌};
 ghost use Rattle.rule_book.specs.FreeTransfers.{free_next, transfer_cost};
 ghost use Rattle.rule_book.specs.HistoryTransfers.{makes_free, free_from, counted_from, is_same_chip, half_of, used_before};
 ghost use Rattle.season_ledger.specs.Rows.{chip_by, used_by};
@@ -73,7 +73,8 @@ pub fn free_of(profile: Profile, rows: &[Row], first: u8, g: u8) -> u8
 // The points that the transfers of a gameweek after the first cost.
 pub fn cost_of(profile: Profile, rows: &[Row], first: u8, g: u8) -> u32
     requires { first < g }
-    ensures { result ≡ transfer_cost (free_from profile (used_by rows.now) (chip_by rows.now) first (g - (first + 1))) (used_by rows.now g) (chip_by rows.now g) }
+    ensures value { result ≡ transfer_cost (free_from profile (used_by rows.now) (chip_by rows.now) first (g - (first + 1))) (used_by rows.now g) (chip_by rows.now g) }
+    ensures most { result ≤ 4 * used_by rows.now g }
 {
     let (chip, used) = doings(rows, g);
     let paid = 4 * u32::from(used.saturating_sub(u16::from(free_of(profile, rows, first, g))));

@@ -1,9 +1,8 @@
 // What a team scores in a gameweek.
 ghost use Rattle.std.specs.Prelude.{◌≡◌, ◌≤◌, ◌≤ℤ◌, ◌*ℤ◌, pos, negsuc, length, All, IfSome, sum_by};
-ghost use Rattle.rule_book.specs.Teams.{InTeam};
 ghost use Rattle.rule_book.specs.TeamScores.{IsModest, IsScore, goals_at, conceded_at, points_of_slots, counting, extra_points};
 
-use crate::bands::armband;
+use crate::bands::wearer;
 use crate::eleven::final_eleven;
 use crate::slots::{conceded, goals, points};
 use fpl_base::Chip;
@@ -11,7 +10,6 @@ use rule_book::{Armband, Eleven, Figures, Team, TeamScore};
 
 fn sum_of_points(figures: &[Figures; 15], slots: &[u8]) -> i32
     requires few { length slots.now ≤ 15 }
-    requires known { All InTeam slots.now }
     requires modest { All IsModest figures.now }
     ensures value { result ≡ points_of_slots figures.now slots.now }
     ensures low { negsuc 14999999 ≤ℤ result }
@@ -26,7 +24,6 @@ fn sum_of_points(figures: &[Figures; 15], slots: &[u8]) -> i32
 
 fn sum_of_goals(figures: &[Figures; 15], slots: &[u8]) -> u32
     requires few { length slots.now ≤ 15 }
-    requires known { All InTeam slots.now }
     requires modest { All IsModest figures.now }
     ensures { result ≡ sum_by (goals_at figures.now) slots.now }
 {
@@ -39,7 +36,6 @@ fn sum_of_goals(figures: &[Figures; 15], slots: &[u8]) -> u32
 
 fn sum_of_conceded(figures: &[Figures; 15], slots: &[u8]) -> u32
     requires few { length slots.now ≤ 15 }
-    requires known { All InTeam slots.now }
     requires modest { All IsModest figures.now }
     ensures { result ≡ sum_by (conceded_at figures.now) slots.now }
 {
@@ -52,7 +48,6 @@ fn sum_of_conceded(figures: &[Figures; 15], slots: &[u8]) -> u32
 
 // The points of the slots that count.
 fn counted_points(team: &Team, figures: &[Figures; 15], eleven: &Eleven) -> i32
-    requires known { All InTeam eleven.now.slots }
     requires modest { All IsModest figures.now }
     ensures value { result ≡ points_of_slots figures.now (counting team.now eleven.now.slots) }
     ensures low { negsuc 14999999 ≤ℤ result }
@@ -82,7 +77,7 @@ fn times(count: u8, points: i32) -> i32
 
 // What the armband adds.
 fn extra_points(figures: &[Figures; 15], armband: Option<Armband>) -> i32
-    requires range { IfSome armband (λ a. InTeam a.slot × (2 ≤ a.factor) × (a.factor ≤ 3)) }
+    requires factor { IfSome armband (λ a. (2 ≤ a.factor) × (a.factor ≤ 3)) }
     requires modest { All IsModest figures.now }
     ensures value { result ≡ extra_points figures.now armband }
     ensures low { negsuc 1999999 ≤ℤ result }
@@ -95,16 +90,14 @@ fn extra_points(figures: &[Figures; 15], armband: Option<Armband>) -> i32
 }
 
 /// The score of a team in a gameweek in which its transfers cost `cost` points. Goals and conceded goals are those of
-/// the final eleven, each counted once.
+/// the final eleven, each counted once. It is asked of any team, whatever its captain and its vice-captain are.
 pub fn team_score(team: &Team, figures: &[Figures; 15], ended: bool, cost: u32) -> TeamScore
-    requires captain { InTeam team.now.captain }
-    requires vice { InTeam team.now.vice }
     requires modest { All IsModest figures.now }
     requires cost { cost ≤ 1000000 }
     ensures { IsScore team.now figures.now ended cost result }
 {
     let eleven = final_eleven(team, figures, ended);
-    let armband = armband(team, figures, ended);
+    let armband = wearer(team, figures, ended);
     let gross = counted_points(team, figures, &eleven) + extra_points(figures, armband);
     TeamScore {
         gross,

@@ -21,7 +21,7 @@ overflow_add-place c = omega (arith, c.loop-row.invariant.2, bool_byte-le c.has_
 pub loop-row-preserved : goal.loop-row-preserved
 loop-row-preserved c =
     let won = c.bonus_at-won.ensures.value c.args.rows.now (c.as_slice.ensures.value ∙ c.in_ok-table.ensures) in (
-      text_more c.args.rows.now c.loop-row.row-index c.row-item.result _ _ _ c.bonus_at-won.result c.loop-row-test.true c.row-item.is
+      text_more c.args.profile c.args.rows.now c.loop-row.row-index c.row-item.result _ _ _ c.bonus_at-won.result c.loop-row-test.true c.row-item.is
           c.in_ok-push_str.ensures.bytes (c.as_str.ensures.value ∙ c.in_ok-line.ensures) won c.loop-row.invariant.0,
       place_more c.args.rows.now c.loop-row.row-index c.loop-row.place c.row-item.result c.has_minutes.result c.loop-row-test.true c.row-item.is c.has_minutes.ensures c.loop-row.invariant.1,
       omega (arith, c.loop-row.invariant.2, bool_byte-le c.has_minutes.result),

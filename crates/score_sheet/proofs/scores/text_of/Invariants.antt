@@ -7,6 +7,6 @@ use Rattle.score_sheet.proofs.scores.text_of.Given as goal
 
 abbrev pub invariant-loop-row : goal.invariant-loop-row
 invariant-loop-row l =
-    (string_bytes l.text ≡ flat_map (λ row. line_text row (bonus_in l.rows row)) (take l.row-index l.rows))
+    (string_bytes l.text ≡ flat_map (λ row. line_text l.profile row (bonus_in l.rows row)) (take l.row-index l.rows))
     × (l.place ≡ length (filter took_part (take l.row-index l.rows)))
     × (l.place ≤ l.row-index)

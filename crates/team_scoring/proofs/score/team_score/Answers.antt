@@ -5,7 +5,7 @@ use Rattle.team_scoring.proofs.score.team_score.Goals as goal
 pub returns : goal.returns
 returns c = record {
   eleven = c.final_eleven-eleven.ensures.assigned;
-  armband = c.armband-armband.ensures.value;
+  armband = c.wearer-armband.ensures.value;
   gross = omega (arith, ints, c.counted_points.ensures.value, c.extra_points.ensures.value);
   cost_kept = search rules;
   net = omega (arith, ints);

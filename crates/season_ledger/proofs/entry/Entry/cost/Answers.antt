@@ -1,16 +1,16 @@
 use Rattle.std.proofs.Common.{◌≡◌, ◌<◌, ◌≤◌, ◌+◌, ◌-◌, ◌++◌, ◌∷◌, ℕ, List, [], Option, Some, None, true, length, map, arith, rules, sym, subst, ap, ◌∙◌, refl}
-use Rattle.season_ledger.specs.Rows.{IsKept, cost_by}
+use Rattle.season_ledger.specs.Rows.{cost_by}
 use Rattle.season_ledger.proofs.Season.{cost_for}
 use Rattle.season_ledger.proofs.entry.Entry.cost.Goals as goal
 
 pub returns-then-get-clause-history : goal.returns-then-get-clause-history
-returns-then-get-clause-history c position h st = let k : IsKept c.args.self.now = search rules in let e : 0 ≡ cost_by c.args.profile c.args.self.now c.args.g = search rules in
-    e ∙ cost_for c.args.profile position c.args.self.now h c.args.g k st
+returns-then-get-clause-history c position h st = let e : 0 ≡ cost_by c.args.profile c.args.self.now c.args.g = search rules in
+    e ∙ cost_for c.args.profile position c.args.self.now h c.args.g st
 
 pub returns-else-get-clause-history : goal.returns-else-get-clause-history
-returns-else-get-clause-history c position h st = let k : IsKept c.args.self.now = search rules in let e : c.cost_of.result ≡ cost_by c.args.profile c.args.self.now c.args.g = search rules in
-    e ∙ cost_for c.args.profile position c.args.self.now h c.args.g k st
+returns-else-get-clause-history c position h st = let e : c.cost_of.result ≡ cost_by c.args.profile c.args.self.now c.args.g = search rules in
+    e ∙ cost_for c.args.profile position c.args.self.now h c.args.g st
 
 pub returns-in-None-clause-history : goal.returns-in-None-clause-history
-returns-in-None-clause-history c position h st = let k : IsKept c.args.self.now = search rules in let e : 0 ≡ cost_by c.args.profile c.args.self.now c.args.g = search rules in
-    e ∙ cost_for c.args.profile position c.args.self.now h c.args.g k st
+returns-in-None-clause-history c position h st = let e : 0 ≡ cost_by c.args.profile c.args.self.now c.args.g = search rules in
+    e ∙ cost_for c.args.profile position c.args.self.now h c.args.g st

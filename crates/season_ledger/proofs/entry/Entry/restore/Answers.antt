@@ -11,4 +11,5 @@ invariant_of-result c = let e : c.in_ok-rows.rows.items ≡ rows_of_records c.ar
 
 pub returns-clause-history : goal.returns-clause-history
 returns-clause-history c position h k r = let e : c.in_ok-rows.rows.items ≡ rows_of_records c.args.teams.now c.args.sales.now = search rules in
-    subst (λ (rows : List Row). StandsFor position rows h) (sym e) (rows_stand c.args.teams.now c.args.sales.now position h k r)
+    let kept : IsKept (rows_of_records c.args.teams.now c.args.sales.now) = kept_rows c.args.teams.now c.args.sales.now c.requires in
+    subst (λ (rows : List Row). StandsFor position rows h) (sym e) (rows_stand c.args.teams.now c.args.sales.now position h kept.rise k r)

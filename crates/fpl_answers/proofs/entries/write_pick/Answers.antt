@@ -1,0 +1,8 @@
+use Rattle.fpl_answers.proofs.AppendLemmas.{one, then}
+use Rattle.fpl_answers.proofs.entries.write_pick.Goals as goal
+
+pub returns : goal.returns
+returns c =
+    rw (c.from.ensures, c.get.ensures.value, c.from-2.ensures, c.get-2.ensures.value, c.from-3.ensures, c.get-3.ensures.value, c.from-4.ensures, c.get-4.ensures.value) at
+    (then (one c.in_ok-begin_object.ensures) (then c.in_ok-write_count.ensures (then c.in_ok-write_count-2.ensures (then c.in_ok-write_count-3.ensures
+    (then c.in_ok-write_count-4.ensures (one c.end_object.ensures))))))

@@ -1,0 +1,12 @@
+use Rattle.std.proofs.Common.{◌≡◌, drop}
+use Rattle.fpl_bodies.specs.Members.{each}
+use Rattle.fpl_bodies.specs.Requests.{swap}
+use Rattle.json_tree.specs.Trees.{items_view}
+use Rattle.fpl_bodies.proofs.ListLemmas.{with_front}
+use Rattle.fpl_bodies.proofs.lists.each_swap.Given as goal
+
+-- the transfers so far and those of what is left are those of all
+abbrev pub invariant-loop-value : goal.invariant-loop-value
+invariant-loop-value l =
+    with_front l.list (each swap (items_view (drop l.value-index l.values)))
+    ≡ each swap (items_view l.values)

@@ -1,0 +1,86 @@
+-- What is left by a call that judges a command, does it and keeps it.
+use Rattle.std.specs.Prelude.{◌≡◌, ◌+◌, ℕ, List, [], ◌∷◌, Option, Some, None, IsOk, IsSome, Result, Ok, Err, length}
+use Rattle.fpl_base.specs.declared.kinds.Caller.{Caller}
+use Rattle.rule_book.specs.ById.{at_id, placed_at}
+use Rattle.manager_book.specs.declared.manager.Manager.{Manager}
+use Rattle.season_book.specs.Book.{Book, Last, caller_number}
+use Rattle.season_book.specs.Commands.{part_of}
+use Rattle.season_book.specs.Doing.{IsRefused}
+use Rattle.season_book.specs.Hosts.{row_at}
+use Rattle.season_book.specs.Verdict.{Outcome, accepted, judged, ruled}
+use Rattle.season_book.specs.declared.answer.Answer.{Answer}
+use Rattle.season_book.specs.declared.answer.Answer.TheVariants as answer
+use Rattle.season_book.specs.declared.command.Command.{Command}
+use Rattle.season_book.specs.declared.made.Made.{Made}
+use Rattle.season_book.specs.declared.made.Made.TheVariants as made
+use Rattle.season_book.specs.declared.part.Part.{Part}
+use Rattle.season_book.specs.declared.part.Part.TheVariants as part
+use Rattle.season_host.specs.Standing.{HostRows, Plays, Running, StandsIn}
+
+-- what a command makes, where nothing refuses it: a new entry is the next one
+abbrev pub made_in : Part → List Manager → Made
+made_in part.Facts managers = made.Nothing
+made_in part.Entries managers = made.Entry (length managers + 1)
+made_in part.Deeds managers = made.Nothing
+
+abbrev pub made_by : List Manager → Command → Made
+made_by managers command = made_in (part_of command) managers
+
+-- a command was judged as it is ruled in a book
+abbrev pub IsRuled : {T : Type 0} → Result Outcome Answer → Result T Answer → Type 0
+IsRuled ruled (Ok value) = IsOk ruled
+IsRuled ruled (Err reply) = ruled ≡ Err reply
+
+-- from a book a command leads to this, and the running season stands for the book behind it
+pub record Leads (ruled : Result Outcome Answer) (book : Book) (made : Made) (after : Running) : Type 0 where
+  pub outcome : Outcome
+  pub is_ruled : ruled ≡ Ok outcome
+  pub makes : outcome.made ≡ made
+  pub plays : Plays after outcome.book
+  pub lasts : outcome.book.lasts ≡ book.lasts
+
+-- a command was done: from each book in which it is ruled well it leads to one that the running season stands for
+abbrev pub IsDone : Caller → ℕ → Command → Running → Running → Type 0
+IsDone caller now command before after =
+    (operator : List ℕ) (book : Book) → Plays before book → IsOk (ruled operator book caller now command)
+    → Leads (ruled operator book caller now command) book (made_by before.managers command) after
+
+-- the last commands with this one in its caller's place
+abbrev pub kept_last : List (ℕ × Last) → Caller → ℕ → Command → Made → List (ℕ × Last)
+kept_last lasts caller number command made =
+    placed_at lasts (caller_number caller) ((caller_number caller, record { number = number; command = command; made = made }) ∷ [])
+
+-- a command was kept as its caller's last one, and what stood there brings back the old ones; or memory ran out
+abbrev pub IsKept : Caller → ℕ → Command → Made → List (ℕ × Last) → List (ℕ × Last) → Result (Option Last) Answer → Type 0
+IsKept caller number command made old new (Ok before) =
+    (new ≡ kept_last old caller number command made)
+    × (old ≡ placed_at new (caller_number caller) (row_at (caller_number caller) before))
+    × IsSome (at_id new (caller_number caller))
+IsKept caller number command made old new (Err reply) = (new ≡ old) × (reply ≡ answer.Memory)
+
+-- a command was done on a running season and kept, or it was refused, or memory ran out, and all is as before
+abbrev pub IsTaken : List ℕ → Caller → ℕ → ℕ → Command → Running → Running → List (ℕ × Last) → List (ℕ × Last) → Result Made Answer → Type 0
+IsTaken operator caller now number command before after old new (Ok made) =
+    ((book : Book) → Plays before book → Leads (ruled operator book caller now command) book made after)
+    × (new ≡ kept_last old caller number command made)
+IsTaken operator caller now number command before after old new (Err reply) =
+    (after ≡ before) × (new ≡ old)
+    × ((book : Book) → Plays before book → IsRefused (ruled operator book caller now command) reply)
+
+-- a command began a season without entries and was kept, or it was refused, or memory ran out
+abbrev pub IsBegunAndKept : Caller → ℕ → ℕ → Command → List (ℕ × Last) → List (ℕ × Last) → Result Running Answer → Type 0
+IsBegunAndKept caller now number command old new (Ok running) =
+    (judged None now command ≡ Ok running.facts) × (running.managers ≡ [])
+    × (new ≡ kept_last old caller number command made.Nothing)
+IsBegunAndKept caller now number command old new (Err reply) =
+    (new ≡ old) × IsRefused (judged None now command) reply
+
+-- the host accepted a caller's command, and stands for the book behind it; or it refused it, or memory ran out, and all is
+-- as before
+abbrev pub IsAccepted : HostRows → HostRows → Caller → ℕ → ℕ → Command → Result Made Answer → Type 0
+IsAccepted old new caller now number command (Ok made) =
+    (book : Book) → StandsIn old book
+    → (outcome : Outcome) × (ruled old.operator book caller now command ≡ Ok outcome) × (outcome.made ≡ made)
+    × StandsIn new (accepted caller number command outcome)
+IsAccepted old new caller now number command (Err reply) =
+    (new ≡ old) × ((book : Book) → StandsIn old book → IsRefused (ruled old.operator book caller now command) reply)
