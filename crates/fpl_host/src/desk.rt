@@ -8,7 +8,7 @@ ghost use Rattle.fpl_session.specs.Replies.{answer_in};
 ghost use Rattle.fpl_bodies.specs.Requests.{request_of};
 ghost use Rattle.season_book.specs.Hosts.{IsRequest};
 ghost use Rattle.fpl_host.specs.Desks.{Asks};
-ghost use Rattle.fpl_host.specs.Kept.{Kept, Leads, StandsAs, caller_in};
+ghost use Rattle.fpl_host.specs.Kept.{Kept, Leads, StandsAs, asked_in, caller_in};
 ghost use Rattle.fpl_host.specs.Replying.{IsReply, Judges, RepliesTo, Served, asked_by, reply_of, unless_malformed};
 
 use fpl_base::{Caller, Clock, Keeper, Memory, Steps};
@@ -61,8 +61,7 @@ fn asked_by(
     route: Route,
     ids: &[u32; 2],
 ) -> Result<Asked, Memory>
-    ensures { IfOk result (Asks (asked_by (caller_in host.now (request_seen message.now).key) route ids.now
-        (request_seen message.now).body)) }
+    ensures { IfOk result (Asks (asked_in host.now (request_seen message.now) route ids.now)) }
 {
     match caller_of(host, message) {
         None => refused(alloc, 401, key_text()),
@@ -110,8 +109,8 @@ fn answered<K: Keeper, C: Clock, L: Ledger>(
     ids: &[u32; 2],
 ) -> Result<Reply, Memory>
     ensures status { IfOk result (λ reply. IsTrue (is_answer_status reply.status)) }
-    ensures answered { Leads (λ served behind. RepliesTo (asked_by (caller_in host.old.host (request_seen message.now).key)
-        route ids.now (request_seen message.now).body) served (answer_in result) behind)
+    ensures answered { Leads (λ served behind.
+        RepliesTo (asked_in host.old.host (request_seen message.now) route ids.now) served (answer_in result) behind)
         (record { host = host.old.host; moments = C.left clock.old; failed = K.faults keeper.old })
         (record { host = host.new.host; moments = C.left clock.new; failed = K.faults keeper.new }) }
 {

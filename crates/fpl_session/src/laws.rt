@@ -3,7 +3,7 @@ ghost use Rattle.std.specs.Prelude.{ℕ, List};
 ghost use Rattle.fpl_http.specs.Stream.{Request};
 ghost use Rattle.fpl_session.specs.Lifts.{RunsLift, SessionsLift};
 
-/// What is kept, and what it stands for: what the promises of a session speak of may be other than what a service keeps.
+/// What is kept, and what it stands for: a service may keep something else than what the promises of a session speak of.
 pub trait Standing {
     /// What is kept.
     ghost Kept: { Type 0 };
