@@ -13,7 +13,7 @@ use Rattle.fpl_routes.specs.Targets.{OneFound}
 use Rattle.fpl_session.specs.Replies.{Speaks}
 use Rattle.fpl_session.specs.Runs.{Run}
 use Rattle.fpl_host.specs.Once.{AreJudged, IsJudgedAs, MessagesActOnce, OneAsked}
-use Rattle.fpl_host.specs.Replying.{Asking, IsAsked, IsJudged, IsReply, Judges, Reply, Served, asked_along, failures_in, way_of}
+use Rattle.fpl_host.specs.Replying.{IsAsked, IsJudged, IsReply, Judges, Reply, Served, asked_along, failures_in, way_of}
 
 pub one_asked : OneFound → OneAsked
 one_asked one host message a b (way, (at, found, goes), is) (way', (at', found', goes'), is') =

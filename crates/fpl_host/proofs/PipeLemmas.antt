@@ -3,13 +3,16 @@ use Rattle.std.proofs.Common.{◌≡◌, ℕ, List, [], Option, Some, None, IfSo
 use Rattle.std.specs.Io.KnownBytes.{Appends, Consumes}
 use Rattle.std.proofs.lemmas.List.{append-nil}
 use Rattle.fpl_base.specs.Moments.{Moments}
+use Rattle.fpl_session.specs.Lifts.{Lifts, SessionsLift}
 use Rattle.fpl_session.specs.Replies.{Speaks}
 use Rattle.fpl_session.specs.Sessions.{EndsAs, SessionOf, SessionOver}
 use Rattle.fpl_session.specs.declared.ending.Ending.{Ending}
 use Rattle.fpl_session.specs.declared.ending.Ending.TheVariants as ends
-use Rattle.season_book.specs.Hosts.{HostState}
+use Rattle.season_host.specs.Standing.{empty_rows}
+use Rattle.fpl_host.specs.Kept.{Kept, StandsAs}
 use Rattle.fpl_host.specs.Pipe.{Pipes, opened, status_of}
 use Rattle.fpl_host.specs.Replying.{IsReply, Served}
+use Rattle.fpl_host.proofs.KeptLemmas.{left_is, opened_stands}
 
 -- nothing was taken and nothing was sent
 Appends-nil : (a : Option (List ℕ)) → Appends a a []
@@ -21,20 +24,22 @@ Consumes-nil None = tt
 Consumes-nil (Some x) = refl
 
 -- a host that was opened, and a session of it
-pub one_session : (key : List ℕ) (left now : Option (List ℕ)) (moments later : Option Moments) (failed fails : ℕ) (before after : Option (List ℕ)) (status : ℕ) (ending : Ending) (first last : HostState)
-    → first ≡ (opened key moments failed).host → status ≡ status_of ending
-    → SessionOf (Speaks IsReply) left now (record { host = first; moments = moments; failed = failed }) (record { host = last; moments = later; failed = fails }) before after ending
-    → IfSome left (λ all. SessionOver (Speaks IsReply) all (record { host = first; moments = moments; failed = failed }) (record { host = last; moments = later; failed = fails }) before after ending)
+pub one_session : (key : List ℕ) (left now : Option (List ℕ)) (first last : Kept) (before after : Option (List ℕ)) (status : ℕ) (ending : Ending)
+    → SessionsLift StandsAs IsReply → first.host ≡ empty_rows key → status ≡ status_of ending
+    → SessionOf (Speaks (Lifts StandsAs IsReply)) left now first last before after ending
     → IfSome left (λ all. EndsAs all ending)
-    → Pipes key left now moments later failed fails before after status
-one_session key left now moments later failed fails before after status ending first last is_opened is_status taken over exact = record {
-  ending = ending;
-  host = last;
-  is_status = is_status;
-  taken = subst (λ (h : HostState). SessionOf (Speaks IsReply) left now (record { host = h; moments = moments; failed = failed }) (record { host = last; moments = later; failed = fails }) before after ending) is_opened taken;
-  over = subst (λ (h : HostState). IfSome left (λ all. SessionOver (Speaks IsReply) all (record { host = h; moments = moments; failed = failed }) (record { host = last; moments = later; failed = fails }) before after ending)) is_opened over;
-  exact = exact;
-}
+    → Pipes key left now first.moments last.moments first.failed last.failed before after status
+one_session key left now first last before after status ending lift is_opened is_status session exact =
+    let start : Served = opened key first.moments first.failed in
+    let (behind, stood, taken, over) = lift left now first last before after ending start session (opened_stands key first is_opened) in
+    record {
+      ending = ending;
+      host = behind.host;
+      is_status = is_status;
+      taken = subst (λ (s : Served). SessionOf (Speaks IsReply) left now start s before after ending) (left_is last behind stood) taken;
+      over = subst (λ (s : Served). IfSome left (λ all. SessionOver (Speaks IsReply) all start s before after ending)) (left_is last behind stood) over;
+      exact = exact;
+    }
 
 heard_none : (left : Option (List ℕ)) (state : Served) (before : Option (List ℕ)) → IfSome left (λ all. SessionOver (Speaks IsReply) all state state before before ends.Memory)
 heard_none None state before = tt

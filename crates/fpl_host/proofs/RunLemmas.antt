@@ -1,9 +1,9 @@
 -- How a run ends, from how its one write ended; and that what is due is one thing.
-use Rattle.std.proofs.Common.{◌≡◌, ◌∙◌, ◌≤◌, ◌<◌, ℕ, List, Option, ap, sym, arith, inl, inr, ◌⊎◌, refl, length}
+use Rattle.std.proofs.Common.{◌≡◌, ◌∙◌, ℕ, List, Option, ap, sym, arith, inl, inr, ◌⊎◌, refl}
 use Rattle.std.specs.Io.KnownBytes.{Appends}
 use Rattle.fpl_base.specs.Causes.{AppendsFront}
+use Rattle.fpl_base.specs.declared.kinds.Profile.TheVariants as profile
 use Rattle.score_sheet.specs.Laws.{OneText, TextOrWrongRow, OneWrongRow}
-use Rattle.score_sheet.specs.Sheets.{Scores, HasWrongRow}
 use Rattle.fpl_host.specs.Run.{Ends, IsNotReadDue, IsScoreDue, not_read_text, row_text}
 
 -- one write of the text for words that are no command
@@ -15,10 +15,10 @@ not_read_ends status before after text is (inr front) = inr (inl (front.0, (2, t
 -- two things are due at most once
 pub one_due : (texts : OneText) (apart : TextOrWrongRow) (rows : OneWrongRow) (bytes : List ℕ) (s t : ℕ) (x y : List ℕ)
     → IsScoreDue bytes s x → IsScoreDue bytes t y → (s ≡ t) × (x ≡ y)
-one_due texts apart rows bytes s t x y (inl p) (inl q) = (p.0 ∙ sym q.0, texts bytes x y p.2 q.2)
-one_due texts apart rows bytes s t x y (inl p) (inr (inl q)) = absurd (apart bytes x q.2.0 p.2 q.2.1)
+one_due texts apart rows bytes s t x y (inl p) (inl q) = (p.0 ∙ sym q.0, texts profile.A bytes x y p.2 q.2)
+one_due texts apart rows bytes s t x y (inl p) (inr (inl q)) = absurd (apart profile.A bytes x q.2.0 p.2 q.2.1)
 one_due texts apart rows bytes s t x y (inl p) (inr (inr q)) = absurd (omega (arith, p.1, q.1))
-one_due texts apart rows bytes s t x y (inr (inl p)) (inl q) = absurd (apart bytes y p.2.0 q.2 p.2.1)
+one_due texts apart rows bytes s t x y (inr (inl p)) (inl q) = absurd (apart profile.A bytes y p.2.0 q.2 p.2.1)
 one_due texts apart rows bytes s t x y (inr (inl p)) (inr (inl q)) = (p.0 ∙ sym q.0, p.2.2 ∙ ap row_text (rows bytes p.2.0 q.2.0 p.2.1 q.2.1) ∙ sym q.2.2)
 one_due texts apart rows bytes s t x y (inr (inl p)) (inr (inr q)) = absurd (omega (arith, p.1, q.1))
 one_due texts apart rows bytes s t x y (inr (inr p)) (inl q) = absurd (omega (arith, p.1, q.1))

@@ -1,5 +1,5 @@
 -- What a message was found to ask.
-use Rattle.std.specs.Prelude.{◌≡◌, ℕ, List, Result, Ok, Err, IsTrue, ⊤}
+use Rattle.std.specs.Prelude.{◌≡◌, Ok, Err, IsTrue}
 use Rattle.fpl_http.specs.Responses.{is_answer_status}
 use Rattle.fpl_http.specs.Seen.{reply_seen}
 use Rattle.season_book.specs.Hosts.{IsRequest}

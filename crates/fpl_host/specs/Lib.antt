@@ -1,5 +1,6 @@
 pub mod Desks
 pub mod Input
+pub mod Kept
 pub mod Laws
 pub mod Once
 pub mod Pipe

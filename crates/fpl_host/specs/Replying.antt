@@ -4,7 +4,7 @@ use Rattle.serde_json.specs.Written.{compact_text}
 use Rattle.fpl_base.specs.declared.kinds.Caller.{Caller}
 use Rattle.fpl_base.specs.Moments.{Moments, Tells}
 use Rattle.season_book.specs.Book.{Book}
-use Rattle.season_book.specs.Hosts.{HostState, owner_of}
+use Rattle.season_book.specs.Hosts.{HostState, keys_of, owner_of}
 use Rattle.season_book.specs.Verdict.{Failures, MayAnswer, MayBeLeft}
 use Rattle.season_book.specs.declared.answer.Answer.{Answer}
 use Rattle.season_book.specs.declared.request.Request.{Request as Asked}
@@ -56,10 +56,14 @@ asked_by None route ids body = Err (error_reply 401 (codes "key"))
 asked_by (Some caller) route ids body =
     if is_for route caller then unless_malformed caller (request_of route ids body) else Err (error_reply 403 (codes "caller"))
 
--- whose key a message shows
+-- whose key a message shows, by the operator's key and those of the entries
+abbrev pub shown_by : List ℕ → List (List ℕ) → Option (List ℕ) → Option Caller
+shown_by operator keys None = None
+shown_by operator keys (Some bytes) = owner_of operator keys bytes
+
+-- the same by the book
 abbrev pub caller_of : HostState → Option (List ℕ) → Option Caller
-caller_of host None = None
-caller_of host (Some bytes) = owner_of host bytes
+caller_of host key = shown_by host.operator (keys_of host.book.entries) key
 
 -- where a message goes: by a route with its ids, or to the reply that refuses it before the host is looked at
 abbrev pub Way : Type 0

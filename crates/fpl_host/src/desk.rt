@@ -3,11 +3,13 @@ ghost use Rattle.std.specs.Prelude.{◌≡◌, ℕ, List, Err, IfOk, IsTrue, Ok,
 ghost use Rattle.fpl_base.specs.declared.kinds.Caller.{Caller};
 ghost use Rattle.fpl_http.specs.Responses.{is_answer_status};
 ghost use Rattle.fpl_http.specs.Seen.{reply_seen, request_seen};
+ghost use Rattle.fpl_session.specs.Lifts.{Lifts};
 ghost use Rattle.fpl_session.specs.Replies.{answer_in};
 ghost use Rattle.fpl_bodies.specs.Requests.{request_of};
 ghost use Rattle.season_book.specs.Hosts.{IsRequest};
 ghost use Rattle.fpl_host.specs.Desks.{Asks};
-ghost use Rattle.fpl_host.specs.Replying.{IsReply, Judges, RepliesTo, Served, asked_along, asked_by, caller_of, reply_of, unless_malformed};
+ghost use Rattle.fpl_host.specs.Kept.{Kept, Leads, StandsAs, asked_in, caller_in};
+ghost use Rattle.fpl_host.specs.Replying.{IsReply, Judges, RepliesTo, Served, asked_by, reply_of, unless_malformed};
 
 use fpl_base::{Caller, Clock, Keeper, Memory, Steps};
 use fpl_http::{Message, Reply};
@@ -15,7 +17,7 @@ use fpl_json::{
     Found, ReadFault, Route, Routes, Scratch, answer_text, caller_text, key_text, malformed_text,
     method_text, read_request, unknown_text,
 };
-use fpl_session::Service;
+use fpl_session::{Service, Standing};
 use season_book::{Answer, Request};
 use season_host::Host;
 use std::alloc::Global;
@@ -59,7 +61,7 @@ fn asked_by(
     route: Route,
     ids: &[u32; 2],
 ) -> Result<Asked, Memory>
-    ensures { IfOk result (Asks (asked_along host.now (request_seen message.now) (Ok (route, ids.now)))) }
+    ensures { IfOk result (Asks (asked_in host.now (request_seen message.now) route ids.now)) }
 {
     match caller_of(host, message) {
         None => refused(alloc, 401, key_text()),
@@ -69,7 +71,7 @@ fn asked_by(
 
 // Whose key a message shows.
 fn caller_of(host: &Host, message: &Message<'_>) -> Option<Caller>
-    ensures { result ≡ caller_of host.now (request_seen message.now).key }
+    ensures { result ≡ caller_in host.now (request_seen message.now).key }
 {
     match message.key {
         Some(bytes) => host.owner_of(bytes),
@@ -107,9 +109,10 @@ fn answered<K: Keeper, C: Clock, L: Ledger>(
     ids: &[u32; 2],
 ) -> Result<Reply, Memory>
     ensures status { IfOk result (λ reply. IsTrue (is_answer_status reply.status)) }
-    ensures answered { RepliesTo (asked_along host.old.host (request_seen message.now) (Ok (route, ids.now)))
+    ensures answered { Leads (λ served behind.
+        RepliesTo (asked_in host.old.host (request_seen message.now) route ids.now) served (answer_in result) behind)
         (record { host = host.old.host; moments = C.left clock.old; failed = K.faults keeper.old })
-        (answer_in result) (record { host = host.new.host; moments = C.left clock.new; failed = K.faults keeper.new }) }
+        (record { host = host.new.host; moments = C.left clock.new; failed = K.faults keeper.new }) }
 {
     match asked_by(alloc, &host.host, &mut host.scratch, message, route, ids)? {
         Asked::Refused(reply) => Ok(reply),
@@ -139,8 +142,9 @@ fn judged<K: Keeper, C: Clock, L: Ledger>(
 ) -> Result<Reply, Memory>
     requires { IsRequest request.now }
     ensures status { IfOk result (λ reply. IsTrue (is_answer_status reply.status)) }
-    ensures judged { Judges (record { host = host.old; moments = C.left clock.old; failed = K.faults keeper.old }) caller request.now
-        (answer_in result) (record { host = host.new; moments = C.left clock.new; failed = K.faults keeper.new }) }
+    ensures judged { Leads (λ served behind. Judges served caller request.now (answer_in result) behind)
+        (record { host = host.old; moments = C.left clock.old; failed = K.faults keeper.old })
+        (record { host = host.new; moments = C.left clock.new; failed = K.faults keeper.new }) }
 {
     let now = clock.now();
     let answer = host.answer(keeper, caller, now, request, steps);
@@ -196,12 +200,23 @@ fn read(
     }
 }
 
-impl<K: Keeper, C: Clock, L: Ledger> Service<HostWithScratch, K, C, L> for Desk {
+// What the host keeps stands for books, of which the promises of a session speak.
+impl Standing for Desk {
+    ghost Kept = { Kept };
+
     ghost State = { Served };
+
+    ghost stands = { StandsAs };
+
+    ghost answers = { IsReply };
+}
+
+impl<K: Keeper, C: Clock, L: Ledger> Service<HostWithScratch, K, C, L> for Desk {
+    ghost State = { Kept };
 
     ghost see = { λ now. record { host = now.0.host; moments = C.left now.2; failed = K.faults now.1 } };
 
-    ghost answers = { λ _ old message reply new. IsReply old message reply new };
+    ghost answers = { λ _ old message reply new. Lifts StandsAs IsReply old message reply new };
 
     ghost ready = { λ _ _. ⊤ };
 

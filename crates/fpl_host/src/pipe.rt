@@ -1,14 +1,14 @@
 // The command that runs one session over the input and the output.
 ghost use Rattle.std.specs.Prelude.{◌≡◌, ◌≤◌, IfOk};
 ghost use Rattle.fpl_base.specs.Causes.{Rose};
-ghost use Rattle.season_book.specs.Book.{empty_book};
+ghost use Rattle.season_host.specs.Standing.{empty_rows};
 ghost use Rattle.fpl_host.specs.Pipe.{Pipes, status_of};
 
 use crate::desk::{Desk, HostWithScratch};
 use crate::status::{CUT, DONE, MEMORY, READ_FAULT, REFUSED, TOO_LONG, WRITE_FAULT};
 use fpl_base::{Clock, Keeper, Key, Memory, Sink, Source, Steps};
 use fpl_json::Scratch;
-use fpl_session::{Ending, session};
+use fpl_session::{Ending, session, sessions_lift};
 use season_host::Host;
 use std::alloc::Global;
 use std::sync::ledger::Ledger;
@@ -27,6 +27,7 @@ pub fn pipe<S: Source, W: Sink, C: Clock, K: Keeper, L: Ledger>(
     ensures read { result ≡ 1 → Rose (S.faults input.old) (S.faults input.new) }
     ensures write { result ≡ 3 → Rose (W.faults output.old) (W.faults output.new) }
 {
+    sessions_lift::<Desk>();
     match opened(alloc, key, keeper, steps) {
         Ok((desk, mut host)) => ended(session(
             alloc, &desk, &mut host, keeper, input, output, clock, steps,
@@ -42,7 +43,7 @@ fn opened<K: Keeper, L: Ledger>(
     keeper: &mut K,
     steps: &mut Steps<L>,
 ) -> Result<(Desk, HostWithScratch), Memory>
-    ensures opened { IfOk result (λ opened. opened.1.host ≡ record { operator = key.now; book = empty_book }) }
+    ensures opened { IfOk result (λ opened. opened.1.host ≡ empty_rows key.now) }
     ensures keeper { keeper.new ≡ keeper.old }
 {
     let desk = Desk::new(alloc)?;

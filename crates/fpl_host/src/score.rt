@@ -7,7 +7,7 @@ ghost use Rattle.score_sheet.specs.Sheets.{HasWrongRow};
 
 use crate::input::{InputFault, read_all};
 use crate::status::{DONE, TOO_LONG, WRONG_ROW};
-use fpl_base::{Memory, Source};
+use fpl_base::{Memory, Profile, Source};
 use score_sheet::{SheetFault, score_sheet};
 use std::alloc::{AllocError, Global};
 
@@ -61,7 +61,7 @@ fn sheet_due(alloc: Global, bytes: &[u8]) -> Result<Due, Memory>
     ensures due { IfOk result (λ due. IsScoreDue bytes.now due.status (string_bytes due.text)) }
     ensures statuses { IfOk result (λ due. (due.status ≡ 0) ⊎ (due.status ≡ 11)) }
 {
-    match score_sheet(alloc, bytes) {
+    match score_sheet(alloc, Profile::A, bytes) {
         Ok(text) => Ok(Due { status: DONE, text }),
         Err(SheetFault::Row(place)) => Ok(Due {
             status: WRONG_ROW,

@@ -1,3 +1,4 @@
+mod LiftLemmas
 pub mod RunLemmas
 mod ServedLemmas
 mod SessionLemmas

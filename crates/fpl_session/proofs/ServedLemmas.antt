@@ -1,6 +1,5 @@
 -- messages that were answered, one part after another
-use Rattle.std.proofs.Common.{◌≡◌, ◌∙◌, ap, sym, subst, refl, ℕ, List, [], ◌∷◌, ◌++◌, ◌+◌, ◌<◌, ◌≤◌, length, take, true, false, inl, inr, arith, append_assoc, append-nil}
-use Rattle.std.proofs.lemmas.List.{length-append, take_all}
+use Rattle.std.proofs.Common.{◌≡◌, ◌∙◌, ap, sym, subst, refl, ℕ, List, [], ◌∷◌, ◌++◌, ◌<◌, ◌≤◌, length, true, false, inl, inr, arith, append_assoc, append-nil}
 use Rattle.std.specs.Prelude.{Option, Some, None}
 use Rattle.std.specs.Io.KnownBytes.{Appends}
 use Rattle.fpl_base.specs.Causes.{AppendsFront}
@@ -8,7 +7,7 @@ use Rattle.fpl_http.specs.declared.decoder.Next.TheVariants as Next
 use Rattle.fpl_http.specs.declared.decoder.Next.TheVariants.{NeedMore}
 use Rattle.fpl_http.specs.Held.{Held, Gives, IsWaiting}
 use Rattle.fpl_http.specs.Lines.{strip}
-use Rattle.fpl_http.specs.Stream.{Request, Wanting, Whole, IsFront, End, Closed, Refused, Begins}
+use Rattle.fpl_http.specs.Stream.{Request, Wanting, Whole, IsFront, End, Closed, Refused}
 use Rattle.fpl_http.proofs.LinesLemmas.{strip_idem}
 use Rattle.fpl_http.proofs.StreamLemmas.{front_same, begins_more, begins_reads, begins_then, reads_more, reads_refused}
 use Rattle.fpl_session.specs.declared.ending.Ending.{Ending}

@@ -1,3 +1,4 @@
+pub mod Lifts
 pub mod Replies
 pub mod Runs
 pub mod Stops

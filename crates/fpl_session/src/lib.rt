@@ -5,6 +5,7 @@ mod batch;
 mod converse;
 mod ending;
 mod exchange;
+mod laws;
 mod opening;
 mod outbox;
 mod piece;
@@ -13,6 +14,7 @@ mod service;
 mod turn;
 
 pub use ending::Ending;
+pub use laws::{Standing, sessions_lift};
 pub use opening::session;
 pub use service::Service;
 

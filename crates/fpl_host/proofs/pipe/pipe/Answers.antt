@@ -1,4 +1,5 @@
 use Rattle.std.proofs.Common.{ap, subst, sym}
+use Rattle.fpl_host.specs.Kept.{Kept}
 use Rattle.fpl_host.specs.Pipe.{Pipes}
 use Rattle.fpl_host.proofs.PipeLemmas.{no_session, one_session}
 use Rattle.fpl_host.proofs.pipe.pipe.Goals as goal
@@ -12,9 +13,11 @@ returns-in-Ok-clause-session g c =
     let before = g.W.Sink.taken c.args.output.now in
     let after = g.W.Sink.taken c.session.new.out in
     let fails = g.K.Keeper.faults c.session.new.keeper in
+    let first : Kept = record { host = c.in-Ok.host.host; moments = moments; failed = g.K.Keeper.faults c.opened.new.keeper } in
+    let last : Kept = record { host = c.session.new.host.host; moments = told; failed = fails } in
     subst (λ failed. Pipes c.args.key.now left later moments told failed fails before after c.ended.result) (ap g.K.Keeper.faults c.opened.ensures.keeper)
-    (one_session c.args.key.now left later moments told (g.K.Keeper.faults c.opened.new.keeper) fails before after c.ended.result c.session.result c.in-Ok.host.host c.session.new.host.host
-    c.in-Ok.ensures.opened c.ended.ensures c.session.ensures.session c.session.ensures.over c.session.ensures.exact)
+    (one_session c.args.key.now left later first last before after c.ended.result c.session.result c.sessions_lift.ensures.sessions
+    c.in-Ok.ensures.opened c.ended.ensures c.session.ensures.session c.session.ensures.exact)
 
 pub returns-in-Err-clause-session : goal.returns-in-Err-clause-session
 returns-in-Err-clause-session g c =

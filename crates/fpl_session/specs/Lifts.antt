@@ -1,0 +1,29 @@
+-- Sessions of what is kept, as sessions of what it stands for.
+use Rattle.std.specs.Prelude.{ℕ, List, Option, IfSome}
+use Rattle.fpl_http.specs.Stream.{Request}
+use Rattle.fpl_session.specs.declared.ending.Ending.{Ending}
+use Rattle.fpl_session.specs.Replies.{Speaks}
+use Rattle.fpl_session.specs.Runs.{Run}
+use Rattle.fpl_session.specs.Sessions.{SessionOf, SessionOver}
+
+-- an answer as what is kept gives it: for each state that the old one stands for there is one that the new one stands
+-- for, and the answer leads from the one to the other
+abbrev pub Lifts : {S B : Type 0} → (S → B → Type 0) → (B → Request → ℕ × List ℕ → B → Type 0) → S → Request → ℕ × List ℕ → S → Type 0
+Lifts {B = B} stands answers old message answer new =
+    (state : B) → stands old state → (behind : B) × stands new behind × answers state message answer behind
+
+-- a run of such answers is a run of what is stood for, from each state that the old one stands for
+abbrev pub RunsLift : {S B : Type 0} → (S → B → Type 0) → (B → Request → ℕ × List ℕ → B → Type 0) → Type 0
+RunsLift {S = S} {B = B} stands answers =
+    (old new : S) (messages : List Request) (texts : List (List ℕ)) (state : B)
+    → Run (Speaks (Lifts stands answers)) old messages texts new → stands old state
+    → (behind : B) × stands new behind × Run (Speaks answers) state messages texts behind
+
+-- a session of such answers is one of what is stood for, from each state that the old one stands for: by the bytes that
+-- were taken from the source, and by all that it had
+abbrev pub SessionsLift : {S B : Type 0} → (S → B → Type 0) → (B → Request → ℕ × List ℕ → B → Type 0) → Type 0
+SessionsLift {S = S} {B = B} stands answers =
+    (left now : Option (List ℕ)) (old new : S) (before after : Option (List ℕ)) (ending : Ending) (state : B)
+    → SessionOf (Speaks (Lifts stands answers)) left now old new before after ending → stands old state
+    → (behind : B) × stands new behind × SessionOf (Speaks answers) left now state behind before after ending
+    × IfSome left (λ all. SessionOver (Speaks answers) all state behind before after ending)

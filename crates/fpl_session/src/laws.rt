@@ -1,0 +1,26 @@
+// Laws on the definitions.
+ghost use Rattle.std.specs.Prelude.{ℕ, List};
+ghost use Rattle.fpl_http.specs.Stream.{Request};
+ghost use Rattle.fpl_session.specs.Lifts.{RunsLift, SessionsLift};
+
+/// What is kept, and what it stands for: a service may keep something else than what the promises of a session speak of.
+pub trait Standing {
+    /// What is kept.
+    ghost Kept: { Type 0 };
+
+    /// What it stands for.
+    ghost State: { Type 0 };
+
+    /// When what is kept stands for a state. It may stand for several, and for none.
+    ghost stands: { Kept → State → Type 0 };
+
+    /// In this state a message may get that answer, a status and a body, and that state is left behind.
+    ghost answers: { State → Request → ℕ × List ℕ → State → Type 0 };
+}
+
+/// A law on the definitions: where what is kept answers each message as each state does that it stands for, runs of
+/// messages and whole sessions of it are runs and sessions of those states.
+pub fn sessions_lift<T: Standing>()
+    ensures runs { RunsLift T.stands T.answers }
+    ensures sessions { SessionsLift T.stands T.answers }
+{}
