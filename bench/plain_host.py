@@ -83,7 +83,8 @@ def read_season(body):
         rows.append((club["id"], club["name"]))
     if len({row[0] for row in rows}) != len(rows):
         raise Malformed("clubs")
-    return ("season", tuple(deadlines), split, tuple(rows))
+    profile = number(body, "profile", 1, 2) if "profile" in body else 1
+    return ("season", tuple(deadlines), split, tuple(rows), profile)
 
 
 def read_player(body):
@@ -189,12 +190,13 @@ class Host:
         self.last, self.kept = count, (command, target)
         return {"done": count}
 
-    def do_season(self, deadlines, split, clubs, now):
+    def do_season(self, deadlines, split, clubs, profile, now):
         for place in range(1, len(deadlines)):
             if deadlines[place] <= deadlines[place - 1]:
                 raise Refused(7, gameweek=place + 1)
         self.season, self.deadlines, self.split, self.clubs = True, list(deadlines), split, dict(sorted(clubs))
         self.locked = 0
+        self.profile = profile
         self.standing = {g: set() for g in range(1, len(deadlines) + 1)}
 
     def there(self, ids, id):
@@ -337,7 +339,7 @@ class Host:
 
     def view_season(self):
         clubs = [{"id": club, "name": name} for club, name in self.clubs.items()]
-        return {"clubs": clubs, "deadlines": self.deadlines, "locked": self.locked, "split": self.split}
+        return {"clubs": clubs, "deadlines": self.deadlines, "locked": self.locked, "profile": self.profile, "split": self.split}
 
     def view_player(self, player):
         self.there(self.players, player)

@@ -3,12 +3,18 @@ use Rattle.std.specs.Prelude.{◌≡◌, ◌≤◌, ◌<◌, ◌++◌, ◌⊎◌
 use Rattle.std.specs.Fmt.{decimal}
 use Rattle.std.specs.Io.KnownBytes.{Appends, Keeps}
 use Rattle.fpl_base.specs.Causes.{AppendsFront}
+use Rattle.fpl_base.specs.declared.kinds.Profile.{Profile}
 use Rattle.fpl_base.specs.declared.kinds.Profile.TheVariants as profile
 use Rattle.score_sheet.specs.Sheets.{Scores, HasWrongRow}
 
--- the words of the command that scores a match
-abbrev pub IsScore : List (List ℕ) → Type 0
-IsScore words = words ≡ codes "score" ∷ []
+-- the words of the command that scores a match by the rules of a profile: A where none is named, or by its number
+abbrev pub IsScore : List (List ℕ) → Profile → Type 0
+IsScore words profile.A = (words ≡ codes "score" ∷ []) ⊎ (words ≡ codes "score" ∷ codes "--profile" ∷ codes "1" ∷ [])
+IsScore words profile.B = words ≡ codes "score" ∷ codes "--profile" ∷ codes "2" ∷ []
+
+-- the words are those of some such command
+abbrev pub IsSomeScore : List (List ℕ) → Type 0
+IsSomeScore words = (profile : Profile) × IsScore words profile
 
 -- the text for words that are no command
 abbrev pub not_read_text : List ℕ
@@ -22,11 +28,11 @@ row_text n = codes "row " ++ (decimal n ++ 10 ∷ [])
 abbrev pub IsNotReadDue : ℕ → List ℕ → Type 0
 IsNotReadDue status text = (status ≡ 2) × (text ≡ not_read_text)
 
--- what is due for the bytes of a match: status 0 and the text of what its rows score by the rules of profile A, status
+-- what is due for the bytes of a match: status 0 and the text of what its rows score by the rules of a profile, status
 -- 11 and the number of its first wrong row, or status 10 and nothing where there are more than 65,536 bytes
-abbrev pub IsScoreDue : List ℕ → ℕ → List ℕ → Type 0
-IsScoreDue bytes status text =
-    ((status ≡ 0) × (length bytes ≤ 65536) × Scores profile.A bytes text)
+abbrev pub IsScoreDue : Profile → List ℕ → ℕ → List ℕ → Type 0
+IsScoreDue profile bytes status text =
+    ((status ≡ 0) × (length bytes ≤ 65536) × Scores profile bytes text)
     ⊎ ((status ≡ 11) × (length bytes ≤ 65536) × ((n : ℕ) × HasWrongRow bytes n × (text ≡ row_text n)))
     ⊎ ((status ≡ 10) × (65536 < length bytes) × (text ≡ []))
 

@@ -36,16 +36,16 @@ impl From<Memory> for Halt {
     }
 }
 
-/// What is due for the match whose rows are the input.
-pub fn score_due<S: Source>(alloc: Global, input: &mut S) -> Result<Due, Halt>
-    ensures due { IfOk result (λ due. IfSome (S.left input.old) (λ bytes. IsScoreDue bytes due.status (string_bytes due.text))) }
+/// What is due for the match whose rows are the input, by the rules of a profile.
+pub fn score_due<S: Source>(alloc: Global, profile: Profile, input: &mut S) -> Result<Due, Halt>
+    ensures due { IfOk result (λ due. IfSome (S.left input.old) (λ bytes. IsScoreDue profile bytes due.status (string_bytes due.text))) }
     ensures end { IfOk result (λ due. due.status ≡ 0 → IsAtEnd (S.left input.new)) }
     ensures statuses { IfOk result (λ due. (due.status ≡ 0) ⊎ (due.status ≡ 11) ⊎ (due.status ≡ 10)) }
     ensures read { result ≡ Err Halt.Read → Rose (S.faults input.old) (S.faults input.new) }
     ensures later { S.faults input.old ≤ S.faults input.new }
 {
     match read_all(alloc, input) {
-        Ok(bytes) => Ok(sheet_due(alloc, bytes.as_slice())?),
+        Ok(bytes) => Ok(sheet_due(alloc, profile, bytes.as_slice())?),
         Err(InputFault::Read) => Err(Halt::Read),
         Err(InputFault::Long) => Ok(Due {
             status: TOO_LONG,
@@ -56,12 +56,12 @@ pub fn score_due<S: Source>(alloc: Global, input: &mut S) -> Result<Due, Halt>
 }
 
 // What is due for these bytes, which are not too many.
-fn sheet_due(alloc: Global, bytes: &[u8]) -> Result<Due, Memory>
+fn sheet_due(alloc: Global, profile: Profile, bytes: &[u8]) -> Result<Due, Memory>
     requires { length bytes.now ≤ 65536 }
-    ensures due { IfOk result (λ due. IsScoreDue bytes.now due.status (string_bytes due.text)) }
+    ensures due { IfOk result (λ due. IsScoreDue profile bytes.now due.status (string_bytes due.text)) }
     ensures statuses { IfOk result (λ due. (due.status ≡ 0) ⊎ (due.status ≡ 11)) }
 {
-    match score_sheet(alloc, Profile::A, bytes) {
+    match score_sheet(alloc, profile, bytes) {
         Ok(text) => Ok(Due { status: DONE, text }),
         Err(SheetFault::Row(place)) => Ok(Due {
             status: WRONG_ROW,
