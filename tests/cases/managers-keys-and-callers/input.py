@@ -1,0 +1,25 @@
+# Keys of entries, and who may ask for what.
+from managers import FIRST, OPERATOR, SECOND, SQUAD, ask, begin, do, is_refused, last
+
+begin()
+is_refused(OPERATOR, "/keys", key=FIRST, name="Second")
+is_refused(OPERATOR, "/keys", key=OPERATOR, name="Second")
+is_refused(OPERATOR, "/keys", key="manager", name="Second")
+do(OPERATOR, "/keys", key=SECOND, name="Second")
+last[OPERATOR] -= 1
+do(OPERATOR, "/keys", key=SECOND, name="Second")
+ask("/me", SECOND)
+is_refused(SECOND, "/transfers", swaps=[{"out": 2, "in": 16}])
+is_refused(SECOND, "/lineup", players=SQUAD, captain=10, vice=5)
+is_refused(SECOND, "/chip", chip="bench_boost")
+is_refused(SECOND, "/chip/cancel")
+ask("/me", OPERATOR)
+is_refused(OPERATOR, "/squad", players=SQUAD, captain=10, vice=5)
+is_refused(SECOND, "/keys", key="manager03", name="Third")
+ask("/me", "manager03")
+do(SECOND, "/squad", players=SQUAD, captain=10, vice=5)
+is_refused(SECOND, "/squad", players=SQUAD, captain=10, vice=5)
+ask("/entries/1/gameweeks/1", SECOND)
+ask("/entries/2/gameweeks/1", FIRST)
+ask("/entries/3/gameweeks/1", FIRST)
+ask("/players/1", FIRST)

@@ -1,0 +1,23 @@
+# A squad whose faults are repaired one by one, and batches of two faults.
+from managers import FIRST, OPERATOR, begin, do, is_refused
+
+begin()
+do(OPERATOR, "/gone", player=15, gone=True)
+do(OPERATOR, "/clubs", player=4, club=1)
+do(OPERATOR, "/prices", player=10, price=200)
+do(OPERATOR, "/prices", player=11, price=200)
+is_refused(FIRST, "/squad", players=[2, 1, 6, 4, 5, 6, 7, 8, 9, 10, 11, 12, 13, 14, 15], captain=10, vice=10)
+is_refused(FIRST, "/squad", players=[2, 1, 6, 4, 5, 6, 7, 8, 9, 10, 11, 12, 13, 14, 16], captain=10, vice=10)
+is_refused(FIRST, "/squad", players=[2, 1, 17, 4, 5, 6, 7, 8, 9, 10, 11, 12, 13, 14, 3], captain=10, vice=10)
+is_refused(FIRST, "/squad", players=[2, 1, 3, 4, 5, 6, 7, 8, 9, 10, 11, 12, 13, 14, 16], captain=10, vice=10)
+do(OPERATOR, "/clubs", player=4, club=2)
+is_refused(FIRST, "/squad", players=[2, 1, 3, 4, 5, 6, 7, 8, 9, 10, 11, 12, 13, 14, 16], captain=10, vice=10)
+do(OPERATOR, "/prices", player=11, price=50)
+is_refused(FIRST, "/squad", players=[2, 13, 1, 4, 5, 6, 7, 8, 9, 10, 11, 12, 3, 14, 16], captain=10, vice=10)
+is_refused(FIRST, "/squad", players=[1, 13, 3, 4, 5, 6, 7, 8, 9, 10, 11, 12, 2, 14, 16], captain=10, vice=10)
+is_refused(FIRST, "/squad", players=[1, 2, 3, 4, 5, 6, 7, 8, 9, 10, 11, 12, 13, 14, 16], captain=10, vice=10)
+do(FIRST, "/squad", players=[1, 2, 3, 4, 5, 6, 7, 8, 9, 10, 11, 12, 13, 14, 16], captain=10, vice=5)
+is_refused(FIRST, "/transfers", swaps=[{"out": 3, "in": 4}, {"out": 18, "in": 17}])
+is_refused(FIRST, "/transfers", swaps=[{"out": 3, "in": 4}, {"out": 2, "in": 15}])
+is_refused(FIRST, "/transfers", swaps=[{"out": 16, "in": 17}, {"out": 2, "in": 15}])
+is_refused(FIRST, "/transfers", swaps=[{"out": 16, "in": 17}])

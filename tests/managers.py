@@ -1,0 +1,61 @@
+"""What the input.py of the cases of managers share: requests, and a small season with the squad of a first manager.
+
+Eighteen players cost 50 each, P1 to P18. P1 to P15 are a squad in the order of its slots, three a club, of clubs 1 to 5:
+P1 and P12 are goalkeepers, P2 to P4, P14 and P15 defenders, P5 to P9 midfielders, P10, P11 and P13 forwards. The others
+are of club 6: P16 is a defender, P17 a midfielder, P18 a forward. Deadlines are at 10000, 20000 and so on to 50000; the
+first half of the season has three gameweeks. Fixture g stands in gameweek g.
+"""
+import json
+
+OPERATOR, FIRST, SECOND = "operator1", "manager01", "manager02"
+SQUAD = list(range(1, 16))
+POSITIONS = "GDDDMMMMMFFGFDDDMF"
+TAKERS = (16, 17, 18)  # of the bonus: 99 key passes
+last = {}  # the number of each caller's last command
+
+
+def ask(target, key, body=None, method="GET"):
+    length = "" if body is None else f"Content-Length: {len(body)}\r\n"
+    print(end=f"{method} {target} HTTP/1.1\r\nFpl-Key: {key}\r\n{length}\r\n" + (f"{body}\r\n" if body else ""))
+
+
+def do(key, target, /, **members):
+    """A command, with the caller's next number."""
+    last[key] = last.get(key, 0) + 1
+    body = json.dumps({"number": last[key], **members}, separators=(",", ":"))
+    ask(target, key, body, "POST")
+
+
+def is_refused(key, target, /, **members):
+    """A command that is refused, so that its number stays free."""
+    do(key, target, **members)
+    last[key] -= 1
+
+
+
+def line(player, minutes=90, goals=0, conceded=1, yellow=0, key_passes=0):
+    figures = [minutes, goals, 0, conceded, 0, 0, 0, yellow] + 6 * [0] + [key_passes] + 13 * [0]
+    return {"player": player, "figures": figures}
+
+
+def sheet(fixture, players, finished=False):
+    """Each plays 90 minutes and concedes a goal, which gives 2 points; the bonus goes to P16, P17 and P18."""
+    lines = [line(player) for player in players] + [line(player, key_passes=99) for player in TAKERS]
+    do(OPERATOR, f"/fixtures/{fixture}/sheet", lines=lines, finished=finished)
+
+
+def begin(profile=1):
+    """The operator's first 25 commands; the next one has number 26."""
+    clubs = [{"id": club, "name": f"Club {club}"} for club in range(1, 7)]
+    do(OPERATOR, "/season", deadlines=[10000, 20000, 30000, 40000, 50000], split=3, clubs=clubs, profile=profile)
+    for player, position in enumerate(POSITIONS, 1):
+        club = (player + 2) // 3
+        do(OPERATOR, "/players", id=player, name=f"P{player}", position=position, club=club, price=50)
+    for gameweek in range(1, 6):
+        do(OPERATOR, "/fixtures", id=gameweek, home=1, away=2, gameweek=gameweek, kickoff=10000 * gameweek + 5400)
+    do(OPERATOR, "/keys", key=FIRST, name="First")
+
+
+def begin_with_squad(profile=1):
+    begin(profile)
+    do(FIRST, "/squad", players=SQUAD, captain=10, vice=5)
