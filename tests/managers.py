@@ -1,6 +1,6 @@
 """What the input.py of the cases of managers share: requests, and a small season with the squad of a first manager.
 
-Eighteen players cost 50 each, P1 to P18. P1 to P15 are a squad in the order of its slots, three a club, of clubs 1 to 5:
+Eighteen players, P1 to P18, cost 50 each. P1 to P15 are a squad by slot, three of each of clubs 1 to 5:
 P1 and P12 are goalkeepers, P2 to P4, P14 and P15 defenders, P5 to P9 midfielders, P10, P11 and P13 forwards. The others
 are of club 6: P16 is a defender, P17 a midfielder, P18 a forward. Deadlines are at 10000, 20000 and so on to 50000; the
 first half of the season has three gameweeks. Fixture g stands in gameweek g.

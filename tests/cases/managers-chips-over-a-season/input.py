@@ -1,0 +1,20 @@
+# Chips in each gameweek of a season, played, taken back and refused, until it is over.
+from managers import FIRST, SQUAD, ask, begin_with_squad, do, is_refused, sheet
+
+begin_with_squad()
+is_refused(FIRST, "/chip/cancel")
+do(FIRST, "/chip", chip="bench_boost")
+do(FIRST, "/chip/cancel")
+do(FIRST, "/chip", chip="bench_boost")
+is_refused(FIRST, "/chip", chip="triple_captain")
+sheet(1, SQUAD)
+ask("/entries/1/gameweeks/1", FIRST)
+is_refused(FIRST, "/chip", chip="bench_boost")
+do(FIRST, "/chip", chip="wildcard")
+is_refused(FIRST, "/chip/cancel")
+is_refused(FIRST, "/chip", chip="wildcard")
+do(FIRST, "/chip", chip="wildcard")
+is_refused(FIRST, "/chip", chip="wildcard")
+do(FIRST, "/chip", chip="free_hit")
+is_refused(FIRST, "/chip", chip="triple_captain")
+ask("/me", FIRST)
