@@ -9,7 +9,7 @@ use Rattle.rule_book.specs.declared.player.Player.{Player}
 use Rattle.season_book.specs.Book.{Book, EntryFacts, Facts, Last, caller_number, last_number}
 use Rattle.season_book.specs.Doing.{IsOutLate, IsRefused, IsShown, MayAnswerIn}
 use Rattle.season_book.specs.EntryViews.{entry_shown}
-use Rattle.season_book.specs.Verdict.{Failures, IsRepeat, MayAnswer, Outcome, accepted, judged, locked_at, number_refusal, pass, ruled, ruled_by, seen_in, shown_or_unknown, view_answer}
+use Rattle.season_book.specs.Verdict.{Failures, IsRepeat, MayAnswer, Outcome, judged, locked_at, number_refusal, pass, ruled, ruled_by, seen_in, shown_or_unknown, view_answer}
 use Rattle.season_book.specs.declared.answer.Answer.{Answer}
 use Rattle.season_book.specs.declared.answer.Answer.TheVariants as answer
 use Rattle.season_book.specs.declared.command.Command.{Command}

@@ -1,13 +1,12 @@
 -- How commands are ruled in the books that a running season stands for, part by part.
-use Rattle.std.proofs.Common.{◌≡◌, ◌<◌, ◌≤◌, ◌+◌, ◌-◌, ◌++◌, ◌∷◌, [], ℕ, zero, suc, slice_get, Bool, true, false, if◌then◌else◌, List, Option, Some, None, length, arith, refl, sym, ap, subst, ◌∙◌}
-use Rattle.std.specs.Prelude.{Result, Ok, Err, IsOk, OnOk, OnErr, ⊤}
+use Rattle.std.proofs.Common.{◌≡◌, ◌≤◌, ◌+◌, ◌-◌, ◌++◌, ◌∷◌, [], ℕ, suc, slice_get, Bool, true, false, if◌then◌else◌, List, Option, Some, None, length, arith, refl, sym, ap, subst, ◌∙◌}
+use Rattle.std.specs.Prelude.{Result, Ok, Err, IsOk, OnOk, OnErr}
 use Rattle.std.specs.Option.{option_map}
 use Rattle.std.specs.Str.{bytes_eq}
 use Rattle.std.proofs.lemmas.Bool.{false≢true}
 use Rattle.std.proofs.lemmas.Option.{none-some, same_Some}
 use Rattle.std.proofs.lemmas.Slice.Eq.{bytes_eq-Decides}
 use Rattle.fpl_base.specs.declared.kinds.Caller.{Caller}
-use Rattle.fpl_base.specs.declared.memory.Memory.{Memory}
 use Rattle.fpl_base.specs.declared.rule.Rule.{Rule}
 use Rattle.fpl_base.specs.declared.rule.Rule.TheVariants as rule
 use Rattle.rule_book.specs.Entries.{entry_in}
@@ -26,15 +25,13 @@ use Rattle.season_book.specs.declared.answer.Answer.TheVariants as answer
 use Rattle.season_book.specs.declared.command.Command.{Command}
 use Rattle.season_book.specs.declared.command.Command.TheVariants as commands
 use Rattle.season_book.specs.declared.made.Made.TheVariants as made
-use Rattle.season_book.specs.declared.part.Part.{Part}
 use Rattle.season_book.specs.declared.shown.Shown.TheVariants as shown_of
 use Rattle.season_book.specs.declared.shown.ShownMe.{ShownMe}
 use Rattle.season_book.specs.declared.part.Part.TheVariants as part
-use Rattle.season_entries.specs.Deeds.{IsAnswered, IsJudgedByBooks, StandForBooksAfter, deed_answer}
+use Rattle.season_entries.specs.Deeds.{IsAnswered, IsJudgedByBooks, StandForBooksAfter}
 use Rattle.season_entries.specs.Entries.{AreEntries}
-use Rattle.season_entries.specs.EntryLaws.{EntriesAreIssued, EntriesStay, FactsLeaveEntries}
-use Rattle.season_entries.specs.Keys.{StandForBooksWith}
-use Rattle.season_host.specs.Accepting.{IsDone, IsRuled, Leads, made_by, made_in}
+use Rattle.season_entries.specs.EntryLaws.{EntriesAreIssued, FactsLeaveEntries}
+use Rattle.season_host.specs.Accepting.{IsRuled, Leads, made_by, made_in}
 use Rattle.season_host.specs.Standing.{Plays, Running}
 use Rattle.season_host.proofs.AnswerFacts.{granted_is}
 

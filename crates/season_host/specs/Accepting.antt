@@ -1,5 +1,5 @@
 -- What is left by a call that judges a command, does it and keeps it.
-use Rattle.std.specs.Prelude.{◌≡◌, ◌≤◌, ◌+◌, ℕ, ⊤, List, [], ◌∷◌, Option, Some, None, IsOk, IsSome, Result, Ok, Err, length}
+use Rattle.std.specs.Prelude.{◌≡◌, ◌≤◌, ◌+◌, ℕ, ⊤, List, [], ◌∷◌, Option, None, IsOk, IsSome, Result, Ok, Err, length}
 use Rattle.fpl_base.specs.declared.kinds.Caller.{Caller}
 use Rattle.fpl_base.specs.declared.kinds.Profile.{Profile}
 use Rattle.fpl_base.specs.declared.memory.Memory.{Memory}

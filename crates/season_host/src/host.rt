@@ -8,6 +8,7 @@ ghost use Rattle.season_book.specs.Hosts.{IsRequest, caller_with, owner_of};
 ghost use Rattle.season_book.specs.Verdict.{MayAnswer, fact_shown, number_refusal, pass, view_answer};
 ghost use Rattle.season_book.specs.declared.request.Request.TheVariants as request_of;
 ghost use Rattle.season_host.specs.Accepting.{IsAccepted};
+ghost use Rattle.season_host.specs.EntryLaws.{IsOrderlyHost};
 ghost use Rattle.season_host.specs.Standing.{Follows, StandsIn, empty_rows, keys_in, number_at, passed};
 
 use crate::accept::{accept, begin};
@@ -109,6 +110,16 @@ impl Host {
         ensures { result ≡ number_at self.now.lasts caller }
     {
         self.lasts.number(&caller)
+    }
+
+    /// A law: every host is orderly, so what `rows_tell_histories`, `money_is_recorded` and `batches_move_money` say holds in
+    /// each book that it stands for.
+    pub fn keeps_order(&self)
+        ensures { IsOrderlyHost self.now }
+    {
+        if let Some(running) = &self.running {
+            running.keeps_order();
+        }
     }
 
     /// Answers a request of a caller at a moment. `Answer::Memory` comes only where nothing refuses the request; the

@@ -13,6 +13,7 @@ ghost use Rattle.season_entries.specs.Deeds.{IsDeedGranted};
 ghost use Rattle.season_entries.specs.Keys.{keys_of};
 ghost use Rattle.season_book.specs.Hosts.{entry_with};
 ghost use Rattle.season_host.specs.Accepting.{HasRoom, IsDone, IsGrantedTo, IsRefusal, IsRuled, made_by};
+ghost use Rattle.season_host.specs.EntryLaws.{IsOrderly};
 ghost use Rattle.season_host.specs.Standing.{Plays};
 
 use fpl_base::{Caller, EntryId, Key, Memory, Moment, Rule, Steps};
@@ -60,6 +61,14 @@ impl RunningSeason {
         ensures { result.now ≡ self.now.facts }
     {
         &self.season
+    }
+
+    /// A law: the players are lawful, and nothing was done in a gameweek behind the next one or the last.
+    pub fn keeps_order(&self)
+        ensures { IsOrderly self.now.facts self.now.managers }
+    {
+        // That the players are lawful, for the prover.
+        let _count = self.season.players().len();
     }
 
     /// Locks the gameweeks whose deadlines have passed.

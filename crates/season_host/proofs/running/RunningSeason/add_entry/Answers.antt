@@ -1,9 +1,8 @@
-use Rattle.std.proofs.Common.{◌≡◌, ◌∙◌, Some, ap, refl, subst, sym}
-use Rattle.season_book.specs.Book.{Book}
+use Rattle.std.proofs.Common.{◌∙◌, Some, refl, subst, sym}
 use Rattle.season_host.specs.Accepting.{HasRoom, IsDone}
 use Rattle.season_host.specs.Standing.{Running}
 use Rattle.season_book.specs.EntryViews.{gameweek_seen}
-use Rattle.season_host.proofs.RuledFacts.{key_done, on_ok, profile_stays, same_many}
+use Rattle.season_host.proofs.RuledFacts.{key_done, profile_stays, same_many}
 use Rattle.season_host.proofs.running.RunningSeason.add_entry.Goals as goal
 use Rattle.season_host.proofs.running.RunningSeason.add_entry.Goals.{in-Ok, in-Err}
 

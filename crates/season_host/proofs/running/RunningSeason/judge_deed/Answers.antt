@@ -1,6 +1,6 @@
-use Rattle.std.proofs.Common.{◌≡◌, ◌≤◌, ◌<◌, None, ap, arith, length, refl, subst, sym}
+use Rattle.std.proofs.Common.{◌≤◌, ◌<◌, ap, arith, length, subst, sym}
 use Rattle.manager_book.specs.Managers.{season_of}
-use Rattle.season_book.specs.Book.{Book, caller_number}
+use Rattle.season_book.specs.Book.{caller_number}
 use Rattle.season_entries.specs.Deeds.{rows_refusal}
 use Rattle.season_host.specs.Standing.{Plays, Running}
 use Rattle.season_host.proofs.AnswerFacts.{deed_refusal_is}

@@ -1,10 +1,10 @@
-use Rattle.std.proofs.Common.{◌≡◌, ◌≤◌, ◌<◌, ◌∙◌, Some, None, ap, arith, length, refl, subst, sym}
+use Rattle.std.proofs.Common.{◌≡◌, ◌≤◌, ◌<◌, ◌∙◌, Some, ap, arith, length, refl, subst, sym}
 use Rattle.rule_book.specs.Entries.{entry_in}
 use Rattle.rule_book.specs.PlayerFigures.{position_in}
 use Rattle.rule_book.specs.Players.{ArePlayers}
 use Rattle.season_ledger.specs.Stands.{StandsFor}
 use Rattle.manager_book.specs.Managers.{season_of}
-use Rattle.season_book.specs.Book.{Book, caller_number}
+use Rattle.season_book.specs.Book.{caller_number}
 use Rattle.season_book.specs.EntryViews.{gameweek_seen}
 use Rattle.season_book.specs.Verdict.{my_answer}
 use Rattle.fpl_base.specs.declared.rule.Rule.TheVariants as rule
