@@ -1,0 +1,41 @@
+-- No reply hangs on what another manager did in an open gameweek.
+use Rattle.std.specs.Prelude.{◌≡◌, ℕ, List, Result, Ok, Err}
+use Rattle.fpl_base.specs.declared.kinds.Caller.{Caller}
+use Rattle.season_book.specs.Book.{Book}
+use Rattle.season_book.specs.declared.command.Command.{Command}
+use Rattle.season_book.specs.Verdict.{IsVerdict, Outcome, Verdict, accepted, pass, ruled, view_answer}
+use Rattle.season_book.specs.declared.answer.Answer.{Answer}
+use Rattle.season_book.specs.declared.request.Request.{Request}
+use Rattle.season_book.specs.declared.request.View.{View}
+use Rattle.season_isolation.specs.Agree.{Agree}
+
+-- every view shows a caller the same of two books that are the same to him
+abbrev pub ViewsAreIsolated : Type 0
+ViewsAreIsolated = (caller : Caller) (now : ℕ) (book other : Book) (view : View) → Agree caller now book other
+    → view_answer (pass book now) caller view ≡ view_answer (pass other now) caller view
+
+-- a command of a caller leads two books to the same: both refuse it with the same answer, or both accept it, it makes
+-- the same, and the books behind it are the same to him again at this moment
+abbrev pub RuledAlike : Caller → ℕ → ℕ → Command → Result Outcome Answer → Result Outcome Answer → Type 0
+RuledAlike caller now number command (Err refused) (Err other) = refused ≡ other
+RuledAlike caller now number command (Ok outcome) (Ok other) =
+    (outcome.made ≡ other.made) × Agree caller now (accepted caller number command outcome) (accepted caller number command other)
+RuledAlike caller now number command (Err refused) (Ok other) = ⊥
+RuledAlike caller now number command (Ok outcome) (Err refused) = ⊥
+
+-- every command of a caller, under any number, leads two books that are the same to him to the same
+abbrev pub CommandsAreIsolated : Type 0
+CommandsAreIsolated = (operator : List ℕ) (caller : Caller) (now number : ℕ) (command : Command) (book other : Book) → Agree caller now book other
+    → RuledAlike caller now number command (ruled operator (pass book now) caller now command) (ruled operator (pass other now) caller now command)
+
+-- a verdict in another book with the same answer, behind which the books are the same to the caller
+pub record IsToldAlike (operator : List ℕ) (caller : Caller) (now : ℕ) (request : Request) (other : Book) (verdict told : Verdict) : Type 0 where
+  pub is_verdict : IsVerdict operator other caller now request told
+  pub answer : verdict.answer ≡ told.answer
+  pub agree : Agree caller now verdict.book told.book
+
+-- every verdict on a request of a caller is told alike in every other book that is the same to him
+abbrev pub RepliesAreIsolated : Type 0
+RepliesAreIsolated = (operator : List ℕ) (caller : Caller) (now : ℕ) (request : Request) (book other : Book) (verdict : Verdict)
+    → Agree caller now book other → IsVerdict operator book caller now request verdict
+    → (told : Verdict) × IsToldAlike operator caller now request other verdict told
