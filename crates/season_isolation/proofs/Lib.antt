@@ -1,1 +1,5 @@
+pub mod CommandFacts
+pub mod EntriesFacts
+pub mod LockFacts
+pub mod ReplyFacts
 pub mod ViewFacts

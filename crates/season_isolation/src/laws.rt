@@ -1,6 +1,18 @@
-ghost use Rattle.season_isolation.specs.Isolation.{ViewsAreIsolated};
+ghost use Rattle.season_isolation.specs.Isolation.{CommandsAreIsolated, RepliesAreIsolated, ViewsAreIsolated};
 
 /// A law: two books that are the same to a caller at a moment show him the same in every view.
 pub fn views_are_isolated()
     ensures { ViewsAreIsolated }
+{}
+
+/// A law: every command of a caller leads two books that are the same to him to the same: both refuse it with the same
+/// answer, or both accept it, it makes the same, and the books behind it are the same to him again.
+pub fn commands_are_isolated()
+    ensures { CommandsAreIsolated }
+{}
+
+/// A law: of two books that are the same to a caller at a moment, every verdict on a request of his in the one has the
+/// answer of a verdict in the other, and behind them the books are the same to him again.
+pub fn replies_are_isolated()
+    ensures { RepliesAreIsolated }
 {}

@@ -3,4 +3,4 @@
 
 mod laws;
 
-pub use laws::views_are_isolated;
+pub use laws::{commands_are_isolated, replies_are_isolated, views_are_isolated};

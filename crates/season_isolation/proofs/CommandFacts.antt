@@ -1,0 +1,184 @@
+-- What a caller's command leads books to that are the same to him.
+use Rattle.std.proofs.Common.{◌≡◌, ◌+◌, ℕ, Bool, true, false, not, if◌then◌else◌, nat_lt, List, [], ◌∷◌, Option, Some, None, length, arith, refl, sym, ap, ◌∙◌, subst}
+use Rattle.std.specs.Prelude.{Result, Ok, Err, is_some}
+use Rattle.std.specs.Option.{option_map}
+use Rattle.std.proofs.lemmas.Bool.Decides.{nat_tests}
+use Rattle.fpl_base.specs.declared.kinds.Caller.{Caller}
+use Rattle.fpl_base.specs.declared.rule.Rule.{Rule}
+use Rattle.fpl_base.specs.declared.rule.Rule.TheVariants as rule
+use Rattle.rule_book.specs.ById.{at_id, placed_at}
+use Rattle.rule_book.specs.Entries.{entry_in, most_entries}
+use Rattle.rule_book.specs.History.{Event}
+use Rattle.rule_book.specs.Refusals.{first_broken, unless}
+use Rattle.rule_book.proofs.AtId.{placed_same}
+use Rattle.season_book.specs.Book.{Book, EntryFacts, Facts, Last, caller_number}
+use Rattle.season_book.specs.Commands.{part_of}
+use Rattle.season_book.specs.declared.command.Command.{Command}
+use Rattle.season_book.specs.declared.command.Command.TheVariants as command
+use Rattle.season_book.specs.declared.made.Made.TheVariants as made
+use Rattle.season_book.specs.declared.part.Part.{Part}
+use Rattle.season_book.specs.declared.part.Part.TheVariants as part
+use Rattle.season_book.specs.EntryCommands.{deed_refusal, history_after, names_players}
+use Rattle.season_book.specs.Hosts.{caller_with, keys_of}
+use Rattle.season_book.specs.Verdict.{Outcome, in_season, judged, key_refusal, keyed, locked_at, pass, ruled, ruled_by, ruled_for, ruled_in, ruled_of, unless_broken, with_entry, with_history}
+use Rattle.season_book.specs.declared.answer.Answer.{Answer}
+use Rattle.season_book.specs.declared.answer.Answer.TheVariants as answer
+use Rattle.season_isolation.specs.Agree.{Agree, EntriesAlike}
+use Rattle.season_isolation.specs.Isolation.{CommandsAreIsolated, RuledAlike}
+use Rattle.season_isolation.proofs.EntriesFacts.{as_many, by_other_facts, keys_alike, one_goes_on, one_more, own_goes_on, own_of_more}
+use Rattle.season_isolation.proofs.LockFacts.{locks_again, still_locked}
+
+one_same : (k : ℕ) (x : Last) → at_id ((k, x) ∷ []) k ≡ Some x
+one_same k x = grind (arith, nat_tests)
+
+last_placed : (lasts : List (ℕ × Last)) (k : ℕ) (x : Last) → at_id (placed_at lasts k ((k, x) ∷ [])) k ≡ Some x
+last_placed lasts k x = placed_same lasts ((k, x) ∷ []) k ∙ one_same k x
+
+-- what has to be the same of two books so that they are the same to a caller behind his command
+record Behind (caller : Caller) (now : ℕ) (book other : Book) : Type 0 where
+  facts : book.facts ≡ other.facts
+  leagues : book.leagues ≡ other.leagues
+  cups : book.cups ≡ other.cups
+  entries : EntriesAlike (option_map (locked_at now) book.facts) book.entries other.entries
+  own : entry_in book.entries (caller_number caller) ≡ entry_in other.entries (caller_number caller)
+
+same_key_refusal : (operator key : List ℕ) (entries others : List EntryFacts) → length entries ≡ length others → keys_of entries ≡ keys_of others → key_refusal operator entries key ≡ key_refusal operator others key
+same_key_refusal operator key entries others many keys =
+    λ i. first_broken (unless (nat_lt (many i) most_entries) rule.EntriesFull ∷ unless (not (is_some (caller_with operator (keys i) key))) rule.KeyThere ∷ [])
+
+module _ (operator : List ℕ) (caller : Caller) (now number : ℕ) (order : Command) (book other : Book) (a : Agree caller now book other) where
+  abbrev one : Book
+  one = pass book now
+
+  abbrev two : Book
+  two = pass other now
+
+  abbrev own : ℕ
+  own = caller_number caller
+
+  abbrev Same : Result Outcome Answer → Result Outcome Answer → Type 0
+  Same = RuledAlike caller now number order
+
+  accepted_alike : (outcome another : Outcome) → outcome.made ≡ another.made → Behind caller now outcome.book another.book → Same (Ok outcome) (Ok another)
+  accepted_alike outcome another made b = (
+    made,
+    record {
+      facts = ap (option_map (locked_at now)) b.facts;
+      leagues = b.leagues;
+      cups = b.cups;
+      entries = b.entries;
+      own = b.own;
+      last =
+          last_placed outcome.book.lasts own (record { number = number; command = order; made = outcome.made })
+          ∙ ap (λ m. Some (record { number = number; command = order; made = m })) made
+          ∙ sym (last_placed another.book.lasts own (record { number = number; command = order; made = another.made }));
+    },
+  )
+
+  -- the moment told again
+  entries_again : (entries others : List EntryFacts) → EntriesAlike one.facts entries others → EntriesAlike (option_map (locked_at now) one.facts) entries others
+  entries_again entries others same = subst (λ f. EntriesAlike f entries others) (sym (locks_again now book.facts)) same
+
+  -- commands on the facts
+  judged_alike : (due : Result Facts Answer) → judged one.facts now order ≡ due → Same (ruled_by one due) (ruled_by two due)
+  judged_alike (Err refused) is = refl
+  judged_alike (Ok behind) is = accepted_alike (record { made = made.Nothing; book = record one { facts = Some behind } }) (record { made = made.Nothing; book = record two { facts = Some behind } }) refl (record {
+    facts = refl;
+    leagues = a.leagues;
+    cups = a.cups;
+    entries = by_other_facts one.facts (Some (locked_at now behind)) (still_locked book.facts now order behind is) one.entries two.entries a.entries;
+    own = a.own;
+  })
+
+  facts_alike : Same (ruled_by one (judged one.facts now order)) (ruled_by two (judged two.facts now order))
+  facts_alike = subst (λ f. Same (ruled_by one (judged one.facts now order)) (ruled_by two (judged f now order))) a.facts (judged_alike (judged one.facts now order) refl)
+
+  -- a new entry
+  entry_alike : (key name : List ℕ) (broken : Option Rule) → Same (unless_broken broken (with_entry one key name)) (unless_broken broken (with_entry two key name))
+  entry_alike key name (Some broken) = refl
+  entry_alike key name None =
+      let new : EntryFacts = record { key = key; name = name; history = [] } in
+      accepted_alike (with_entry one key name) (with_entry two key name) (ap (λ n. made.Entry (n + 1)) (as_many one.facts one.entries two.entries a.entries)) (record {
+        facts = a.facts;
+        leagues = a.leagues;
+        cups = a.cups;
+        entries = entries_again (with_entry one key name).book.entries (with_entry two key name).book.entries (one_more one.facts new one.entries two.entries a.entries);
+        own = own_of_more one.facts new one.entries two.entries a.entries own a.own;
+      })
+
+  key_alike : (key name : List ℕ) → Same (unless_broken (key_refusal operator one.entries key) (with_entry one key name)) (unless_broken (key_refusal operator two.entries key) (with_entry two key name))
+  key_alike key name =
+      subst (λ broken. Same (unless_broken (key_refusal operator one.entries key) (with_entry one key name)) (unless_broken broken (with_entry two key name)))
+      (same_key_refusal operator key one.entries two.entries (as_many one.facts one.entries two.entries a.entries) (keys_alike one.facts one.entries two.entries a.entries))
+      (entry_alike key name (key_refusal operator one.entries key))
+
+  keyed_alike : (c : Command) → Same (keyed operator one c) (keyed operator two c)
+  keyed_alike (command.Key key name) = key_alike key name
+  keyed_alike (command.Season a b c d) = refl
+  keyed_alike (command.Deadline a b) = refl
+  keyed_alike (command.Player a b c d e) = refl
+  keyed_alike (command.Price a b) = refl
+  keyed_alike (command.Club a b) = refl
+  keyed_alike (command.Gone a b) = refl
+  keyed_alike (command.Fixture a b c d e) = refl
+  keyed_alike (command.Move a b c) = refl
+  keyed_alike (command.Sheet a b c) = refl
+  keyed_alike (command.Line a b c) = refl
+  keyed_alike (command.Drop a b) = refl
+  keyed_alike (command.Finished a b) = refl
+  keyed_alike (command.Squad a b c) = refl
+  keyed_alike (command.Transfers a) = refl
+  keyed_alike (command.Lineup a b c) = refl
+  keyed_alike (command.Chip a) = refl
+  keyed_alike command.CancelChip = refl
+  keyed_alike (command.League a b c d) = refl
+  keyed_alike (command.Join a b) = refl
+  keyed_alike (command.Draw a b) = refl
+  keyed_alike (command.Cup a b c) = refl
+
+  keyed_in : (facts : Option Facts) → Same (in_season facts (λ f. keyed operator one order)) (in_season facts (λ f. keyed operator two order))
+  keyed_in None = refl
+  keyed_in (Some facts) = keyed_alike order
+
+  entries_alike : Same (in_season one.facts (λ f. keyed operator one order)) (in_season two.facts (λ f. keyed operator two order))
+  entries_alike = subst (λ facts. Same (in_season one.facts (λ f. keyed operator one order)) (in_season facts (λ f. keyed operator two order))) a.facts (keyed_in one.facts)
+
+  -- what the caller does
+  abbrev done_in : Book → List Event → Outcome
+  done_in b h = record { made = made.Nothing; book = with_history b own h }
+
+  done_alike : (h : List Event) (named : Bool) (broken : Option Rule)
+      → Same (if named then unless_broken broken (done_in one h) else Err answer.Unknown) (if named then unless_broken broken (done_in two h) else Err answer.Unknown)
+  done_alike h false broken = refl
+  done_alike h true (Some broken) = refl
+  done_alike h true None = accepted_alike (done_in one h) (done_in two h) refl (record {
+    facts = a.facts;
+    leagues = a.leagues;
+    cups = a.cups;
+    entries = entries_again (done_in one h).book.entries (done_in two h).book.entries (one_goes_on one.facts h one.entries two.entries a.entries own);
+    own = own_goes_on one.facts h one.entries two.entries own a.own;
+  })
+
+  deed_alike : (entry : Option EntryFacts) (facts : Facts) → Same (ruled_of one facts own order entry) (ruled_of two facts own order entry)
+  deed_alike None facts = refl
+  deed_alike (Some entry) facts = done_alike (history_after facts entry.history order) (names_players facts order) (deed_refusal facts entry.history order)
+
+  deed_in : (entry : Option EntryFacts) (facts : Option Facts) → Same (in_season facts (λ f. ruled_of one f own order entry)) (in_season facts (λ f. ruled_of two f own order entry))
+  deed_in entry None = refl
+  deed_in entry (Some facts) = deed_alike entry facts
+
+  deeds_alike : Same (ruled_for one caller order) (ruled_for two caller order)
+  deeds_alike =
+      subst (λ facts. Same (ruled_for one caller order) (in_season facts (λ f. ruled_of two f own order (entry_in two.entries own)))) a.facts
+      (subst (λ entry. Same (ruled_for one caller order) (in_season one.facts (λ f. ruled_of two f own order entry))) a.own (deed_in (entry_in one.entries own) one.facts))
+
+  in_part : (p : Part) → Same (ruled_in p operator one caller now order) (ruled_in p operator two caller now order)
+  in_part part.Facts = facts_alike
+  in_part part.Entries = entries_alike
+  in_part part.Deeds = deeds_alike
+
+  pub ruled_alike : Same (ruled operator one caller now order) (ruled operator two caller now order)
+  ruled_alike = in_part (part_of order)
+
+pub commands_are_isolated : CommandsAreIsolated
+commands_are_isolated operator caller now number order book other a = ruled_alike operator caller now number order book other a

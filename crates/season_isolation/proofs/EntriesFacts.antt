@@ -1,0 +1,94 @@
+-- Lists of entries that are the same to others.
+use Rattle.std.proofs.Common.{◌≡◌, ◌-◌, ℕ, zero, suc, false, nat_eq, List, [], ◌∷◌, ◌++◌, Option, Some, None, length, arith, refl, sym, ap, ◌∙◌}
+use Rattle.std.specs.Prelude.{slice_get}
+use Rattle.std.specs.Option.{option_map}
+use Rattle.std.proofs.lemmas.Bool.Decides.{nat_tests}
+use Rattle.rule_book.specs.Entries.{entry_in}
+use Rattle.rule_book.specs.History.{Event}
+use Rattle.season_book.specs.Book.{EntryFacts, Facts, histories_with}
+use Rattle.season_book.specs.Hosts.{keys_of}
+use Rattle.season_isolation.specs.Agree.{EntriesAlike, EntryAlike, SameWhereLocked}
+
+at_number : (entries : List EntryFacts) (n : ℕ) → entry_in entries (suc n) ≡ slice_get entries n
+at_number entries n = let f : nat_eq (suc n) 0 ≡ false = grind (arith, nat_tests) in let m : suc n - 1 ≡ n = omega arith in rw (f, m) refl
+
+-- what is the same is the same where gameweeks are locked
+pub where_locked : (facts : Option Facts) (h : List Event) → SameWhereLocked facts h h
+where_locked None h = refl
+where_locked (Some facts) h = refl
+
+pub itself_alike : (facts : Option Facts) (entry : EntryFacts) → EntryAlike facts entry entry
+itself_alike facts entry = record { key = refl; name = refl; start = refl; locked = where_locked facts entry.history }
+
+-- by other facts, where they lock no more
+pub by_other_facts : (facts behind : Option Facts) → ((h h2 : List Event) → SameWhereLocked facts h h2 → SameWhereLocked behind h h2)
+    → (entries others : List EntryFacts) → EntriesAlike facts entries others → EntriesAlike behind entries others
+by_other_facts facts behind still [] [] a = tt
+by_other_facts facts behind still [] (other ∷ others) a = absurd a
+by_other_facts facts behind still (entry ∷ entries) [] a = absurd a
+by_other_facts facts behind still (entry ∷ entries) (other ∷ others) (one, more) = (
+  record { key = one.key; name = one.name; start = one.start; locked = still entry.history other.history one.locked },
+  by_other_facts facts behind still entries others more,
+)
+
+pub keys_alike : (facts : Option Facts) (entries others : List EntryFacts) → EntriesAlike facts entries others → keys_of entries ≡ keys_of others
+keys_alike facts [] [] a = refl
+keys_alike facts [] (other ∷ others) a = absurd a
+keys_alike facts (entry ∷ entries) [] a = absurd a
+keys_alike facts (entry ∷ entries) (other ∷ others) (one, more) =
+    let rest : keys_of entries ≡ keys_of others = keys_alike facts entries others more in λ i. one.key i ∷ rest i
+
+pub as_many : (facts : Option Facts) (entries others : List EntryFacts) → EntriesAlike facts entries others → length entries ≡ length others
+as_many facts [] [] a = refl
+as_many facts [] (other ∷ others) a = absurd a
+as_many facts (entry ∷ entries) [] a = absurd a
+as_many facts (entry ∷ entries) (other ∷ others) (one, more) = ap suc (as_many facts entries others more)
+
+-- with one entry more
+module _ (facts : Option Facts) (new : EntryFacts) where
+  pub one_more : (entries others : List EntryFacts) → EntriesAlike facts entries others → EntriesAlike facts (entries ++ new ∷ []) (others ++ new ∷ [])
+  one_more [] [] a = (itself_alike facts new, tt)
+  one_more [] (other ∷ others) a = absurd a
+  one_more (entry ∷ entries) [] a = absurd a
+  one_more (entry ∷ entries) (other ∷ others) (one, more) = (one, one_more entries others more)
+
+  at_place : (entries others : List EntryFacts) → EntriesAlike facts entries others → (n : ℕ) → slice_get entries n ≡ slice_get others n → slice_get (entries ++ new ∷ []) n ≡ slice_get (others ++ new ∷ []) n
+  at_place [] [] a n same = refl
+  at_place [] (other ∷ others) a n same = absurd a
+  at_place (entry ∷ entries) [] a n same = absurd a
+  at_place (entry ∷ entries) (other ∷ others) a zero same = same
+  at_place (entry ∷ entries) (other ∷ others) (one, more) (suc n) same = at_place entries others more n same
+
+  pub own_of_more : (entries others : List EntryFacts) → EntriesAlike facts entries others → (n : ℕ) → entry_in entries n ≡ entry_in others n → entry_in (entries ++ new ∷ []) n ≡ entry_in (others ++ new ∷ []) n
+  own_of_more entries others a zero same = refl
+  own_of_more entries others a (suc n) same =
+      at_number (entries ++ new ∷ []) n
+      ∙ at_place entries others a n (sym (at_number entries n) ∙ same ∙ at_number others n)
+      ∙ sym (at_number (others ++ new ∷ []) n)
+
+-- with this history of one entry
+module _ (facts : Option Facts) (h : List Event) where
+  abbrev with_h : EntryFacts → EntryFacts
+  with_h entry = record entry { history = h }
+
+  pub one_goes_on : (entries others : List EntryFacts) → EntriesAlike facts entries others → (n : ℕ) → EntriesAlike facts (histories_with entries n h) (histories_with others n h)
+  one_goes_on [] [] a n = tt
+  one_goes_on [] (other ∷ others) a n = absurd a
+  one_goes_on (entry ∷ entries) [] a n = absurd a
+  one_goes_on (entry ∷ entries) (other ∷ others) a zero = a
+  one_goes_on (entry ∷ entries) (other ∷ others) (one, more) (suc zero) = (record { key = one.key; name = one.name; start = refl; locked = where_locked facts h }, more)
+  one_goes_on (entry ∷ entries) (other ∷ others) (one, more) (suc (suc n)) = (one, one_goes_on entries others more (suc n))
+
+  its_own : (entries : List EntryFacts) (n : ℕ) → slice_get (histories_with entries (suc n) h) n ≡ option_map with_h (slice_get entries n)
+  its_own [] n = refl
+  its_own (entry ∷ entries) zero = refl
+  its_own (entry ∷ entries) (suc n) = its_own entries n
+
+  pub own_goes_on : (entries others : List EntryFacts) (n : ℕ) → entry_in entries n ≡ entry_in others n → entry_in (histories_with entries n h) n ≡ entry_in (histories_with others n h) n
+  own_goes_on entries others zero same = refl
+  own_goes_on entries others (suc n) same =
+      at_number (histories_with entries (suc n) h) n
+      ∙ its_own entries n
+      ∙ ap (option_map with_h) (sym (at_number entries n) ∙ same ∙ at_number others n)
+      ∙ sym (its_own others n)
+      ∙ sym (at_number (histories_with others (suc n) h) n)
