@@ -9,7 +9,7 @@ use Rattle.season_book.specs.Book.{EntryFacts, Facts, histories_with}
 use Rattle.season_book.specs.Hosts.{keys_of}
 use Rattle.season_isolation.specs.Agree.{EntriesAlike, EntryAlike, SameWhereLocked}
 
-at_number : (entries : List EntryFacts) (n : ℕ) → entry_in entries (suc n) ≡ slice_get entries n
+pub at_number : (entries : List EntryFacts) (n : ℕ) → entry_in entries (suc n) ≡ slice_get entries n
 at_number entries n = let f : nat_eq (suc n) 0 ≡ false = grind (arith, nat_tests) in let m : suc n - 1 ≡ n = omega arith in rw (f, m) refl
 
 -- what is the same is the same where gameweeks are locked

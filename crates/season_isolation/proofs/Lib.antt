@@ -1,5 +1,6 @@
 pub mod CommandFacts
 pub mod EntriesFacts
 pub mod LockFacts
+pub mod OtherFacts
 pub mod ReplyFacts
 pub mod ViewFacts

@@ -16,7 +16,7 @@ use Rattle.season_isolation.proofs.CommandFacts.{commands_are_isolated}
 use Rattle.season_isolation.proofs.LockFacts.{locks_again}
 use Rattle.season_isolation.proofs.ViewFacts.{number_alike, views_are_isolated}
 
-passed_again : (now : ℕ) (book : Book) → pass (pass book now) now ≡ pass book now
+pub passed_again : (now : ℕ) (book : Book) → pass (pass book now) now ≡ pass book now
 passed_again now book = ap (λ f. record book { facts = f }) (locks_again now book.facts)
 
 module _ (operator : List ℕ) (caller : Caller) (now : ℕ) (book other : Book) (a : Agree caller now book other) where

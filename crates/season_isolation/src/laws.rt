@@ -1,4 +1,4 @@
-ghost use Rattle.season_isolation.specs.Isolation.{CommandsAreIsolated, RepliesAreIsolated, ViewsAreIsolated};
+ghost use Rattle.season_isolation.specs.Isolation.{CommandsAreIsolated, OthersAreUnseen, RepliesAreIsolated, ViewsAreIsolated};
 
 /// A law: two books that are the same to a caller at a moment show him the same in every view.
 pub fn views_are_isolated()
@@ -15,4 +15,10 @@ pub fn commands_are_isolated()
 /// answer of a verdict in the other, and behind them the books are the same to him again.
 pub fn replies_are_isolated()
     ensures { RepliesAreIsolated }
+{}
+
+/// A law: whatever the manager of another registered entry asks, a view or a command on his entry, the book behind it is
+/// the same to a caller as the one before, at that moment: so the caller is told the same in either.
+pub fn others_are_unseen()
+    ensures { OthersAreUnseen }
 {}

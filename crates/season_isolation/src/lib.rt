@@ -3,4 +3,6 @@
 
 mod laws;
 
-pub use laws::{commands_are_isolated, replies_are_isolated, views_are_isolated};
+pub use laws::{
+    commands_are_isolated, others_are_unseen, replies_are_isolated, views_are_isolated,
+};
