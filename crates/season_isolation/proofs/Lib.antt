@@ -1,3 +1,4 @@
+pub mod BothWays
 pub mod CommandFacts
 pub mod EntriesFacts
 pub mod LockFacts

@@ -26,16 +26,13 @@ use Rattle.season_book.specs.declared.request.Request.{Request}
 use Rattle.season_book.specs.declared.request.Request.TheVariants as request
 use Rattle.season_isolation.specs.Agree.{Agree, Alike, EntriesAlike, EntryAlike, SameWhereLocked}
 use Rattle.season_isolation.specs.Isolation.{IsManagers, OthersAreUnseen, is_registered}
+use Rattle.season_isolation.proofs.BothWays.{all_alike, itself}
 use Rattle.season_isolation.proofs.EntriesFacts.{at_number, itself_alike}
 use Rattle.season_isolation.proofs.LockFacts.{locks_again}
 use Rattle.season_isolation.proofs.ReplyFacts.{passed_again}
 
 one_other : (k q : ℕ) (x : Last) → (q ≡ k → ⊥) → at_id ((k, x) ∷ []) q ≡ None
 one_other k q x apart = grind (arith, nat_tests, apart)
-
-all_alike : (facts : Option Facts) (entries : List EntryFacts) → EntriesAlike facts entries entries
-all_alike facts [] = tt
-all_alike facts (entry ∷ entries) = (itself_alike facts entry, all_alike facts entries)
 
 -- with another history of one entry, which is the same to others
 module _ (facts : Option Facts) (h : List Event) where
@@ -83,7 +80,7 @@ module _ (operator : List ℕ) (caller another : Caller) (now : ℕ) (book : Boo
 
   -- nothing but the moment was told
   rests : Agree caller now book one
-  rests = subst (λ b. Alike caller one b) (sym (passed_again now book)) (record { facts = refl; leagues = refl; cups = refl; entries = all_alike one.facts one.entries; own = refl; last = refl })
+  rests = subst (λ b. Alike caller one b) (sym (passed_again now book)) (itself caller one)
 
   module _ (number : ℕ) (order : Command) where
     -- the caller is shown the same behind what the other was ruled

@@ -41,3 +41,9 @@ pub record Alike (caller : Caller) (book other : Book) : Type 0 where
 -- the same, once a moment was told to both
 abbrev pub Agree : Caller → ℕ → Book → Book → Type 0
 Agree caller now book other = Alike caller (pass book now) (pass other now)
+
+-- being the same to a caller at a moment can be turned around and chained
+pub record AgreesBothWays (caller : Caller) (now : ℕ) : Type 0 where
+  pub same : (a : Book) → Agree caller now a a
+  pub turned : (a b : Book) → Agree caller now a b → Agree caller now b a
+  pub chained : (a b c : Book) → Agree caller now a b → Agree caller now b c → Agree caller now a c

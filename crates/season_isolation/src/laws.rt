@@ -1,4 +1,12 @@
+ghost use Rattle.std.specs.Prelude.{ℕ};
+ghost use Rattle.fpl_base.specs.declared.kinds.Caller.{Caller};
+ghost use Rattle.season_isolation.specs.Agree.{AgreesBothWays};
 ghost use Rattle.season_isolation.specs.Isolation.{CommandsAreIsolated, OthersAreUnseen, RepliesAreIsolated, ViewsAreIsolated};
+
+/// A law: to be the same to a caller at a moment is an equivalence of books, so the laws below can be chained.
+pub fn agreeing_is_an_equivalence()
+    ensures { (caller : Caller) (now : ℕ) → AgreesBothWays caller now }
+{}
 
 /// A law: two books that are the same to a caller at a moment show him the same in every view.
 pub fn views_are_isolated()

@@ -4,5 +4,6 @@
 mod laws;
 
 pub use laws::{
-    commands_are_isolated, others_are_unseen, replies_are_isolated, views_are_isolated,
+    agreeing_is_an_equivalence, commands_are_isolated, others_are_unseen, replies_are_isolated,
+    views_are_isolated,
 };
