@@ -7,13 +7,13 @@ use Rattle.rule_book.specs.UpTo.{AgreeUpTo, start_of}
 use Rattle.season_book.specs.Book.{Book, EntryFacts, Facts, caller_number, last_of}
 use Rattle.season_book.specs.Verdict.{pass}
 
--- two histories have the same events in locked gameweeks; before a season no gameweek is open, and they are the same
+-- two histories have the same events in locked gameweeks; before a season no gameweek is open, and all are the same
 abbrev pub SameWhereLocked : Option Facts → List Event → List Event → Type 0
 SameWhereLocked None h h2 = h ≡ h2
 SameWhereLocked (Some facts) h h2 = AgreeUpTo facts.calendar.locked h h2
 
--- two entries are the same to others: their keys and names, their first gameweeks, and their locked gameweeks. That the
--- first gameweeks are the same is a fact of its own: a first squad shows at once that its entry is registered
+-- two entries are the same to others: their keys and names, their first gameweeks, and their locked gameweeks. The
+-- first gameweek is a fact of its own, since it may be the open one: a manager's first squad is not taken as unseen
 pub record EntryAlike (facts : Option Facts) (entry other : EntryFacts) : Type 0 where
   pub key : entry.key ≡ other.key
   pub name : entry.name ≡ other.name
@@ -27,9 +27,9 @@ EntriesAlike facts [] (other ∷ others) = ⊥
 EntriesAlike facts (entry ∷ entries) [] = ⊥
 EntriesAlike facts (entry ∷ entries) (other ∷ others) = EntryAlike facts entry other × EntriesAlike facts entries others
 
--- two books are the same to a caller, where their gameweeks are locked: they differ at most in what other entries did in
--- open gameweeks, and in the last commands of other callers. No more is asked of a history than this: whether it is in
--- order is not
+-- two books are the same to a caller, when the moment's gameweeks are locked in both: they differ at most in what
+-- other entries did in open gameweeks, and in the last commands of other callers. His own entry, if he has one, is the
+-- same. Nothing else is asked of a history: it need not be in order
 pub record Alike (caller : Caller) (book other : Book) : Type 0 where
   pub facts : book.facts ≡ other.facts
   pub leagues : book.leagues ≡ other.leagues

@@ -25,26 +25,30 @@ ViewsAreIsolated = (caller : Caller) (now : ℕ) (book other : Book) (view : Vie
 abbrev pub RuledAlike : Caller → ℕ → ℕ → Command → Result Outcome Answer → Result Outcome Answer → Type 0
 RuledAlike caller now number command (Err refused) (Err other) = refused ≡ other
 RuledAlike caller now number command (Ok outcome) (Ok other) =
-    (outcome.made ≡ other.made) × Agree caller now (accepted caller number command outcome) (accepted caller number command other)
+    (outcome.made ≡ other.made)
+    × Agree caller now (accepted caller number command outcome) (accepted caller number command other)
 RuledAlike caller now number command (Err refused) (Ok other) = ⊥
 RuledAlike caller now number command (Ok outcome) (Err refused) = ⊥
 
 -- every command of a caller, under any number, leads two books that are the same to him to the same
 abbrev pub CommandsAreIsolated : Type 0
-CommandsAreIsolated = (operator : List ℕ) (caller : Caller) (now number : ℕ) (command : Command) (book other : Book) → Agree caller now book other
-    → RuledAlike caller now number command (ruled operator (pass book now) caller now command) (ruled operator (pass other now) caller now command)
+CommandsAreIsolated = (operator : List ℕ) (caller : Caller) (now number : ℕ) (command : Command) (book other : Book)
+    → Agree caller now book other
+    → RuledAlike caller now number command
+    (ruled operator (pass book now) caller now command)
+    (ruled operator (pass other now) caller now command)
 
 -- a verdict in another book with the same answer, behind which the books are the same to the caller
-pub record IsToldAlike (operator : List ℕ) (caller : Caller) (now : ℕ) (request : Request) (other : Book) (verdict told : Verdict) : Type 0 where
-  pub is_verdict : IsVerdict operator other caller now request told
+pub record IsToldAlike (operator : List ℕ) (caller : Caller) (now : ℕ) (asked : Request) (other : Book) (verdict told : Verdict) : Type 0 where
+  pub is_verdict : IsVerdict operator other caller now asked told
   pub answer : verdict.answer ≡ told.answer
   pub agree : Agree caller now verdict.book told.book
 
 -- every verdict on a request of a caller is told alike in every other book that is the same to him
 abbrev pub RepliesAreIsolated : Type 0
-RepliesAreIsolated = (operator : List ℕ) (caller : Caller) (now : ℕ) (request : Request) (book other : Book) (verdict : Verdict)
-    → Agree caller now book other → IsVerdict operator book caller now request verdict
-    → (told : Verdict) × IsToldAlike operator caller now request other verdict told
+RepliesAreIsolated = (operator : List ℕ) (caller : Caller) (now : ℕ) (asked : Request) (book other : Book) (verdict : Verdict)
+    → Agree caller now book other → IsVerdict operator book caller now asked verdict
+    → (told : Verdict) × IsToldAlike operator caller now asked other verdict told
 
 -- what is asked by a manager: a view, or a command on his own entry
 abbrev pub IsManagers : Request → Type 0
@@ -53,7 +57,8 @@ IsManagers (request.Command number command) = part_of command ≡ part.Deeds
 
 -- a caller is the manager of an entry that is registered: it has a first squad
 abbrev pub is_registered : Book → Caller → Bool
-is_registered book caller = option_map_or (λ entry. is_started entry.history) (entry_in book.entries (caller_number caller)) false
+is_registered book caller =
+    option_map_or (λ entry. is_started entry.history) (entry_in book.entries (caller_number caller)) false
 
 -- whatever the manager of another registered entry asks, a book and the one behind it are the same to a caller
 abbrev pub OthersAreUnseen : Type 0

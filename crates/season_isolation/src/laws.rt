@@ -1,7 +1,8 @@
 ghost use Rattle.std.specs.Prelude.{ℕ};
 ghost use Rattle.fpl_base.specs.declared.kinds.Caller.{Caller};
 ghost use Rattle.season_isolation.specs.Agree.{AgreesBothWays};
-ghost use Rattle.season_isolation.specs.Isolation.{CommandsAreIsolated, OthersAreUnseen, RepliesAreIsolated, ViewsAreIsolated};
+ghost use Rattle.season_isolation.specs.Isolation.{CommandsAreIsolated, OthersAreUnseen};
+ghost use Rattle.season_isolation.specs.Isolation.{RepliesAreIsolated, ViewsAreIsolated};
 
 /// A law: to be the same to a caller at a moment is an equivalence of books, so the laws below can be chained.
 pub fn agreeing_is_an_equivalence()
@@ -13,20 +14,20 @@ pub fn views_are_isolated()
     ensures { ViewsAreIsolated }
 {}
 
-/// A law: every command of a caller leads two books that are the same to him to the same: both refuse it with the same
-/// answer, or both accept it, it makes the same, and the books behind it are the same to him again.
+/// A law: every command of a caller leads two books that are the same to him to the same: both refuse it with the
+/// same answer, or both accept it, it makes the same, and the books behind it are the same to him again.
 pub fn commands_are_isolated()
     ensures { CommandsAreIsolated }
 {}
 
-/// A law: of two books that are the same to a caller at a moment, every verdict on a request of his in the one has the
-/// answer of a verdict in the other, and behind them the books are the same to him again.
+/// A law: of two books that are the same to a caller at a moment, every verdict on a request of his in the one has
+/// the answer of a verdict in the other, and behind them the books are the same to him again.
 pub fn replies_are_isolated()
     ensures { RepliesAreIsolated }
 {}
 
-/// A law: whatever the manager of another registered entry asks, a view or a command on his entry, the book behind it is
-/// the same to a caller as the one before, at that moment: so the caller is told the same in either.
+/// A law: whatever the manager of another registered entry asks, a view or a command on his entry, the book behind it
+/// is the same to a caller as the one before, at that moment.
 pub fn others_are_unseen()
     ensures { OthersAreUnseen }
 {}

@@ -1,4 +1,5 @@
-//! That no reply hangs on what another manager did in an open gameweek: laws on the definitions of `season_book`.
+//! That no reply hangs on what another manager did in an open gameweek (docs/RULES.md, "What a manager sees"): laws on
+//! the definitions of `season_book`.
 #![tactic(auto)]
 
 mod laws;
