@@ -10,4 +10,5 @@ pub mod TableOrder
 pub mod TeamFacts
 pub mod UpToFacts
 pub mod Worked
+pub mod WorkedLeagues
 pub mod WorkedSeason

@@ -1,5 +1,5 @@
 -- A batch of transfers: all who go are sold, then all who come are bought. It is judged by the team before it.
-use Rattle.std.specs.Prelude.{◌≡◌, ◌≢◌, ◌≤◌, ◌<◌, ℕ, ◌+◌, ◌-◌, Bool, true, false, not, ◌||◌, ◌==◌, List, [], ◌∷◌, ◌++◌, map, find, count_by, sum_by, length, Option, Some, None, IsSome, nat_lt, if◌then◌else◌, All, AllPairs}
+use Rattle.std.specs.Prelude.{◌≡◌, ◌≢◌, ℕ, ◌+◌, ◌-◌, Bool, true, false, not, ◌||◌, ◌==◌, List, [], ◌∷◌, ◌++◌, map, find, count_by, sum_by, Option, Some, None, IsSome, nat_lt, if◌then◌else◌, All, AllPairs}
 use Rattle.std.specs.List.{list_any}
 use Rattle.std.specs.Option.{option_map, option_map_or}
 use Rattle.fpl_base.specs.declared.kinds.Position.{Position}

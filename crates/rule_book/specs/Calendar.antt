@@ -1,5 +1,5 @@
 -- The calendar of a season: when its gameweeks lock, and where its fixtures stand.
-use Rattle.std.specs.Prelude.{◌≡◌, ◌≤◌, ◌<◌, ◌+◌, ◌-◌, ℕ, Bool, true, false, not, ◌&&◌, ◌||◌, ◌==◌, nat_lt, nat_le, if◌then◌else◌, List, [], ◌∷◌, ◌++◌, Option, Some, None, All, AllPairs, MatchOption, ⊤, length, map, filter, find, position, count_by, drop, max, slice_get, slice_index, slice_set}
+use Rattle.std.specs.Prelude.{◌≤◌, ◌<◌, ◌+◌, ◌-◌, ℕ, Bool, false, not, ◌&&◌, ◌||◌, ◌==◌, nat_lt, nat_le, if◌then◌else◌, List, [], ◌∷◌, ◌++◌, Option, Some, None, All, AllPairs, MatchOption, ⊤, length, map, filter, find, position, count_by, drop, max, slice_get, slice_index, slice_set}
 use Rattle.std.specs.List.{zip, list_any, list_all}
 use Rattle.std.specs.Option.{option_map, option_and_then}
 use Rattle.fpl_base.specs.declared.rule.Rule.{Rule}

@@ -3,7 +3,6 @@ use Rattle.std.specs.Prelude.{ℕ, ◌+◌, Bool, true, false, ◌||◌, List, [
 use Rattle.std.specs.List.{flat_map}
 use Rattle.fpl_base.specs.declared.kinds.Position.{Position}
 use Rattle.rule_book.specs.declared.team.Pick.{Pick}
-use Rattle.rule_book.specs.declared.transfers.Sale.{Sale}
 use Rattle.rule_book.specs.History.{Holding, Deed, Event, last_of}
 use Rattle.rule_book.specs.History.Deed.{First, Swap, Lineup, Play, Cancel}
 

@@ -6,6 +6,7 @@ pub mod ById
 pub mod Calendar
 pub mod CalendarCalls
 pub mod ClassicTable
+pub mod CupCalls
 pub mod CupLaws
 pub mod CupRounds
 pub mod Cups
@@ -24,6 +25,7 @@ pub mod HistoryRules
 pub mod HistorySquad
 pub mod HistoryTeam
 pub mod HistoryTransfers
+pub mod LeagueCalls
 pub mod LeagueRows
 pub mod Leagues
 pub mod Lineups

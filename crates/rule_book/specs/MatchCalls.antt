@@ -1,11 +1,11 @@
 -- What may be handed in on a match, and what it changes.
-use Rattle.std.specs.Prelude.{ℕ, Bool, if◌then◌else◌, List, [], ◌∷◌, Option, Some, None, nat_lt, length, map}
+use Rattle.std.specs.Prelude.{ℕ, Bool, if◌then◌else◌, [], ◌∷◌, Option, Some, None, nat_lt, length, map}
 use Rattle.std.specs.Option.{option_map}
 use Rattle.fpl_base.specs.declared.rule.Rule.{Rule}
 use Rattle.fpl_base.specs.declared.rule.Rule.TheVariants.{NotLocked, LineTwice, LinesFull}
 use Rattle.rule_book.specs.declared.line.Line.{Line}
 use Rattle.rule_book.specs.Figures.{line_range}
-use Rattle.rule_book.specs.MatchFacts.{Lines, MatchFacts, players_in, with_line, without_line, by_player, sheet_of, with_sheet, lines_of, is_finished}
+use Rattle.rule_book.specs.MatchFacts.{Lines, MatchFacts, players_in, with_line, without_line, by_player, with_sheet, lines_of, is_finished}
 use Rattle.rule_book.specs.Refusals.{first_broken}
 use Rattle.rule_book.specs.Repeats.{first_repeat}
 

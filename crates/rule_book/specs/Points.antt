@@ -5,7 +5,7 @@ use Rattle.fpl_base.specs.declared.kinds.Profile.{Profile}
 use Rattle.fpl_base.specs.declared.kinds.Profile.TheVariants as profile
 use Rattle.rule_book.specs.declared.line.Line.{Line}
 use Rattle.rule_book.specs.Figures.{figure}
-use Rattle.rule_book.specs.Scoring.{by_position, Worth, gives, takes, gives_one_per, takes_one_per, nothing, Row, gains, losses}
+use Rattle.rule_book.specs.Scoring.{by_position, gives, takes, gives_one_per, takes_one_per, nothing, Row, gains, losses}
 
 -- the points of a goal, by position
 abbrev pub goal_points : Profile → Position → ℕ

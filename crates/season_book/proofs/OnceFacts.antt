@@ -1,6 +1,6 @@
 -- Each step of a run acts or rests, and what acts rises a caller's number by one.
 use Rattle.std.proofs.Common.{◌≡◌, ◌+◌, ℕ, Bool, true, false, ◌&&◌, ◌==◌, if◌then◌else◌, nat_lt, List, [], ◌∷◌, Option, Some, None, arith, refl, sym, ap, subst, ◌∙◌, inl, inr}
-use Rattle.std.specs.Prelude.{◌⊎◌, Result, Ok, Err, IfErr, is_some}
+use Rattle.std.specs.Prelude.{◌⊎◌, ◌++◌, Result, Ok, Err, IfErr, is_some, length}
 use Rattle.std.specs.Option.{option_map, option_map_or}
 use Rattle.std.proofs.lemmas.Bool.{cases_eq, false≢true}
 use Rattle.std.proofs.lemmas.Bool.Decides.{nat_tests}
@@ -9,6 +9,7 @@ use Rattle.fpl_base.specs.Causes.{Rose}
 use Rattle.fpl_base.specs.declared.kinds.Caller.{Caller}
 use Rattle.fpl_base.specs.declared.rule.Rule.{Rule}
 use Rattle.fpl_base.specs.declared.rule.Rule.TheVariants as rule
+use Rattle.rule_book.specs.declared.cup.Bracket.{Bracket}
 use Rattle.rule_book.specs.Calendar.{deadlines_order}
 use Rattle.rule_book.specs.Entries.{entry_in}
 use Rattle.rule_book.specs.HistoryRules.{is_started}
@@ -23,9 +24,11 @@ use Rattle.season_book.specs.declared.part.Part.TheVariants as part
 use Rattle.season_book.specs.EntryCommands.{deed_refusal, history_after, names_players}
 use Rattle.season_book.specs.EntryViews.{entry_shown, me_shown}
 use Rattle.season_book.specs.Hosts.{number_in}
+use Rattle.season_book.specs.LeagueCommands.{cup_broken, cup_drawn, cup_made, cup_there, is_issued, is_registered, league_made, league_refusal, leagues_after, leagues_there}
+use Rattle.season_book.specs.LeagueViews.{cup_shown, league_shown}
 use Rattle.season_book.specs.Once.{Acted, Acts, CommandsActOnce, Rests, RiseByOne, WasDone, acted_numbers, number_asked}
 use Rattle.season_book.specs.Runs.{Asked}
-use Rattle.season_book.specs.Verdict.{Failures, IsVerdictIn, MayAnswer, MayBeLeft, Outcome, Verdict, accepted, begun, in_season, judged, key_refusal, keyed, my_answer, number_refusal, pass, ruled, ruled_by, ruled_in, ruled_of, seen_in, settled, shown_or_unknown, unless_broken, unless_misnumbered, unless_refused, view_answer, with_entry, with_history}
+use Rattle.season_book.specs.Verdict.{Failures, IsVerdictIn, MayAnswer, MayBeLeft, Outcome, Verdict, accepted, begun, cup_ruled, cups_ruled, in_season, judged, key_refusal, keyed, leagues_ruled, my_answer, number_refusal, pass, ruled, ruled_by, ruled_in, ruled_of, seen_in, settled, shown_or_unknown, unless_broken, unless_misnumbered, unless_refused, view_answer, with_entry, with_history}
 use Rattle.season_book.specs.Views.{shown_of}
 use Rattle.season_book.specs.declared.answer.Answer.{Answer}
 use Rattle.season_book.specs.declared.answer.Answer.TheVariants as answer
@@ -71,6 +74,8 @@ undone_seen book caller (view.PlayerGameweek p g) facts = undone_shown (shown_of
 undone_seen book caller (view.Fixture f) facts = undone_shown (shown_of facts (view.Fixture f))
 undone_seen book caller view.Me facts = undone_mine book facts caller (entry_in book.entries (caller_number caller))
 undone_seen book caller (view.EntryGameweek e g) facts = undone_shown (option_map shown.EntryGameweek (entry_shown facts book.entries e g))
+undone_seen book caller (view.League l) facts = undone_shown (option_map (league_shown facts book.entries) (entry_in book.leagues l))
+undone_seen book caller (view.Cup c) facts = undone_shown (option_map (λ b. shown.Cup (cup_shown facts book.entries b)) (entry_in book.cups c))
 
 undone_in : (book : Book) (caller : Caller) (view : View) (facts : Option Facts) → IsUndone (option_map_or (seen_in book caller view) facts (answer.Rule rule.NoSeason))
 undone_in book caller view None = tt
@@ -148,6 +153,30 @@ undone_for : (book : Book) (caller : Caller) (command : Command) (facts : Option
 undone_for book caller command None = tt
 undone_for book caller command (Some facts) = undone_of book facts (caller_number caller) command (entry_in book.entries (caller_number caller))
 
+abbrev leagues_outcome : Book → ℕ → Command → Outcome
+leagues_outcome book e command = record { made = league_made book.leagues command; book = record book { leagues = leagues_after book.leagues e command } }
+
+abbrev cup_outcome : Book → Bracket → Outcome
+cup_outcome book b = record { made = cup_made book.cups; book = record book { cups = book.cups ++ b ∷ [] } }
+
+undone_leagues : (book : Book) (e : ℕ) (command : Command) (facts : Option Facts) → IfErr (in_season facts (λ f. leagues_ruled book f e command)) IsUndone
+undone_leagues book e command None = tt
+undone_leagues book e command (Some facts) =
+    let broken = league_refusal facts (is_registered book.entries e) book.leagues e command in
+    let behind : Result Outcome Answer = unless_broken broken (leagues_outcome book e command) in
+    chosen_outcome (leagues_there facts (is_issued book.entries) book.leagues command) (λ r. IfErr r IsUndone) behind (Err answer.Unknown) (undone_unbroken broken (leagues_outcome book e command)) tt
+
+undone_cup : (book : Book) (facts : Facts) (drawn : Option Bracket) → IfErr (option_map_or (cup_ruled book facts) drawn (Err answer.Unknown)) IsUndone
+undone_cup book facts None = tt
+undone_cup book facts (Some b) =
+    let broken = cup_broken facts (is_registered book.entries) (length book.cups) b in
+    let behind : Result Outcome Answer = unless_broken broken (cup_outcome book b) in
+    chosen_outcome (cup_there facts (is_issued book.entries) b) (λ r. IfErr r IsUndone) behind (Err answer.Unknown) (undone_unbroken broken (cup_outcome book b)) tt
+
+undone_cups : (book : Book) (command : Command) (facts : Option Facts) → IfErr (in_season facts (λ f. cups_ruled book f command)) IsUndone
+undone_cups book command None = tt
+undone_cups book command (Some facts) = undone_cup book facts (cup_drawn command)
+
 undone_by : (book : Book) (facts : Result Facts Answer) → Undone facts → IfErr (ruled_by book facts) IsUndone
 undone_by book (Ok facts) un = tt
 undone_by book (Err refused) un = un
@@ -156,6 +185,8 @@ undone_ruled : (part : Part) (operator : List ℕ) (book : Book) (caller : Calle
 undone_ruled part.Facts operator book caller now command = undone_by book (judged book.facts now command) (undone_judged book.facts now command)
 undone_ruled part.Entries operator book caller now command = undone_keyed operator book command book.facts
 undone_ruled part.Deeds operator book caller now command = undone_for book caller command book.facts
+undone_ruled part.Leagues operator book caller now command = undone_leagues book (caller_number caller) command book.facts
+undone_ruled part.Cups operator book caller now command = undone_cups book command book.facts
 
 -- a number that no rule refuses is the next one
 used_or_gap : (last : ℕ) (c : Bool) → (if c then Some (rule.NumberUsed last) else Some (rule.NumberGap last)) ≡ None → ⊥
@@ -314,10 +345,30 @@ lasts_for : (book : Book) (caller : Caller) (command : Command) (facts : Option 
 lasts_for book caller command None = refl
 lasts_for book caller command (Some facts) = lasts_of book facts (caller_number caller) command (entry_in book.entries (caller_number caller))
 
+lasts_leagues : (book : Book) (e : ℕ) (command : Command) (facts : Option Facts) → lasts_in (in_season facts (λ f. leagues_ruled book f e command)) book.lasts ≡ book.lasts
+lasts_leagues book e command None = refl
+lasts_leagues book e command (Some facts) =
+    let broken = league_refusal facts (is_registered book.entries e) book.leagues e command in
+    let behind : Result Outcome Answer = unless_broken broken (leagues_outcome book e command) in
+    chosen_outcome (leagues_there facts (is_issued book.entries) book.leagues command) (λ r. lasts_in r book.lasts ≡ book.lasts) behind (Err answer.Unknown) (lasts_unbroken broken (leagues_outcome book e command) book.lasts refl) refl
+
+lasts_cup : (book : Book) (facts : Facts) (drawn : Option Bracket) → lasts_in (option_map_or (cup_ruled book facts) drawn (Err answer.Unknown)) book.lasts ≡ book.lasts
+lasts_cup book facts None = refl
+lasts_cup book facts (Some b) =
+    let broken = cup_broken facts (is_registered book.entries) (length book.cups) b in
+    let behind : Result Outcome Answer = unless_broken broken (cup_outcome book b) in
+    chosen_outcome (cup_there facts (is_issued book.entries) b) (λ r. lasts_in r book.lasts ≡ book.lasts) behind (Err answer.Unknown) (lasts_unbroken broken (cup_outcome book b) book.lasts refl) refl
+
+lasts_cups : (book : Book) (command : Command) (facts : Option Facts) → lasts_in (in_season facts (λ f. cups_ruled book f command)) book.lasts ≡ book.lasts
+lasts_cups book command None = refl
+lasts_cups book command (Some facts) = lasts_cup book facts (cup_drawn command)
+
 lasts_ruled : (part : Part) (operator : List ℕ) (book : Book) (caller : Caller) (now : ℕ) (command : Command) → lasts_in (ruled_in part operator book caller now command) book.lasts ≡ book.lasts
 lasts_ruled part.Facts operator book caller now command = lasts_by book (judged book.facts now command)
 lasts_ruled part.Entries operator book caller now command = lasts_keyed operator book command book.facts
 lasts_ruled part.Deeds operator book caller now command = lasts_for book caller command book.facts
+lasts_ruled part.Leagues operator book caller now command = lasts_leagues book (caller_number caller) command book.facts
+lasts_ruled part.Cups operator book caller now command = lasts_cups book command book.facts
 
 ruled_lasts : (operator : List ℕ) (book : Book) (caller : Caller) (now : ℕ) (command : Command) (outcome : Outcome) → ruled operator book caller now command ≡ Ok outcome → outcome.book.lasts ≡ book.lasts
 ruled_lasts operator book caller now command outcome is =

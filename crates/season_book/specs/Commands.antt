@@ -39,7 +39,7 @@ IsCommand command = ⊤
 
 -- What it changes.
 
--- the part of the book that a command changes; what no route orders yet changes no more than the facts
+-- the part of the book that a command changes
 abbrev pub part_of : Command → Part
 part_of (command.Key key name) = part.Entries
 part_of (command.Squad players captain vice) = part.Deeds
@@ -47,6 +47,10 @@ part_of (command.Transfers swaps) = part.Deeds
 part_of (command.Lineup players captain vice) = part.Deeds
 part_of (command.Chip chip) = part.Deeds
 part_of command.CancelChip = part.Deeds
+part_of (command.League kind name code start) = part.Leagues
+part_of (command.Join league code) = part.Leagues
+part_of (command.Draw league order) = part.Leagues
+part_of (command.Cup start slots coins) = part.Cups
 part_of command = part.Facts
 
 -- What has to be there.

@@ -1,5 +1,5 @@
 -- The commands of an entry's manager: what has to be there, what refuses each, and what each adds to his history.
-use Rattle.std.specs.Prelude.{◌++◌, ℕ, Bool, true, false, ◌&&◌, List, [], Option, None}
+use Rattle.std.specs.Prelude.{◌++◌, ℕ, Bool, true, ◌&&◌, List, [], Option, None}
 use Rattle.std.specs.List.{list_all}
 use Rattle.std.specs.Option.{option_map_or}
 use Rattle.fpl_base.specs.declared.rule.Rule.{Rule}

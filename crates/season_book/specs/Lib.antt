@@ -4,6 +4,8 @@ pub mod Doing
 pub mod EntryCommands
 pub mod EntryViews
 pub mod Hosts
+pub mod LeagueCommands
+pub mod LeagueViews
 pub mod Once
 pub mod Runs
 pub mod Verdict

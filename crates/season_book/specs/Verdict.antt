@@ -5,6 +5,7 @@ use Rattle.fpl_base.specs.Causes.{Rose}
 use Rattle.fpl_base.specs.declared.kinds.Caller.{Caller}
 use Rattle.fpl_base.specs.declared.rule.Rule.{Rule}
 use Rattle.fpl_base.specs.declared.rule.Rule.TheVariants as rule
+use Rattle.rule_book.specs.declared.cup.Bracket.{Bracket}
 use Rattle.rule_book.specs.Calendar.{after_pass, deadlines_order}
 use Rattle.rule_book.specs.Entries.{entry_in, most_entries}
 use Rattle.rule_book.specs.History.{Event}
@@ -19,6 +20,8 @@ use Rattle.season_book.specs.Commands.{are_there, begun_by, changed_by, part_of,
 use Rattle.season_book.specs.EntryCommands.{deed_refusal, history_after, names_players}
 use Rattle.season_book.specs.EntryViews.{entry_shown, me_shown}
 use Rattle.season_book.specs.Hosts.{caller_with, keys_of}
+use Rattle.season_book.specs.LeagueCommands.{cup_broken, cup_drawn, cup_made, cup_there, is_issued, is_registered, league_made, league_refusal, leagues_after, leagues_there}
+use Rattle.season_book.specs.LeagueViews.{cup_shown, league_shown}
 use Rattle.season_book.specs.Views.{shown_of}
 use Rattle.season_book.specs.declared.part.Part.{Part}
 use Rattle.season_book.specs.declared.part.Part.TheVariants as part
@@ -125,6 +128,25 @@ abbrev pub ruled_for : Book → Caller → Command → Result Outcome Answer
 ruled_for book caller command =
     in_season book.facts (λ facts. ruled_of book facts (caller_number caller) command (entry_in book.entries (caller_number caller)))
 
+-- what a command of entry e on leagues leads to: by an id that is not there, then by the first rule that it breaks
+abbrev pub leagues_ruled : Book → Facts → ℕ → Command → Result Outcome Answer
+leagues_ruled book facts e command =
+    if leagues_there facts (is_issued book.entries) book.leagues command then
+    unless_broken (league_refusal facts (is_registered book.entries e) book.leagues e command)
+    (record { made = league_made book.leagues command; book = record book { leagues = leagues_after book.leagues e command } })
+    else Err answer.Unknown
+
+-- what the draw of a cup leads to
+abbrev pub cup_ruled : Book → Facts → Bracket → Result Outcome Answer
+cup_ruled book facts b =
+    if cup_there facts (is_issued book.entries) b then
+    unless_broken (cup_broken facts (is_registered book.entries) (length book.cups) b)
+    (record { made = cup_made book.cups; book = record book { cups = book.cups ++ b ∷ [] } })
+    else Err answer.Unknown
+
+abbrev pub cups_ruled : Book → Facts → Command → Result Outcome Answer
+cups_ruled book facts command = option_map_or (cup_ruled book facts) (cup_drawn command) (Err answer.Unknown)
+
 -- what a command on the facts leads to: nothing is made, and the facts alone change
 abbrev pub ruled_by : Book → Result Facts Answer → Result Outcome Answer
 ruled_by book (Err refused) = Err refused
@@ -135,6 +157,8 @@ abbrev pub ruled_in : Part → List ℕ → Book → Caller → ℕ → Command 
 ruled_in part.Facts operator book caller now command = ruled_by book (judged book.facts now command)
 ruled_in part.Entries operator book caller now command = in_season book.facts (λ facts. keyed operator book command)
 ruled_in part.Deeds operator book caller now command = ruled_for book caller command
+ruled_in part.Leagues operator book caller now command = in_season book.facts (λ facts. leagues_ruled book facts (caller_number caller) command)
+ruled_in part.Cups operator book caller now command = in_season book.facts (λ facts. cups_ruled book facts command)
 
 -- the same, or the answer that refuses it, where this is the operator's key
 abbrev pub ruled : List ℕ → Book → Caller → ℕ → Command → Result Outcome Answer
@@ -179,10 +203,12 @@ my_answer book facts caller (Some entry) =
     answer.Shown (shown.Me (me_shown facts entry.history (caller_number caller) (last_number book caller)))
     else answer.Rule rule.NotRegistered
 
--- what a caller's view of entries gets in a season
+-- what a caller's view gets in a season
 abbrev pub seen_in : Book → Caller → View → Facts → Answer
 seen_in book caller view.Me facts = my_answer book facts caller (entry_in book.entries (caller_number caller))
 seen_in book caller (view.EntryGameweek e g) facts = shown_or_unknown (option_map shown.EntryGameweek (entry_shown facts book.entries e g))
+seen_in book caller (view.League l) facts = shown_or_unknown (option_map (league_shown facts book.entries) (entry_in book.leagues l))
+seen_in book caller (view.Cup c) facts = shown_or_unknown (option_map (λ b. shown.Cup (cup_shown facts book.entries b)) (entry_in book.cups c))
 seen_in book caller view facts = fact_shown (Some facts) view
 
 -- what a caller's view gets

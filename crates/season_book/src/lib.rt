@@ -24,5 +24,6 @@ pub use part::Part;
 pub use request::{Request, View};
 pub use rule_book::{Coins, Slots};
 pub use shown::{
-    Shown, ShownEntryGameweek, ShownFixture, ShownLine, ShownLines, ShownMe, ShownPick, ShownSeason,
+    Shown, ShownClassic, ShownCup, ShownEntryGameweek, ShownFixture, ShownHead, ShownHeadRanked,
+    ShownLine, ShownLines, ShownMe, ShownPick, ShownRanked, ShownSeason,
 };

@@ -4,16 +4,18 @@ ghost use Rattle.season_book.specs.Commands.{part_of};
 
 use crate::Command;
 
-/// A part of the book: the facts, the list of entries, or what the caller's entry did.
+/// A part of the book: the facts, the list of entries, what the caller's entry did, the leagues, or the cups.
 #[derive(Clone, Copy, Debug, PartialEq, Eq)]
 pub enum Part {
     Facts,
     Entries,
     Deeds,
+    Leagues,
+    Cups,
 }
 
 impl Command {
-    /// The part that this command changes; what no route orders yet changes no more than the facts.
+    /// The part that this command changes.
     pub fn part(&self) -> Part
         ensures { result ≡ part_of self.now }
     {
@@ -35,11 +37,9 @@ impl Command {
             | Command::Sheet { .. }
             | Command::Line { .. }
             | Command::Drop { .. }
-            | Command::Finished { .. }
-            | Command::League { .. }
-            | Command::Join { .. }
-            | Command::Draw { .. }
-            | Command::Cup { .. } => Part::Facts,
+            | Command::Finished { .. } => Part::Facts,
+            Command::League { .. } | Command::Join { .. } | Command::Draw { .. } => Part::Leagues,
+            Command::Cup { .. } => Part::Cups,
         }
     }
 }

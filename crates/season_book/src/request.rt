@@ -16,6 +16,10 @@ pub enum View {
     Me,
     /// What an entry's team scored in a locked gameweek.
     EntryGameweek { entry: u32, gameweek: u32 },
+    /// The table of a league.
+    League { league: u32 },
+    /// The rounds of a cup.
+    Cup { cup: u32 },
 }
 
 /// What a caller asks.

@@ -1,7 +1,7 @@
 // What views show.
 use crate::{Moments, SharedClubs};
-use fpl_base::{Chip, EntryId, Gw, ListOf, PlayerId, Profile, Tenths};
-use rule_book::{Figures, Fixture, Player, TeamScore};
+use fpl_base::{Chip, EntryId, Gw, ListOf, Name, PlayerId, Profile, Tenths};
+use rule_book::{Figures, Fixture, HeadRanked, Player, Ranked, Slots, TeamScore};
 
 /// A season as it stands.
 #[derive(Drop)]
@@ -80,6 +80,47 @@ pub struct ShownEntryGameweek {
     pub score: TeamScore,
 }
 
+/// A row of the table of a classic league, with the name of the entry.
+#[derive(Drop)]
+pub struct ShownRanked {
+    pub row: Ranked,
+    pub name: Name,
+}
+
+/// A classic league: its table over the locked gameweeks, by rank, then entry.
+#[derive(Drop)]
+pub struct ShownClassic {
+    pub name: Name,
+    /// The gameweek from which on points count.
+    pub start: Gw,
+    pub rows: ListOf<ShownRanked>,
+}
+
+/// A row of the table of a head-to-head league, with the name of the entry.
+#[derive(Drop)]
+pub struct ShownHeadRanked {
+    pub row: HeadRanked,
+    pub name: Name,
+}
+
+/// A head-to-head league: its table over the locked gameweeks, by rank, then entry. Before it is drawn all rows have
+/// rank 1 and nothing else.
+#[derive(Drop)]
+pub struct ShownHead {
+    pub name: Name,
+    /// The gameweek of the first matches.
+    pub start: Gw,
+    pub rows: ListOf<ShownHeadRanked>,
+}
+
+/// A cup: the winners of each round, tie by tie, and `None` for a round whose gameweek is open.
+#[derive(Drop)]
+pub struct ShownCup {
+    /// The gameweek of the first round.
+    pub start: Gw,
+    pub rounds: ListOf<Option<Slots>>,
+}
+
 /// What a view shows.
 #[derive(Drop)]
 pub enum Shown {
@@ -90,4 +131,7 @@ pub enum Shown {
     Fixture(ShownFixture),
     Me(ShownMe),
     EntryGameweek(ShownEntryGameweek),
+    Classic(ShownClassic),
+    Head(ShownHead),
+    Cup(ShownCup),
 }
