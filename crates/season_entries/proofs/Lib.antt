@@ -6,3 +6,4 @@ pub mod After
 pub mod Keyed
 pub mod Stay
 pub mod Issued
+pub mod KnownFacts

@@ -2,3 +2,4 @@ pub mod Entries
 pub mod Deeds
 pub mod Keys
 pub mod EntryLaws
+pub mod Known

@@ -1,5 +1,8 @@
 // What follows from the definitions alone.
 ghost use Rattle.season_entries.specs.EntryLaws.{EarlyIsInTime, EntriesAreIssued, FactsLeaveEntries, InTimeIsEarly, ManagersOwnTheirKeys, MomentsLeaveEntries, OwnersAreAlike};
+ghost use Rattle.season_entries.specs.Known.{EntriesAreKnown};
+
+use season_ledger::rows_tell;
 
 /// A law: a command on the facts leaves the entries, and when their managers can act.
 pub fn facts_leave_entries()
@@ -28,3 +31,12 @@ pub fn early_is_in_time()
 pub fn entries_are_issued()
     ensures { EntriesAreIssued }
 {}
+
+/// A law: an entry of a book is issued and registered exactly where the manager who stands for it says so. A view and a
+/// command of leagues and cups ask the managers.
+pub fn entries_are_known()
+    ensures { EntriesAreKnown }
+{
+    // The law that rows always tell, for the prover.
+    rows_tell();
+}

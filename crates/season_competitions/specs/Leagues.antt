@@ -1,0 +1,45 @@
+-- The commands on leagues by kept rows: what refuses each, and what nothing refuses.
+use Rattle.std.specs.Prelude.{◌≡◌, ◌≤◌, ℕ, Bool, true, List, Option, Some, None, Result, if◌then◌else◌, ⊤}
+use Rattle.std.specs.Option.{option_map}
+use Rattle.rule_book.specs.Entries.{most_entries}
+use Rattle.rule_book.specs.Leagues.{LeagueFacts}
+use Rattle.manager_book.specs.declared.manager.Manager.{Manager}
+use Rattle.season_book.specs.Book.{EntryFacts, Facts}
+use Rattle.season_book.specs.LeagueCommands.{is_issued, is_registered, league_refusal, leagues_there}
+use Rattle.season_book.specs.declared.answer.Answer.{Answer}
+use Rattle.season_book.specs.declared.answer.Answer.TheVariants as answer
+use Rattle.season_book.specs.declared.command.Command.{Command}
+use Rattle.season_book.specs.declared.command.Command.TheVariants as command
+use Rattle.season_entries.specs.Deeds.{IsAnswered}
+use Rattle.season_entries.specs.Entries.{AreEntries}
+use Rattle.season_entries.specs.Known.{is_issued_by, is_registered_by}
+
+-- the answer that refuses entry e's command on leagues, if one does, where these entries were issued and these are
+-- registered: by an id that is not there, then by a rule
+abbrev pub league_answer : Facts → (ℕ → Bool) → (ℕ → Bool) → List LeagueFacts → ℕ → Command → Option Answer
+league_answer facts issued registered leagues e command =
+    if leagues_there facts issued leagues command then option_map answer.Rule (league_refusal facts (registered e) leagues e command)
+    else Some answer.Unknown
+
+-- the same by the managers
+abbrev pub league_answer_by : Facts → List Manager → List LeagueFacts → ℕ → Command → Option Answer
+league_answer_by facts managers leagues e command =
+    league_answer facts (is_issued_by managers) (is_registered_by managers) leagues e command
+
+-- a command was judged as each book says for which the managers stand
+abbrev pub IsLeagueJudgedByBooks : {T : Type 0} → Facts → List Manager → List LeagueFacts → ℕ → Command → Result T Answer → Type 0
+IsLeagueJudgedByBooks facts managers leagues e command judged = (entries : List EntryFacts)
+    → AreEntries facts.players managers entries
+    → IsAnswered (league_answer facts (is_issued entries) (is_registered entries) leagues e command) judged
+
+-- who creates or joins a league is an entry
+abbrev pub IsByEntry : ℕ → Command → Type 0
+IsByEntry e (command.League kind name code start) = (1 ≤ e) × (e ≤ most_entries)
+IsByEntry e (command.Join l code) = (1 ≤ e) × (e ≤ most_entries)
+IsByEntry e command = ⊤
+
+-- nothing refuses it: the gameweek or the league that it names is there, and it breaks no rule
+pub record IsLeagueGranted (facts : Facts) (leagues : List LeagueFacts) (e : ℕ) (command : Command) : Type 0 where
+  pub by_entry : IsByEntry e command
+  pub there : leagues_there facts (λ number. true) leagues command ≡ true
+  pub unbroken : league_refusal facts true leagues e command ≡ None

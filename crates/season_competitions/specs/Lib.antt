@@ -1,0 +1,2 @@
+pub mod Leagues
+pub mod Cups
