@@ -1,13 +1,11 @@
 -- No reply hangs on what another manager did in an open gameweek.
-use Rattle.std.specs.Prelude.{◌≡◌, ◌≢◌, ℕ, Bool, true, false, List, Result, Ok, Err, ⊤}
-use Rattle.std.specs.Option.{option_map_or}
+use Rattle.std.specs.Prelude.{◌≡◌, ◌≢◌, ℕ, true, List, Result, Ok, Err, ⊤}
 use Rattle.fpl_base.specs.declared.kinds.Caller.{Caller}
-use Rattle.rule_book.specs.Entries.{entry_in}
-use Rattle.rule_book.specs.HistoryRules.{is_started}
 use Rattle.season_book.specs.Book.{Book, caller_number}
 use Rattle.season_book.specs.Commands.{part_of}
 use Rattle.season_book.specs.declared.command.Command.{Command}
 use Rattle.season_book.specs.declared.part.Part.TheVariants as part
+use Rattle.season_book.specs.LeagueCommands.{is_registered}
 use Rattle.season_book.specs.Verdict.{IsVerdict, Outcome, Verdict, accepted, pass, ruled, view_answer}
 use Rattle.season_book.specs.declared.answer.Answer.{Answer}
 use Rattle.season_book.specs.declared.request.Request.{Request}
@@ -55,13 +53,8 @@ abbrev pub IsManagers : Request → Type 0
 IsManagers (request.View view) = ⊤
 IsManagers (request.Command number command) = part_of command ≡ part.Deeds
 
--- a caller is the manager of an entry that is registered: it has a first squad
-abbrev pub is_registered : Book → Caller → Bool
-is_registered book caller =
-    option_map_or (λ entry. is_started entry.history) (entry_in book.entries (caller_number caller)) false
-
 -- whatever the manager of another registered entry asks, a book and the one behind it are the same to a caller
 abbrev pub OthersAreUnseen : Type 0
 OthersAreUnseen = (operator : List ℕ) (caller another : Caller) (now : ℕ) (asked : Request) (book : Book) (verdict : Verdict)
-    → caller_number caller ≢ caller_number another → is_registered book another ≡ true → IsManagers asked
+    → caller_number caller ≢ caller_number another → is_registered book.entries (caller_number another) ≡ true → IsManagers asked
     → IsVerdict operator book another now asked verdict → Agree caller now book verdict.book
