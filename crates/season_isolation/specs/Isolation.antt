@@ -6,8 +6,9 @@ use Rattle.season_book.specs.Commands.{part_of}
 use Rattle.season_book.specs.declared.command.Command.{Command}
 use Rattle.season_book.specs.declared.part.Part.TheVariants as part
 use Rattle.season_book.specs.LeagueCommands.{is_registered}
-use Rattle.season_book.specs.Verdict.{IsVerdict, Outcome, Verdict, accepted, pass, ruled, view_answer}
+use Rattle.season_book.specs.Verdict.{Failures, IsVerdict, MayAnswer, Outcome, Verdict, accepted, pass, ruled, view_answer}
 use Rattle.season_book.specs.declared.answer.Answer.{Answer}
+use Rattle.season_book.specs.declared.answer.Answer.TheVariants as answer
 use Rattle.season_book.specs.declared.request.Request.{Request}
 use Rattle.season_book.specs.declared.request.Request.TheVariants as request
 use Rattle.season_book.specs.declared.request.View.{View}
@@ -47,6 +48,18 @@ abbrev pub RepliesAreIsolated : Type 0
 RepliesAreIsolated = (operator : List ℕ) (caller : Caller) (now : ℕ) (asked : Request) (book other : Book) (verdict : Verdict)
     → Agree caller now book other → IsVerdict operator book caller now asked verdict
     → (told : Verdict) × IsToldAlike operator caller now asked other verdict told
+
+-- an answer that a caller is told of a book is a verdict's in every other book that is the same to him
+abbrev pub ToldAlike : List ℕ → Book → Caller → ℕ → Request → Answer → Type 0
+ToldAlike operator book caller now asked reply =
+    (other : Book) → Agree caller now book other
+    → (after : Book) × IsVerdict operator other caller now asked (record { answer = reply; book = after })
+
+-- whatever may be answered is told alike, but want of memory and a keeper that failed
+abbrev pub AnswersAreIsolated : Type 0
+AnswersAreIsolated = (operator : List ℕ) (failures : Failures) (book : Book) (caller : Caller) (now : ℕ) (asked : Request) (reply : Answer) (after : Book)
+    → MayAnswer operator failures book caller now asked reply after → reply ≢ answer.Memory → reply ≢ answer.Keeper
+    → ToldAlike operator book caller now asked reply
 
 -- what is asked by a manager: a view, or a command on his own entry
 abbrev pub IsManagers : Request → Type 0
