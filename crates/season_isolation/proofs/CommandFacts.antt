@@ -1,14 +1,16 @@
 -- What a caller's command leads books to that are the same to him.
-use Rattle.std.proofs.Common.{◌≡◌, ◌+◌, ℕ, Bool, true, false, not, if◌then◌else◌, nat_lt, List, [], ◌∷◌, Option, Some, None, length, arith, refl, sym, ap, ◌∙◌, subst}
+use Rattle.std.proofs.Common.{◌≡◌, ◌+◌, ℕ, Bool, true, false, not, if◌then◌else◌, nat_lt, List, [], ◌∷◌, ◌++◌, Option, Some, None, length, arith, refl, sym, ap, ◌∙◌, subst}
 use Rattle.std.specs.Prelude.{Result, Ok, Err, is_some}
-use Rattle.std.specs.Option.{option_map}
+use Rattle.std.specs.Option.{option_map, option_map_or}
 use Rattle.std.proofs.lemmas.Bool.Decides.{nat_tests}
 use Rattle.fpl_base.specs.declared.kinds.Caller.{Caller}
 use Rattle.fpl_base.specs.declared.rule.Rule.{Rule}
 use Rattle.fpl_base.specs.declared.rule.Rule.TheVariants as rule
+use Rattle.rule_book.specs.declared.cup.Bracket.{Bracket}
 use Rattle.rule_book.specs.ById.{at_id, placed_at}
 use Rattle.rule_book.specs.Entries.{entry_in, most_entries}
 use Rattle.rule_book.specs.History.{Event}
+use Rattle.rule_book.specs.Leagues.{LeagueFacts}
 use Rattle.rule_book.specs.Refusals.{first_broken, unless}
 use Rattle.rule_book.proofs.AtId.{placed_same}
 use Rattle.season_book.specs.Book.{Book, EntryFacts, Facts, Last, caller_number}
@@ -20,12 +22,13 @@ use Rattle.season_book.specs.declared.part.Part.{Part}
 use Rattle.season_book.specs.declared.part.Part.TheVariants as part
 use Rattle.season_book.specs.EntryCommands.{deed_refusal, history_after, names_players}
 use Rattle.season_book.specs.Hosts.{caller_with, keys_of}
-use Rattle.season_book.specs.Verdict.{Outcome, in_season, judged, key_refusal, keyed, locked_at, pass, ruled, ruled_by, ruled_for, ruled_in, ruled_of, unless_broken, with_entry, with_history}
+use Rattle.season_book.specs.LeagueCommands.{cup_broken, cup_drawn, cup_made, cup_there, is_issued, is_registered, league_made, league_refusal, leagues_after, leagues_there}
+use Rattle.season_book.specs.Verdict.{Outcome, cup_ruled, cups_ruled, in_season, judged, key_refusal, keyed, leagues_ruled, locked_at, pass, ruled, ruled_by, ruled_for, ruled_in, ruled_of, unless_broken, with_entry, with_history}
 use Rattle.season_book.specs.declared.answer.Answer.{Answer}
 use Rattle.season_book.specs.declared.answer.Answer.TheVariants as answer
 use Rattle.season_isolation.specs.Agree.{Agree, EntriesAlike}
 use Rattle.season_isolation.specs.Isolation.{CommandsAreIsolated, RuledAlike}
-use Rattle.season_isolation.proofs.EntriesFacts.{as_many, by_other_facts, keys_alike, one_goes_on, one_more, own_goes_on, own_of_more}
+use Rattle.season_isolation.proofs.EntriesFacts.{as_many, by_other_facts, issued_alike, keys_alike, one_goes_on, one_more, own_goes_on, own_of_more, registered_alike}
 use Rattle.season_isolation.proofs.LockFacts.{locks_again, still_locked}
 
 one_same : (k : ℕ) (x : Last) → at_id ((k, x) ∷ []) k ≡ Some x
@@ -172,10 +175,82 @@ module _ (operator : List ℕ) (caller : Caller) (now number : ℕ) (order : Com
       subst (λ facts. Same (ruled_for one caller order) (in_season facts (λ f. ruled_of two f own order (entry_in two.entries own)))) a.facts
       (subst (λ entry. Same (ruled_for one caller order) (in_season one.facts (λ f. ruled_of two f own order entry))) a.own (deed_in (entry_in one.entries own) one.facts))
 
+  -- leagues
+  abbrev led_in : Book → List LeagueFacts → Outcome
+  led_in b leagues = record { made = league_made leagues order; book = record b { leagues = leagues_after leagues own order } }
+
+  abbrev led_if : Bool → Option Rule → Book → List LeagueFacts → Result Outcome Answer
+  led_if there broken b leagues = if there then unless_broken broken (led_in b leagues) else Err answer.Unknown
+
+  led_alike : (there : Bool) (broken : Option Rule) (leagues : List LeagueFacts) → Same (led_if there broken one leagues) (led_if there broken two leagues)
+  led_alike false broken leagues = refl
+  led_alike true (Some broken) leagues = refl
+  led_alike true None leagues = accepted_alike (led_in one leagues) (led_in two leagues) refl (record {
+    facts = a.facts;
+    leagues = refl;
+    cups = a.cups;
+    entries = entries_again one.entries two.entries a.entries;
+    own = a.own;
+  })
+
+  leagues_in : (facts : Facts) → Same (leagues_ruled one facts own order) (leagues_ruled two facts own order)
+  leagues_in facts =
+      let issued : is_issued one.entries ≡ is_issued two.entries = λ i e. issued_alike one.facts one.entries two.entries a.entries e i in
+      let registered : is_registered one.entries own ≡ is_registered two.entries own = registered_alike one.facts one.entries two.entries a.entries own in
+      subst (λ also. Same (leagues_ruled one facts own order) also)
+      (λ i. led_if (leagues_there facts (issued i) (a.leagues i) order) (league_refusal facts (registered i) (a.leagues i) own order) two (a.leagues i))
+      (led_alike (leagues_there facts (is_issued one.entries) one.leagues order) (league_refusal facts (is_registered one.entries own) one.leagues own order) one.leagues)
+
+  leagues_by : (facts : Option Facts) → Same (in_season facts (λ f. leagues_ruled one f own order)) (in_season facts (λ f. leagues_ruled two f own order))
+  leagues_by None = refl
+  leagues_by (Some facts) = leagues_in facts
+
+  leagues_alike : Same (in_season one.facts (λ f. leagues_ruled one f own order)) (in_season two.facts (λ f. leagues_ruled two f own order))
+  leagues_alike = subst (λ facts. Same (in_season one.facts (λ f. leagues_ruled one f own order)) (in_season facts (λ f. leagues_ruled two f own order))) a.facts (leagues_by one.facts)
+
+  -- cups
+  abbrev drawn_in : Book → List Bracket → Bracket → Outcome
+  drawn_in b cups bracket = record { made = cup_made cups; book = record b { cups = cups ++ bracket ∷ [] } }
+
+  abbrev drawn_if : Bool → Option Rule → Book → List Bracket → Bracket → Result Outcome Answer
+  drawn_if there broken b cups bracket = if there then unless_broken broken (drawn_in b cups bracket) else Err answer.Unknown
+
+  drawn_alike : (there : Bool) (broken : Option Rule) (cups : List Bracket) (bracket : Bracket) → Same (drawn_if there broken one cups bracket) (drawn_if there broken two cups bracket)
+  drawn_alike false broken cups bracket = refl
+  drawn_alike true (Some broken) cups bracket = refl
+  drawn_alike true None cups bracket = accepted_alike (drawn_in one cups bracket) (drawn_in two cups bracket) refl (record {
+    facts = a.facts;
+    leagues = a.leagues;
+    cups = refl;
+    entries = entries_again one.entries two.entries a.entries;
+    own = a.own;
+  })
+
+  cup_in : (facts : Facts) (bracket : Bracket) → Same (cup_ruled one facts bracket) (cup_ruled two facts bracket)
+  cup_in facts bracket =
+      let issued : is_issued one.entries ≡ is_issued two.entries = λ i e. issued_alike one.facts one.entries two.entries a.entries e i in
+      let registered : is_registered one.entries ≡ is_registered two.entries = λ i e. registered_alike one.facts one.entries two.entries a.entries e i in
+      subst (λ also. Same (cup_ruled one facts bracket) also)
+      (λ i. drawn_if (cup_there facts (issued i) bracket) (cup_broken facts (registered i) (length (a.cups i)) bracket) two (a.cups i) bracket)
+      (drawn_alike (cup_there facts (is_issued one.entries) bracket) (cup_broken facts (is_registered one.entries) (length one.cups) bracket) one.cups bracket)
+
+  cup_by : (facts : Facts) (drawn : Option Bracket) → Same (option_map_or (cup_ruled one facts) drawn (Err answer.Unknown)) (option_map_or (cup_ruled two facts) drawn (Err answer.Unknown))
+  cup_by facts None = refl
+  cup_by facts (Some bracket) = cup_in facts bracket
+
+  cups_by : (facts : Option Facts) → Same (in_season facts (λ f. cups_ruled one f order)) (in_season facts (λ f. cups_ruled two f order))
+  cups_by None = refl
+  cups_by (Some facts) = cup_by facts (cup_drawn order)
+
+  cups_alike : Same (in_season one.facts (λ f. cups_ruled one f order)) (in_season two.facts (λ f. cups_ruled two f order))
+  cups_alike = subst (λ facts. Same (in_season one.facts (λ f. cups_ruled one f order)) (in_season facts (λ f. cups_ruled two f order))) a.facts (cups_by one.facts)
+
   in_part : (p : Part) → Same (ruled_in p operator one caller now order) (ruled_in p operator two caller now order)
   in_part part.Facts = facts_alike
   in_part part.Entries = entries_alike
   in_part part.Deeds = deeds_alike
+  in_part part.Leagues = leagues_alike
+  in_part part.Cups = cups_alike
 
   pub ruled_alike : Same (ruled operator one caller now order) (ruled operator two caller now order)
   ruled_alike = in_part (part_of order)

@@ -1,16 +1,65 @@
 -- Lists of entries that are the same to others.
-use Rattle.std.proofs.Common.{◌≡◌, ◌-◌, ℕ, zero, suc, false, nat_eq, List, [], ◌∷◌, ◌++◌, Option, Some, None, length, arith, refl, sym, ap, ◌∙◌}
-use Rattle.std.specs.Prelude.{slice_get}
-use Rattle.std.specs.Option.{option_map}
+use Rattle.std.proofs.Common.{◌≡◌, ◌-◌, ℕ, zero, suc, false, nat_eq, List, [], ◌∷◌, ◌++◌, Option, Some, None, length, arith, refl, sym, ap, ◌∙◌, subst}
+use Rattle.std.specs.Prelude.{is_some, slice_get, ⊤}
+use Rattle.std.specs.Option.{option_map, option_map_or}
 use Rattle.std.proofs.lemmas.Bool.Decides.{nat_tests}
 use Rattle.rule_book.specs.Entries.{entry_in}
 use Rattle.rule_book.specs.History.{Event}
+use Rattle.rule_book.specs.HistoryRules.{is_started}
+use Rattle.rule_book.specs.UpTo.{start_of}
 use Rattle.season_book.specs.Book.{EntryFacts, Facts, histories_with}
 use Rattle.season_book.specs.Hosts.{keys_of}
+use Rattle.season_book.specs.LeagueCommands.{is_issued, is_registered}
 use Rattle.season_isolation.specs.Agree.{EntriesAlike, EntryAlike, SameWhereLocked}
 
 pub at_number : (entries : List EntryFacts) (n : ℕ) → entry_in entries (suc n) ≡ slice_get entries n
 at_number entries n = let f : nat_eq (suc n) 0 ≡ false = grind (arith, nat_tests) in let m : suc n - 1 ≡ n = omega arith in rw (f, m) refl
+
+-- two entries that are the same to others, or none
+abbrev pub BothAlike : Option Facts → Option EntryFacts → Option EntryFacts → Type 0
+BothAlike facts None None = ⊤
+BothAlike facts None (Some other) = ⊥
+BothAlike facts (Some entry) None = ⊥
+BothAlike facts (Some entry) (Some other) = EntryAlike facts entry other
+
+both_placed : (facts : Option Facts) (entries others : List EntryFacts) → EntriesAlike facts entries others → (n : ℕ) → BothAlike facts (slice_get entries n) (slice_get others n)
+both_placed facts [] [] a n = tt
+both_placed facts [] (other ∷ others) a n = absurd a
+both_placed facts (entry ∷ entries) [] a n = absurd a
+both_placed facts (entry ∷ entries) (other ∷ others) (one, more) zero = one
+both_placed facts (entry ∷ entries) (other ∷ others) (one, more) (suc n) = both_placed facts entries others more n
+
+-- entries that are the same to others are so at each number
+pub both_alike : (facts : Option Facts) (entries others : List EntryFacts) → EntriesAlike facts entries others → (e : ℕ) → BothAlike facts (entry_in entries e) (entry_in others e)
+both_alike facts entries others a zero = tt
+both_alike facts entries others a (suc n) =
+    subst (λ o. BothAlike facts o (entry_in others (suc n))) (sym (at_number entries n))
+    (subst (λ o. BothAlike facts (slice_get entries n) o) (sym (at_number others n)) (both_placed facts entries others a n))
+
+-- as many are issued and registered
+pub issued_alike : (facts : Option Facts) (entries others : List EntryFacts) → EntriesAlike facts entries others → (e : ℕ) → is_issued entries e ≡ is_issued others e
+issued_alike facts entries others a e = of_both (entry_in entries e) (entry_in others e) (both_alike facts entries others a e)
+  where
+    of_both : (x y : Option EntryFacts) → BothAlike facts x y → is_some x ≡ is_some y
+    of_both None None b = refl
+    of_both None (Some y) b = absurd b
+    of_both (Some x) None b = absurd b
+    of_both (Some x) (Some y) b = refl
+
+started_alike : (h h2 : List Event) → start_of h ≡ start_of h2 → is_started h ≡ is_started h2
+started_alike [] [] same = refl
+started_alike [] (e ∷ h2) same = cc
+started_alike (e ∷ h) [] same = cc
+started_alike (e ∷ h) (e2 ∷ h2) same = refl
+
+pub registered_alike : (facts : Option Facts) (entries others : List EntryFacts) → EntriesAlike facts entries others → (e : ℕ) → is_registered entries e ≡ is_registered others e
+registered_alike facts entries others a e = of_both (entry_in entries e) (entry_in others e) (both_alike facts entries others a e)
+  where
+    of_both : (x y : Option EntryFacts) → BothAlike facts x y → option_map_or (λ (entry : EntryFacts). is_started entry.history) x false ≡ option_map_or (λ (entry : EntryFacts). is_started entry.history) y false
+    of_both None None b = refl
+    of_both None (Some y) b = absurd b
+    of_both (Some x) None b = absurd b
+    of_both (Some x) (Some y) b = started_alike x.history y.history b.start
 
 -- what is the same is the same where gameweeks are locked
 pub where_locked : (facts : Option Facts) (h : List Event) → SameWhereLocked facts h h

@@ -4,4 +4,5 @@ pub mod EntriesFacts
 pub mod LockFacts
 pub mod OtherFacts
 pub mod ReplyFacts
+pub mod TableFacts
 pub mod ViewFacts

@@ -19,13 +19,14 @@ use Rattle.season_book.specs.declared.command.Command.{Command}
 use Rattle.season_book.specs.declared.made.Made.TheVariants as made
 use Rattle.season_book.specs.declared.part.Part.TheVariants as part
 use Rattle.season_book.specs.EntryCommands.{deed_refusal, deeds_in, history_after, names_players}
+use Rattle.season_book.specs.LeagueCommands.{is_registered}
 use Rattle.season_book.specs.Verdict.{IsVerdictIn, Outcome, Verdict, accepted, in_season, number_refusal, pass, ruled, ruled_in, ruled_of, settled, unless_broken, unless_misnumbered, with_history}
 use Rattle.season_book.specs.declared.answer.Answer.{Answer}
 use Rattle.season_book.specs.declared.answer.Answer.TheVariants as answer
 use Rattle.season_book.specs.declared.request.Request.{Request}
 use Rattle.season_book.specs.declared.request.Request.TheVariants as request
 use Rattle.season_isolation.specs.Agree.{Agree, Alike, EntriesAlike, EntryAlike, SameWhereLocked}
-use Rattle.season_isolation.specs.Isolation.{IsManagers, OthersAreUnseen, is_registered}
+use Rattle.season_isolation.specs.Isolation.{IsManagers, OthersAreUnseen}
 use Rattle.season_isolation.proofs.BothWays.{all_alike, itself}
 use Rattle.season_isolation.proofs.EntriesFacts.{at_number, itself_alike}
 use Rattle.season_isolation.proofs.LockFacts.{locks_again}
@@ -71,7 +72,7 @@ next_unseen : (k : ℕ) (h : List Event) (deeds : ℕ → List Deed) (open_one :
 next_unseen k h deeds true = open_deeds_agree k (k + 1) h (deeds (k + 1)) (omega arith)
 next_unseen k h deeds false = (later_events_agree k h []).agree tt
 
-module _ (operator : List ℕ) (caller another : Caller) (now : ℕ) (book : Book) (apart : caller_number caller ≢ caller_number another) (registered : is_registered book another ≡ true) where
+module _ (operator : List ℕ) (caller another : Caller) (now : ℕ) (book : Book) (apart : caller_number caller ≢ caller_number another) (registered : is_registered book.entries (caller_number another) ≡ true) where
   abbrev one : Book
   one = pass book now
 

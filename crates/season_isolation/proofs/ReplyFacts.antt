@@ -5,13 +5,13 @@ use Rattle.fpl_base.specs.declared.kinds.Caller.{Caller}
 use Rattle.fpl_base.specs.declared.rule.Rule.{Rule}
 use Rattle.season_book.specs.Book.{Book, last_number}
 use Rattle.season_book.specs.declared.command.Command.{Command}
-use Rattle.season_book.specs.Verdict.{IsVerdictIn, Outcome, Verdict, fresh_verdict, number_refusal, pass, ruled, settled, unless_misnumbered, view_answer}
+use Rattle.season_book.specs.Verdict.{IsVerdict, IsVerdictIn, Outcome, Verdict, fresh_verdict, number_refusal, pass, ruled, settled, unless_misnumbered, view_answer}
 use Rattle.season_book.specs.declared.answer.Answer.{Answer}
 use Rattle.season_book.specs.declared.answer.Answer.TheVariants as answer
 use Rattle.season_book.specs.declared.request.Request.{Request}
 use Rattle.season_book.specs.declared.request.Request.TheVariants as request
 use Rattle.season_isolation.specs.Agree.{Agree, Alike}
-use Rattle.season_isolation.specs.Isolation.{IsToldAlike, RepliesAreIsolated, RuledAlike}
+use Rattle.season_isolation.specs.Isolation.{AnswersAreIsolated, IsToldAlike, RepliesAreIsolated, RuledAlike}
 use Rattle.season_isolation.proofs.CommandFacts.{commands_are_isolated}
 use Rattle.season_isolation.proofs.LockFacts.{locks_again}
 use Rattle.season_isolation.proofs.ViewFacts.{number_alike, views_are_isolated}
@@ -83,3 +83,18 @@ module _ (operator : List ℕ) (caller : Caller) (now : ℕ) (book other : Book)
 
 pub replies_are_isolated : RepliesAreIsolated
 replies_are_isolated operator caller now asked book other verdict a is = verdict_alike operator caller now book other a asked verdict is
+
+-- with the answer of a verdict, another verdict is one with it
+with_answer : (operator : List ℕ) (caller : Caller) (now : ℕ) (asked : Request) (other : Book) (reply : Answer) (after : Book)
+    → (told : Verdict) × IsToldAlike operator caller now asked other (record { answer = reply; book = after }) told
+    → (left : Book) × IsVerdict operator other caller now asked (record { answer = reply; book = left })
+with_answer operator caller now asked other reply after (told, alike) = (
+  told.book,
+  subst (λ r. IsVerdict operator other caller now asked (record { answer = r; book = told.book })) (sym alike.answer) alike.is_verdict,
+)
+
+pub answers_are_isolated : AnswersAreIsolated
+answers_are_isolated operator failures book caller now asked reply after (inl is) memory keeper =
+    λ other a. with_answer operator caller now asked other reply after (replies_are_isolated operator caller now asked book other (record { answer = reply; book = after }) a is)
+answers_are_isolated operator failures book caller now asked reply after (inr (inl is, left)) memory keeper = absurd (memory is)
+answers_are_isolated operator failures book caller now asked reply after (inr (inr (is, rose), left)) memory keeper = absurd (keeper is)

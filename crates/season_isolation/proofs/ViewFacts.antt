@@ -24,6 +24,7 @@ use Rattle.season_book.specs.declared.shown.Shown.TheVariants as shown
 use Rattle.season_book.specs.declared.shown.ShownEntryGameweek.{ShownEntryGameweek}
 use Rattle.season_isolation.specs.Agree.{Alike, EntriesAlike, EntryAlike}
 use Rattle.season_isolation.specs.Isolation.{ViewsAreIsolated}
+use Rattle.season_isolation.proofs.TableFacts.{cup_alike, league_alike}
 
 -- what is shown of a gameweek is looked at only where the gameweek is locked
 where_locked : {T : Type 0} (first locked begun also : Bool) (x y : T) → (locked ≡ true → (begun ≡ also) × (x ≡ y))
@@ -83,6 +84,12 @@ seen_alike caller book other a facts is view.Me =
     ap (my_answer book facts caller) a.own ∙ mine_alike caller book other facts a (entry_in other.entries (caller_number caller))
 seen_alike caller book other a facts is (view.EntryGameweek e g) =
     ap (λ o. shown_or_unknown (option_map shown.EntryGameweek o)) (entry_alike facts book.entries other.entries (subst (λ f. EntriesAlike f book.entries other.entries) is a.entries) e g)
+seen_alike caller book other a facts is (view.League l) =
+    let table = league_alike facts book.entries other.entries (subst (λ f. EntriesAlike f book.entries other.entries) is a.entries) in
+    λ i. shown_or_unknown (option_map (λ league. table league i) (entry_in (a.leagues i) l))
+seen_alike caller book other a facts is (view.Cup c) =
+    let rounds = cup_alike facts book.entries other.entries (subst (λ f. EntriesAlike f book.entries other.entries) is a.entries) in
+    λ i. shown_or_unknown (option_map (λ b. shown.Cup (rounds b i)) (entry_in (a.cups i) c))
 seen_alike caller book other a facts is view.Season = refl
 seen_alike caller book other a facts is (view.Player p) = refl
 seen_alike caller book other a facts is (view.PlayerGameweek p g) = refl

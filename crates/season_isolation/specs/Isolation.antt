@@ -1,15 +1,14 @@
 -- No reply hangs on what another manager did in an open gameweek.
-use Rattle.std.specs.Prelude.{◌≡◌, ◌≢◌, ℕ, Bool, true, false, List, Result, Ok, Err, ⊤}
-use Rattle.std.specs.Option.{option_map_or}
+use Rattle.std.specs.Prelude.{◌≡◌, ◌≢◌, ℕ, true, List, Result, Ok, Err, ⊤}
 use Rattle.fpl_base.specs.declared.kinds.Caller.{Caller}
-use Rattle.rule_book.specs.Entries.{entry_in}
-use Rattle.rule_book.specs.HistoryRules.{is_started}
 use Rattle.season_book.specs.Book.{Book, caller_number}
 use Rattle.season_book.specs.Commands.{part_of}
 use Rattle.season_book.specs.declared.command.Command.{Command}
 use Rattle.season_book.specs.declared.part.Part.TheVariants as part
-use Rattle.season_book.specs.Verdict.{IsVerdict, Outcome, Verdict, accepted, pass, ruled, view_answer}
+use Rattle.season_book.specs.LeagueCommands.{is_registered}
+use Rattle.season_book.specs.Verdict.{Failures, IsVerdict, MayAnswer, Outcome, Verdict, accepted, pass, ruled, view_answer}
 use Rattle.season_book.specs.declared.answer.Answer.{Answer}
+use Rattle.season_book.specs.declared.answer.Answer.TheVariants as answer
 use Rattle.season_book.specs.declared.request.Request.{Request}
 use Rattle.season_book.specs.declared.request.Request.TheVariants as request
 use Rattle.season_book.specs.declared.request.View.{View}
@@ -50,18 +49,25 @@ RepliesAreIsolated = (operator : List ℕ) (caller : Caller) (now : ℕ) (asked 
     → Agree caller now book other → IsVerdict operator book caller now asked verdict
     → (told : Verdict) × IsToldAlike operator caller now asked other verdict told
 
+-- an answer that a caller is told of a book is a verdict's in every other book that is the same to him
+abbrev pub ToldAlike : List ℕ → Book → Caller → ℕ → Request → Answer → Type 0
+ToldAlike operator book caller now asked reply =
+    (other : Book) → Agree caller now book other
+    → (after : Book) × IsVerdict operator other caller now asked (record { answer = reply; book = after })
+
+-- whatever may be answered is told alike, but want of memory and a keeper that failed
+abbrev pub AnswersAreIsolated : Type 0
+AnswersAreIsolated = (operator : List ℕ) (failures : Failures) (book : Book) (caller : Caller) (now : ℕ) (asked : Request) (reply : Answer) (after : Book)
+    → MayAnswer operator failures book caller now asked reply after → reply ≢ answer.Memory → reply ≢ answer.Keeper
+    → ToldAlike operator book caller now asked reply
+
 -- what is asked by a manager: a view, or a command on his own entry
 abbrev pub IsManagers : Request → Type 0
 IsManagers (request.View view) = ⊤
 IsManagers (request.Command number command) = part_of command ≡ part.Deeds
 
--- a caller is the manager of an entry that is registered: it has a first squad
-abbrev pub is_registered : Book → Caller → Bool
-is_registered book caller =
-    option_map_or (λ entry. is_started entry.history) (entry_in book.entries (caller_number caller)) false
-
 -- whatever the manager of another registered entry asks, a book and the one behind it are the same to a caller
 abbrev pub OthersAreUnseen : Type 0
 OthersAreUnseen = (operator : List ℕ) (caller another : Caller) (now : ℕ) (asked : Request) (book : Book) (verdict : Verdict)
-    → caller_number caller ≢ caller_number another → is_registered book another ≡ true → IsManagers asked
+    → caller_number caller ≢ caller_number another → is_registered book.entries (caller_number another) ≡ true → IsManagers asked
     → IsVerdict operator book another now asked verdict → Agree caller now book verdict.book

@@ -1,7 +1,7 @@
 ghost use Rattle.std.specs.Prelude.{ℕ};
 ghost use Rattle.fpl_base.specs.declared.kinds.Caller.{Caller};
 ghost use Rattle.season_isolation.specs.Agree.{AgreesBothWays};
-ghost use Rattle.season_isolation.specs.Isolation.{CommandsAreIsolated, OthersAreUnseen};
+ghost use Rattle.season_isolation.specs.Isolation.{AnswersAreIsolated, CommandsAreIsolated, OthersAreUnseen};
 ghost use Rattle.season_isolation.specs.Isolation.{RepliesAreIsolated, ViewsAreIsolated};
 
 /// A law: to be the same to a caller at a moment is an equivalence of books, so the laws below can be chained.
@@ -24,6 +24,12 @@ pub fn commands_are_isolated()
 /// the answer of a verdict in the other, and behind them the books are the same to him again.
 pub fn replies_are_isolated()
     ensures { RepliesAreIsolated }
+{}
+
+/// A law: whatever a host may answer to a request of a caller, but want of memory and a keeper that failed, is the answer
+/// of a verdict in every book that is the same to him.
+pub fn answers_are_isolated()
+    ensures { AnswersAreIsolated }
 {}
 
 /// A law: whatever the manager of another registered entry asks, a view or a command on his entry, the book behind it

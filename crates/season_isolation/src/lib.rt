@@ -5,6 +5,6 @@
 mod laws;
 
 pub use laws::{
-    agreeing_is_an_equivalence, commands_are_isolated, others_are_unseen, replies_are_isolated,
-    views_are_isolated,
+    agreeing_is_an_equivalence, answers_are_isolated, commands_are_isolated, others_are_unseen,
+    replies_are_isolated, views_are_isolated,
 };
