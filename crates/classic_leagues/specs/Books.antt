@@ -1,8 +1,8 @@
 -- The leagues of a season, and the leagues of each entry beside them.
-use Rattle.std.specs.Prelude.{◌≡◌, ◌<◌, ◌≤◌, ◌-◌, ◌++◌, ℕ, true, IsTrue, List, [], ◌∷◌, length, filter, AllPairs, Option, nat_lt, slice_index_or, IsSomeAnd}
+use Rattle.std.specs.Prelude.{◌≡◌, ◌<◌, ◌≤◌, ◌-◌, ◌++◌, ℕ, true, false, IsTrue, List, [], ◌∷◌, length, filter, AllPairs, Option, nat_lt, slice_index_or, IsSomeAnd}
 use Rattle.rule_book.specs.Entries.{entry_in}
 use Rattle.rule_book.specs.HeadToHead.{IsDraw}
-use Rattle.rule_book.specs.LeagueCalls.{is_drawn, is_head, leagues_of, most_leagues, most_members}
+use Rattle.rule_book.specs.LeagueCalls.{is_drawn, is_head, is_member, leagues_of, most_leagues, most_members}
 use Rattle.rule_book.specs.Leagues.{LeagueFacts}
 
 -- numbers that rise, so that each stands once
@@ -17,6 +17,12 @@ pub record CanDraw (order : List ℕ) (league : LeagueFacts) : Type 0 where
 -- the league of a number is there, and can have this order
 abbrev pub CanDrawIn : List LeagueFacts → ℕ → List ℕ → Type 0
 CanDrawIn leagues l order = IsSomeAnd (entry_in leagues l) (CanDraw order)
+
+-- an entry can enter a league: it is no member, the league was not drawn and has room
+pub record CanEnter (league : LeagueFacts) (e : ℕ) : Type 0 where
+  pub new : is_member league e ≡ false
+  pub open_still : is_drawn league ≡ false
+  pub room : length league.members < most_members league.kind
 
 -- a league has members who ascend, at least one and no more than its kind can have, and where it was drawn, it can have
 -- its order
