@@ -4,7 +4,7 @@ ghost use Rattle.rule_book.specs.Cups.{StandsOnce, HasNoByeTie, IsCup, wrong_cup
 ghost use Rattle.rule_book.specs.Refusals.{IsJudged};
 ghost use Rattle.cup_rounds.specs.Shapes.{HasShape};
 
-use fpl_base::Rule;
+use fpl_base::{Gw, Rule};
 use rule_book::Bracket;
 
 /// Whether a cup can be drawn so, in a season of so many gameweeks of which so many are locked. Its start has to be open;
@@ -15,30 +15,50 @@ pub fn check(b: &Bracket, gameweeks: u8, locked: u8) -> Result<(), Rule>
     ensures judged { IsJudged (wrong_cup b.now gameweeks locked) result }
     ensures open { OnOk result (locked < b.now.start) }
     ensures cup { OnOk result (IsCup b.now gameweeks) }
-    ensures shape { OnOk result (HasShape b.now) }
     ensures wrong { result ≡ Err Rule.DrawWrong → ¬ IsCup b.now gameweeks }
 {
-    if b.start.get() <= locked {
-        return Err(Rule::StartPassed { gameweek: b.start });
+    check_draw(
+        b.start,
+        b.slots.as_slice(),
+        b.coins.as_slice(),
+        gameweeks,
+        locked,
+    )
+}
+
+/// The same of the parts of a draw, of which no cup has been made yet.
+pub fn check_draw(
+    start: Gw,
+    slots: &[u32],
+    coins: &[u8],
+    gameweeks: u8,
+    locked: u8,
+) -> Result<(), Rule>
+    ensures judged { IsJudged (wrong_cup (record { start = start; slots = slots.now; coins = coins.now }) gameweeks locked) result }
+    ensures open { OnOk result (locked < start) }
+    ensures cup { OnOk result (IsCup (record { start = start; slots = slots.now; coins = coins.now }) gameweeks) }
+    ensures wrong { result ≡ Err Rule.DrawWrong → ¬ IsCup (record { start = start; slots = slots.now; coins = coins.now }) gameweeks }
+{
+    if start.get() <= locked {
+        return Err(Rule::StartPassed { gameweek: start });
     }
-    if !can_be_played(b, gameweeks) {
+    if !can_be_played(start, slots, coins, gameweeks) {
         return Err(Rule::DrawWrong);
     }
     Ok(())
 }
 
 // Whether the draw is one that can be played.
-fn can_be_played(b: &Bracket, gameweeks: u8) -> bool
-    ensures { IsTrue result ↔ IsCup b.now gameweeks }
+fn can_be_played(start: Gw, slots: &[u32], coins: &[u8], gameweeks: u8) -> bool
+    ensures { IsTrue result ↔ IsCup (record { start = start; slots = slots.now; coins = coins.now }) gameweeks }
 {
-    let slots = b.slots.as_slice();
     let Some(rounds) = rounds_of(slots.len()) else {
         return false;
     };
-    if b.start.get() as u32 + rounds as u32 > gameweeks as u32 + 1 {
+    if start.get() as u32 + rounds as u32 > gameweeks as u32 + 1 {
         return false;
     }
-    if b.coins.as_slice().len() != slots.len() - 1 {
+    if coins.len() != slots.len() - 1 {
         return false;
     }
     if !stands_once(slots) {

@@ -8,7 +8,7 @@ mod shape;
 mod ties;
 
 pub use cups::Cups;
-pub use draw::check;
+pub use draw::{check, check_draw};
 pub use laws::{cups_have_shape, entrants_win, rounds_follow, winners_meet};
 pub use rule_book::{Bracket, Coins, Side, Slots};
 pub use shape::{coin, rounds};
