@@ -1,13 +1,16 @@
 // The draw of a cup.
 ghost use Rattle.std.specs.Prelude.{◌≡◌, OnErr, OnOk, length};
+ghost use Rattle.rule_book.specs.Refusals.{IsJudged};
 ghost use Rattle.season_book.specs.Commands.{part_of};
+ghost use Rattle.season_book.specs.LeagueCommands.{cup_broken};
+ghost use Rattle.season_entries.specs.Known.{is_registered_by};
 ghost use Rattle.season_book.specs.declared.command.Command.TheVariants as command;
 ghost use Rattle.season_book.specs.declared.part.Part.TheVariants as part;
 ghost use Rattle.season_entries.specs.Deeds.{IsAnswered};
 ghost use Rattle.season_competitions.specs.Cups.{IsCupGranted, IsCupJudgedByBooks, cup_answer_by, cups_after};
 
 use crate::known::{are_entrants_issued, are_entrants_registered};
-use cup_rounds::{Bracket, Coins, Cups, Slots, check_draw};
+use cup_rounds::{Bracket, Coins, Cups, Slots, check_draw, cups_have_shape};
 use fpl_base::{Gw, Memory, Refused, Rule};
 use manager_book::ManagerBook;
 use season_book::{Answer, Command};

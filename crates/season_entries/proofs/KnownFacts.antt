@@ -28,8 +28,14 @@ same_many players (m ∷ managers) [] a = absurd a
 same_many players (m ∷ managers) (x ∷ entries) a = ap suc (same_many players managers entries a.1)
 
 issued_at : {X : Type 0} (xs : List X) (place : ℕ) → is_some (slice_get xs place) ≡ nat_lt place (length xs)
-issued_at [] place = refl
-issued_at (x ∷ xs) zero = refl
+issued_at [] place = none_below place
+  where
+    none_below : (a : ℕ) → false ≡ nat_lt a 0
+    none_below a = grind (arith, nat_tests)
+issued_at (x ∷ xs) zero = some_below (length xs)
+  where
+    some_below : (n : ℕ) → true ≡ nat_lt 0 (suc n)
+    some_below n = grind (arith, nat_tests)
 issued_at (x ∷ xs) (suc place) = issued_at xs place ∙ shifted place (length xs)
   where
     shifted : (a b : ℕ) → nat_lt a b ≡ nat_lt (suc a) (suc b)

@@ -1,7 +1,7 @@
 -- How commands are ruled in the books that a running season stands for, part by part.
 use Rattle.std.proofs.Common.{◌≡◌, ◌≤◌, ◌+◌, ◌-◌, ◌++◌, ◌∷◌, [], ℕ, suc, slice_get, Bool, true, false, if◌then◌else◌, List, Option, Some, None, length, arith, refl, sym, ap, subst, ◌∙◌}
 use Rattle.std.specs.Prelude.{Result, Ok, Err, IsOk, OnOk, OnErr}
-use Rattle.std.specs.Option.{option_map}
+use Rattle.std.specs.Option.{option_map, option_map_or}
 use Rattle.std.specs.Str.{bytes_eq}
 use Rattle.std.proofs.lemmas.Bool.{false≢true}
 use Rattle.std.proofs.lemmas.Option.{none-some, same_Some}
@@ -9,6 +9,7 @@ use Rattle.std.proofs.lemmas.Slice.Eq.{bytes_eq-Decides}
 use Rattle.fpl_base.specs.declared.kinds.Caller.{Caller}
 use Rattle.fpl_base.specs.declared.rule.Rule.{Rule}
 use Rattle.fpl_base.specs.declared.rule.Rule.TheVariants as rule
+use Rattle.rule_book.specs.declared.cup.Bracket.{Bracket}
 use Rattle.rule_book.specs.Entries.{entry_in}
 use Rattle.rule_book.specs.declared.player.Player.{Player}
 use Rattle.rule_book.specs.HistoryRules.{is_started}
@@ -19,7 +20,8 @@ use Rattle.season_book.specs.Commands.{changed_by, part_of}
 use Rattle.season_book.specs.Doing.{IsGranted, IsWeighed}
 use Rattle.season_book.specs.EntryCommands.{deed_refusal, history_after, names_players}
 use Rattle.season_book.specs.EntryViews.{me_shown}
-use Rattle.season_book.specs.Verdict.{Outcome, in_season, judged, key_refusal, keyed, my_answer, ruled, ruled_by, ruled_in, ruled_of, unless_broken, with_entry, with_history}
+use Rattle.season_book.specs.LeagueCommands.{cup_broken, cup_drawn, cup_made, cup_there, is_issued, is_registered, league_made, league_refusal, leagues_after, leagues_there}
+use Rattle.season_book.specs.Verdict.{Outcome, cup_ruled, cups_ruled, in_season, judged, key_refusal, keyed, leagues_ruled, my_answer, ruled, ruled_by, ruled_in, ruled_of, unless_broken, with_entry, with_history}
 use Rattle.season_book.specs.declared.answer.Answer.{Answer}
 use Rattle.season_book.specs.declared.answer.Answer.TheVariants as answer
 use Rattle.season_book.specs.declared.command.Command.{Command}
@@ -28,12 +30,60 @@ use Rattle.season_book.specs.declared.made.Made.TheVariants as made
 use Rattle.season_book.specs.declared.shown.Shown.TheVariants as shown_of
 use Rattle.season_book.specs.declared.shown.ShownMe.{ShownMe}
 use Rattle.season_book.specs.declared.part.Part.TheVariants as part
+use Rattle.season_competitions.specs.Cups.{IsCupJudgedByBooks, cup_answer, cups_after, draw_answer}
+use Rattle.season_competitions.specs.Leagues.{IsLeagueJudgedByBooks, league_answer}
 use Rattle.season_entries.specs.Deeds.{IsAnswered, IsJudgedByBooks, StandForBooksAfter}
 use Rattle.season_entries.specs.Entries.{AreEntries}
 use Rattle.season_entries.specs.EntryLaws.{EntriesAreIssued, FactsLeaveEntries}
 use Rattle.season_host.specs.Accepting.{IsRuled, Leads, made_by, made_in}
 use Rattle.season_host.specs.Standing.{Plays, Running}
 use Rattle.season_host.proofs.AnswerFacts.{granted_is}
+
+-- by what is there and what refuses
+by_answer : {T : Type 0} (there : Bool) (broken : Option Rule) (outcome : Outcome) (r : Result T Answer)
+    → IsAnswered (if there then option_map answer.Rule broken else Some answer.Unknown) r → IsRuled (if there then unless_broken broken outcome else Err answer.Unknown) r
+by_answer true None outcome (Ok value) a = refl
+by_answer true None outcome (Err reply) a = absurd (none-some reply a)
+by_answer true (Some broken) outcome (Ok value) a = absurd (none-some (answer.Rule broken) (sym a))
+by_answer true (Some broken) outcome (Err reply) a = ap Err (same_Some (answer.Rule broken) reply a)
+by_answer false broken outcome (Ok value) a = absurd (none-some answer.Unknown (sym a))
+by_answer false broken outcome (Err reply) a = ap Err (same_Some answer.Unknown reply a)
+
+unbroken : (broken : Option Rule) (outcome : Outcome) → IsOk (unless_broken broken outcome) → unless_broken broken outcome ≡ Ok outcome
+unbroken None outcome ok = refl
+unbroken (Some broken) outcome ok = absurd (false≢true ok)
+
+well : (there : Bool) (broken : Option Rule) (outcome : Outcome) → IsOk (if there then unless_broken broken outcome else Err answer.Unknown) → (if there then unless_broken broken outcome else Err answer.Unknown) ≡ Ok outcome
+well true broken outcome ok = unbroken broken outcome ok
+well false broken outcome ok = absurd (false≢true ok)
+
+-- a cup's draw, if a command draws one
+
+abbrev cup_outcome : Book → Bracket → Outcome
+cup_outcome book b = record { made = cup_made book.cups; book = record book { cups = book.cups ++ b ∷ [] } }
+
+drawn_ruled : {T : Type 0} (book : Book) (facts : Facts) (drawn : Option Bracket) (r : Result T Answer)
+    → IsAnswered (option_map_or (draw_answer facts (is_issued book.entries) (is_registered book.entries) (length book.cups)) drawn (Some answer.Unknown)) r
+    → IsRuled (option_map_or (cup_ruled book facts) drawn (Err answer.Unknown)) r
+drawn_ruled book facts None (Ok value) a = absurd (none-some answer.Unknown (sym a))
+drawn_ruled book facts None (Err reply) a = ap Err (same_Some answer.Unknown reply a)
+drawn_ruled book facts (Some b) r a =
+    by_answer (cup_there facts (is_issued book.entries) b) (cup_broken facts (is_registered book.entries) (length book.cups) b) (cup_outcome book b) r a
+
+record Drawn (book : Book) (facts : Facts) (drawn : Option Bracket) : Type 0 where
+  outcome : Outcome
+  is : option_map_or (cup_ruled book facts) drawn (Err answer.Unknown) ≡ Ok outcome
+  makes : outcome.made ≡ cup_made book.cups
+  behind : outcome.book ≡ record book { cups = option_map_or (λ b. book.cups ++ b ∷ []) drawn book.cups }
+
+drawn_well : (book : Book) (facts : Facts) (drawn : Option Bracket) → IsOk (option_map_or (cup_ruled book facts) drawn (Err answer.Unknown)) → Drawn book facts drawn
+drawn_well book facts None ok = absurd (false≢true ok)
+drawn_well book facts (Some b) ok = record {
+  outcome = cup_outcome book b;
+  is = well (cup_there facts (is_issued book.entries) b) (cup_broken facts (is_registered book.entries) (length book.cups) b) (cup_outcome book b) ok;
+  makes = refl;
+  behind = refl;
+}
 
 module _ (operator : List ℕ) (book : Book) (caller : Caller) (now : ℕ) (command : Command) (running : Running) (plays : Plays running book) where
   in_facts : part_of command ≡ part.Facts → ruled operator book caller now command ≡ ruled_by book (judged (Some running.facts) now command)
@@ -47,7 +97,30 @@ module _ (operator : List ℕ) (book : Book) (caller : Caller) (now : ℕ) (comm
       ap (λ p. ruled_in p operator book caller now command) is
       ∙ ap (λ o. in_season o (λ f. ruled_of book f (caller_number caller) command (entry_in book.entries (caller_number caller)))) plays.facts
 
+  in_leagues : part_of command ≡ part.Leagues → ruled operator book caller now command ≡ leagues_ruled book running.facts (caller_number caller) command
+  in_leagues is =
+      ap (λ p. ruled_in p operator book caller now command) is ∙ ap (λ o. in_season o (λ f. leagues_ruled book f (caller_number caller) command)) plays.facts
+
+  in_cups : part_of command ≡ part.Cups → ruled operator book caller now command ≡ cups_ruled book running.facts command
+  in_cups is = ap (λ p. ruled_in p operator book caller now command) is ∙ ap (λ o. in_season o (λ f. cups_ruled book f command)) plays.facts
+
   -- judging
+
+  pub league_ruled : {T : Type 0} (result : Result T Answer) → part_of command ≡ part.Leagues
+      → IsLeagueJudgedByBooks running.facts running.managers running.leagues (caller_number caller) command result → IsRuled (ruled operator book caller now command) result
+  league_ruled result is judged =
+      let e = caller_number caller in
+      subst (λ r. IsRuled r result) (sym (in_leagues is))
+      (by_answer (leagues_there running.facts (is_issued book.entries) book.leagues command) (league_refusal running.facts (is_registered book.entries e) book.leagues e command)
+      (record { made = league_made book.leagues command; book = record book { leagues = leagues_after book.leagues e command } }) result
+      (subst (λ l. IsAnswered (league_answer running.facts (is_issued book.entries) (is_registered book.entries) l e command) result) (sym plays.leagues) (judged book.entries plays.entries)))
+
+  pub cup_judged : {T : Type 0} (result : Result T Answer) → part_of command ≡ part.Cups
+      → IsCupJudgedByBooks running.facts running.managers (length running.cups) command result → IsRuled (ruled operator book caller now command) result
+  cup_judged result is judged =
+      subst (λ r. IsRuled r result) (sym (in_cups is))
+      (drawn_ruled book running.facts (cup_drawn command) result
+      (subst (λ l. IsAnswered (cup_answer running.facts (is_issued book.entries) (is_registered book.entries) (length l) command) result) (sym plays.cups) (judged book.entries plays.entries)))
 
   pub facts_ruled : {T : Type 0} (result : Result T Answer) → part_of command ≡ part.Facts → IsWeighed running.facts now command result → IsRuled (ruled operator book caller now command) result
   facts_ruled (Ok value) is granted = subst IsOk (sym (in_facts is ∙ ap (ruled_by book) (granted_is running.facts now command granted))) refl
@@ -61,15 +134,6 @@ module _ (operator : List ℕ) (book : Book) (caller : Caller) (now : ℕ) (comm
       (sym (in_deeds is ∙ ap (λ n. ruled_of book running.facts n command (entry_in book.entries n)) number ∙ ap (ruled_of book running.facts e command) there.1))
       (by_answer (names_players running.facts command) (deed_refusal running.facts there.0.history command)
       (record { made = made.Nothing; book = with_history book e (history_after running.facts there.0.history command) }) result (judged book.entries there.0 plays.entries there.1))
-    where
-      by_answer : {T : Type 0} (names : Bool) (broken : Option Rule) (outcome : Outcome) (r : Result T Answer)
-          → IsAnswered (if names then option_map answer.Rule broken else Some answer.Unknown) r → IsRuled (if names then unless_broken broken outcome else Err answer.Unknown) r
-      by_answer true None outcome (Ok value) a = refl
-      by_answer true None outcome (Err reply) a = absurd (none-some reply a)
-      by_answer true (Some broken) outcome (Ok value) a = absurd (none-some (answer.Rule broken) (sym a))
-      by_answer true (Some broken) outcome (Err reply) a = ap Err (same_Some (answer.Rule broken) reply a)
-      by_answer false broken outcome (Ok value) a = absurd (none-some answer.Unknown (sym a))
-      by_answer false broken outcome (Err reply) a = ap Err (same_Some answer.Unknown reply a)
 
   pub nobody_ruled : (law : EntriesAreIssued) (e : ℕ) → part_of command ≡ part.Deeds → caller_number caller ≡ e → entry_in book.entries e ≡ None → ruled operator book caller now command ≡ Err answer.Unknown
   nobody_ruled law e is number none =
@@ -78,12 +142,12 @@ module _ (operator : List ℕ) (book : Book) (caller : Caller) (now : ℕ) (comm
   -- doing
 
   pub facts_done : (after : Running) → (law : FactsLeaveEntries) → part_of command ≡ part.Facts → IsGranted running.facts now command
-      → after ≡ record { facts = changed_by running.facts command; managers = running.managers }
-      → Leads (ruled operator book caller now command) book (made_by running.managers command) after
+      → after ≡ record running { facts = changed_by running.facts command }
+      → Leads (ruled operator book caller now command) book (made_by running command) after
   facts_done after law is granted same = record {
     outcome = record { made = made.Nothing; book = record book { facts = Some (changed_by running.facts command) } };
     is_ruled = in_facts is ∙ ap (ruled_by book) (granted_is running.facts now command granted);
-    makes = sym (ap (λ p. made_in p running.managers) is);
+    makes = sym (ap (λ p. made_in p running command) is);
     plays = subst (λ r. Plays r (record book { facts = Some (changed_by running.facts command) })) (sym same) (record {
       facts = refl;
       entries = (law running.facts now command running.managers granted).books book.entries plays.entries;
@@ -94,9 +158,9 @@ module _ (operator : List ℕ) (book : Book) (caller : Caller) (now : ℕ) (comm
   }
 
   pub deed_done : (after : Running) (law : EntriesAreIssued) (e : ℕ) → part_of command ≡ part.Deeds → caller_number caller ≡ e → 1 ≤ e → e ≤ length running.managers
-      → after.facts ≡ running.facts → StandForBooksAfter running.facts e command running.managers after.managers → IsOk (ruled operator book caller now command)
-      → Leads (ruled operator book caller now command) book (made_by running.managers command) after
-  deed_done after law e is number one few same stand ok =
+      → after.facts ≡ running.facts → after.leagues ≡ running.leagues → after.cups ≡ running.cups → StandForBooksAfter running.facts e command running.managers after.managers → IsOk (ruled operator book caller now command)
+      → Leads (ruled operator book caller now command) book (made_by running command) after
+  deed_done after law e is number one few same leagues cups stand ok =
       let there = (law running.facts.players running.managers book.entries e plays.entries).there one few in
       let outcome : Outcome = record { made = made.Nothing; book = with_history book e (history_after running.facts there.0.history command) } in
       let ruled_is : ruled operator book caller now command ≡ ruled_of book running.facts e command (Some there.0) =
@@ -104,46 +168,73 @@ module _ (operator : List ℕ) (book : Book) (caller : Caller) (now : ℕ) (comm
       record {
         outcome = outcome;
         is_ruled = ruled_is ∙ well (names_players running.facts command) (deed_refusal running.facts there.0.history command) outcome (subst IsOk ruled_is ok);
-        makes = sym (ap (λ p. made_in p running.managers) is);
+        makes = sym (ap (λ p. made_in p running command) is);
         plays = record {
           facts = plays.facts ∙ ap Some (sym same);
           entries = subst (λ f. AreEntries f.players after.managers outcome.book.entries) (sym same) (stand book.entries there.0 plays.entries there.1);
-          leagues = plays.leagues;
-          cups = plays.cups;
+          leagues = plays.leagues ∙ sym leagues;
+          cups = plays.cups ∙ sym cups;
         };
         lasts = refl;
       }
-    where
-      unbroken : (broken : Option Rule) (outcome : Outcome) → IsOk (unless_broken broken outcome) → unless_broken broken outcome ≡ Ok outcome
-      unbroken None outcome ok = refl
-      unbroken (Some broken) outcome ok = absurd (false≢true ok)
 
-      well : (names : Bool) (broken : Option Rule) (outcome : Outcome) → IsOk (if names then unless_broken broken outcome else Err answer.Unknown) → (if names then unless_broken broken outcome else Err answer.Unknown) ≡ Ok outcome
-      well true broken outcome ok = unbroken broken outcome ok
-      well false broken outcome ok = absurd (false≢true ok)
-
-  pub key_done : (key name : List ℕ) (after : Running) → command ≡ commands.Key key name → after.facts ≡ running.facts → length book.entries ≡ length running.managers
+  pub key_done : (key name : List ℕ) (after : Running) → command ≡ commands.Key key name → after.facts ≡ running.facts → after.leagues ≡ running.leagues → after.cups ≡ running.cups → length book.entries ≡ length running.managers
       → AreEntries running.facts.players after.managers (book.entries ++ record { key = key; name = name; history = [] } ∷ []) → IsOk (ruled operator book caller now command)
-      → Leads (ruled operator book caller now command) book (made_by running.managers command) after
-  key_done key name after is same many stand ok =
+      → Leads (ruled operator book caller now command) book (made_by running command) after
+  key_done key name after is same leagues cups many stand ok =
       let outcome : Outcome = with_entry book key name in
       let ruled_is : ruled operator book caller now command ≡ keyed operator book (commands.Key key name) = in_entries (ap part_of is) ∙ ap (keyed operator book) is in
       record {
         outcome = outcome;
         is_ruled = ruled_is ∙ unbroken (key_refusal operator book.entries key) outcome (subst IsOk ruled_is ok);
-        makes = ap (λ n. made.Entry (n + 1)) many ∙ sym (ap (λ c. made_by running.managers c) is);
+        makes = ap (λ n. made.Entry (n + 1)) many ∙ sym (ap (λ c. made_by running c) is);
         plays = record {
           facts = plays.facts ∙ ap Some (sym same);
           entries = subst (λ f. AreEntries f.players after.managers outcome.book.entries) (sym same) stand;
-          leagues = plays.leagues;
-          cups = plays.cups;
+          leagues = plays.leagues ∙ sym leagues;
+          cups = plays.cups ∙ sym cups;
         };
         lasts = refl;
       }
-    where
-      unbroken : (broken : Option Rule) (outcome : Outcome) → IsOk (unless_broken broken outcome) → unless_broken broken outcome ≡ Ok outcome
-      unbroken None outcome ok = refl
-      unbroken (Some broken) outcome ok = absurd (false≢true ok)
+
+  pub league_done : (after : Running) → part_of command ≡ part.Leagues
+      → after ≡ record running { leagues = leagues_after running.leagues (caller_number caller) command } → IsOk (ruled operator book caller now command)
+      → Leads (ruled operator book caller now command) book (made_by running command) after
+  league_done after is same ok =
+      let e = caller_number caller in
+      let outcome : Outcome = record { made = league_made book.leagues command; book = record book { leagues = leagues_after book.leagues e command } } in
+      record {
+        outcome = outcome;
+        is_ruled = in_leagues is
+            ∙ well (leagues_there running.facts (is_issued book.entries) book.leagues command) (league_refusal running.facts (is_registered book.entries e) book.leagues e command) outcome
+            (subst IsOk (in_leagues is) ok);
+        makes = ap (λ l. league_made l command) plays.leagues ∙ sym (ap (λ p. made_in p running command) is);
+        plays = subst (λ r. Plays r outcome.book) (sym same) (record {
+          facts = plays.facts;
+          entries = plays.entries;
+          leagues = ap (λ l. leagues_after l e command) plays.leagues;
+          cups = plays.cups;
+        });
+        lasts = refl;
+      }
+
+  pub cup_done : (after : Running) → part_of command ≡ part.Cups
+      → after ≡ record running { cups = cups_after running.cups command } → IsOk (ruled operator book caller now command)
+      → Leads (ruled operator book caller now command) book (made_by running command) after
+  cup_done after is same ok =
+      let drawn = drawn_well book running.facts (cup_drawn command) (subst IsOk (in_cups is) ok) in
+      record {
+        outcome = drawn.outcome;
+        is_ruled = in_cups is ∙ drawn.is;
+        makes = drawn.makes ∙ ap cup_made plays.cups ∙ sym (ap (λ p. made_in p running command) is);
+        plays = subst (Plays after) (sym drawn.behind) (subst (λ r. Plays r (record book { cups = cups_after book.cups command })) (sym same) (record {
+          facts = plays.facts;
+          entries = plays.entries;
+          leagues = plays.leagues;
+          cups = ap (λ l. cups_after l command) plays.cups;
+        }));
+        lasts = ap (λ (b : Book). b.lasts) drawn.behind;
+      }
 
 -- what follows where a call went well
 pub on_ok : {T E P Q : Type 0} (r : Result T E) → OnOk r P → (P → Q) → OnOk r Q

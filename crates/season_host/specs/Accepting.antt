@@ -10,6 +10,7 @@ use Rattle.season_book.specs.Book.{Book, Last, caller_number}
 use Rattle.season_book.specs.Commands.{part_of}
 use Rattle.season_book.specs.Doing.{IsGranted, IsRefused}
 use Rattle.season_book.specs.Hosts.{row_at}
+use Rattle.season_book.specs.LeagueCommands.{cup_made, league_made}
 use Rattle.season_book.specs.Verdict.{Outcome, accepted, judged, ruled}
 use Rattle.season_book.specs.declared.answer.Answer.{Answer}
 use Rattle.season_book.specs.declared.answer.Answer.TheVariants as answer
@@ -19,17 +20,21 @@ use Rattle.season_book.specs.declared.made.Made.{Made}
 use Rattle.season_book.specs.declared.made.Made.TheVariants as made
 use Rattle.season_book.specs.declared.part.Part.{Part}
 use Rattle.season_book.specs.declared.part.Part.TheVariants as part
+use Rattle.season_competitions.specs.Cups.{IsCupGranted}
+use Rattle.season_competitions.specs.Leagues.{IsLeagueGranted}
 use Rattle.season_entries.specs.Deeds.{IsDeedGranted}
 use Rattle.season_host.specs.Standing.{HostRows, Plays, Running, StandsIn}
 
--- what a command makes, where nothing refuses it: a new entry is the next one
-abbrev pub made_in : Part → List Manager → Made
-made_in part.Facts managers = made.Nothing
-made_in part.Entries managers = made.Entry (length managers + 1)
-made_in part.Deeds managers = made.Nothing
+-- what a command makes, where nothing refuses it: a new entry, league or cup has the next number
+abbrev pub made_in : Part → Running → Command → Made
+made_in part.Facts running command = made.Nothing
+made_in part.Entries running command = made.Entry (length running.managers + 1)
+made_in part.Deeds running command = made.Nothing
+made_in part.Leagues running command = league_made running.leagues command
+made_in part.Cups running command = cup_made running.cups
 
-abbrev pub made_by : List Manager → Command → Made
-made_by managers command = made_in (part_of command) managers
+abbrev pub made_by : Running → Command → Made
+made_by running command = made_in (part_of command) running command
 
 -- there is room for the entry that a command makes, and none has its key
 abbrev pub HasRoom : List Manager → Command → Type 0
@@ -42,6 +47,8 @@ IsGrantedIn part.Facts running e now command = IsGranted running.facts now comma
 IsGrantedIn part.Entries running e now command = HasRoom running.managers command
 IsGrantedIn part.Deeds running e now command =
     (1 ≤ e) × (e ≤ length running.managers) × IsDeedGranted running.facts (manager_in running.managers e).season command
+IsGrantedIn part.Leagues running e now command = IsLeagueGranted running.facts running.leagues e command
+IsGrantedIn part.Cups running e now command = IsCupGranted running.facts running.cups command
 
 abbrev pub IsGrantedTo : Running → Caller → ℕ → Command → Type 0
 IsGrantedTo running caller now command = IsGrantedIn (part_of command) running (caller_number caller) now command
@@ -69,7 +76,7 @@ pub record Leads (ruled : Result Outcome Answer) (book : Book) (made : Made) (af
 abbrev pub IsDone : Caller → ℕ → Command → Running → Running → Type 0
 IsDone caller now command before after =
     (operator : List ℕ) (book : Book) → Plays before book → IsOk (ruled operator book caller now command)
-    → Leads (ruled operator book caller now command) book (made_by before.managers command) after
+    → Leads (ruled operator book caller now command) book (made_by before command) after
 
 -- the last commands with this one in its caller's place
 abbrev pub kept_last : List (ℕ × Last) → Caller → ℕ → Command → Made → List (ℕ × Last)
@@ -87,7 +94,7 @@ IsKept caller number command made old new (Err memory) = new ≡ old
 -- a command that nothing refuses was done on a running season and kept, or memory ran out, and all is as before
 abbrev pub IsTakenOrOut : Caller → ℕ → ℕ → Command → Running → Running → List (ℕ × Last) → List (ℕ × Last) → Result Made Memory → Type 0
 IsTakenOrOut caller now number command before after old new (Ok made) =
-    (made ≡ made_by before.managers command) × IsDone caller now command before after × (new ≡ kept_last old caller number command made)
+    (made ≡ made_by before command) × IsDone caller now command before after × (new ≡ kept_last old caller number command made)
 IsTakenOrOut caller now number command before after old new (Err memory) = (after ≡ before) × (new ≡ old)
 
 -- a command was done on a running season and kept, or it was refused, or memory ran out, and all is as before
@@ -99,10 +106,16 @@ IsTaken operator caller now number command before after old new (Err reply) =
     (after ≡ before) × (new ≡ old)
     × ((book : Book) → Plays before book → IsRefused (ruled operator book caller now command) reply)
 
--- a command began a season without entries and was kept, or it was refused, or memory ran out
+-- a season without entries, leagues and cups
+pub record IsNew (running : Running) : Type 0 where
+  pub managers : running.managers ≡ []
+  pub leagues : running.leagues ≡ []
+  pub cups : running.cups ≡ []
+
+-- a command began a new season and was kept, or it was refused, or memory ran out
 abbrev pub IsBegunAndKept : Caller → ℕ → ℕ → Command → List (ℕ × Last) → List (ℕ × Last) → Result Running Answer → Type 0
 IsBegunAndKept caller now number command old new (Ok running) =
-    (judged None now command ≡ Ok running.facts) × (running.managers ≡ [])
+    (judged None now command ≡ Ok running.facts) × IsNew running
     × (new ≡ kept_last old caller number command made.Nothing)
 IsBegunAndKept caller now number command old new (Err reply) =
     (new ≡ old) × IsRefused (judged None now command) reply

@@ -2,7 +2,9 @@
 use Rattle.std.specs.Prelude.{◌≡◌, ℕ, List, [], Option, Some, None, map}
 use Rattle.std.specs.Option.{option_map, option_map_or}
 use Rattle.fpl_base.specs.declared.kinds.Caller.{Caller}
+use Rattle.rule_book.specs.declared.cup.Bracket.{Bracket}
 use Rattle.rule_book.specs.declared.player.Player.{Player}
+use Rattle.rule_book.specs.Leagues.{LeagueFacts}
 use Rattle.manager_book.specs.declared.manager.Manager.{Manager}
 use Rattle.manager_book.specs.Managers.{Managers}
 use Rattle.rule_book.specs.ById.{at_id}
@@ -14,30 +16,35 @@ use Rattle.season_entries.specs.Entries.{AreEntries}
 
 -- A season with its entries.
 
--- the facts, and the entries with their rows
+-- the facts, the entries with their rows, the leagues and the cups
 pub record Running : Type 0 where
   pub facts : Facts
   pub managers : List Manager
+  pub leagues : List LeagueFacts
+  pub cups : List Bracket
 
 -- the managers play by the season's rules, and did nothing for a gameweek behind the next one or the last
 pub record InStep (facts : Facts) (book : Managers) : Type 0 where
   pub profile : book.profile ≡ facts.profile
   pub early : AreEarly facts book.managers
 
--- a running season stands for a book: the same facts, entries whose rows stand for their histories, no league and no cup
+-- a running season stands for a book: the same facts, leagues and cups, and entries whose rows stand for their histories
 pub record Plays (running : Running) (book : Book) : Type 0 where
   pub facts : book.facts ≡ Some running.facts
   pub entries : AreEntries running.facts.players running.managers book.entries
-  pub leagues : book.leagues ≡ []
-  pub cups : book.cups ≡ []
+  pub leagues : book.leagues ≡ running.leagues
+  pub cups : book.cups ≡ running.cups
 
 -- A host.
 
--- the operator's key, the facts, once there is a season, the entries with their rows, and each caller's last command
+-- the operator's key, the facts, once there is a season, the entries with their rows, the leagues, the cups, and each
+-- caller's last command
 pub record HostRows : Type 0 where
   pub operator : List ℕ
   pub facts : Option Facts
   pub managers : List Manager
+  pub leagues : List LeagueFacts
+  pub cups : List Bracket
   pub lasts : List (ℕ × Last)
 
 -- the rows of a host whose season runs, or is not there yet
@@ -46,12 +53,14 @@ host_rows operator running lasts = record {
   operator = operator;
   facts = option_map (λ r. r.facts) running;
   managers = option_map_or (λ r. r.managers) running [];
+  leagues = option_map_or (λ r. r.leagues) running [];
+  cups = option_map_or (λ r. r.cups) running [];
   lasts = lasts;
 }
 
 -- a host without a season
 abbrev pub empty_rows : List ℕ → HostRows
-empty_rows operator = record { operator = operator; facts = None; managers = []; lasts = [] }
+empty_rows operator = record { operator = operator; facts = None; managers = []; leagues = []; cups = []; lasts = [] }
 
 -- the rows when a moment was told
 abbrev pub passed : ℕ → HostRows → HostRows
@@ -69,12 +78,13 @@ players_in facts = option_map_or (λ f. f.players) facts []
 abbrev pub keys_in : HostRows → List (List ℕ)
 keys_in host = map (λ manager. manager.key) host.managers
 
--- a host stands for a book: the same facts and last commands, and entries whose rows stand for their histories
+-- a host stands for a book: the same facts, leagues, cups and last commands, and entries whose rows stand for their
+-- histories
 pub record StandsIn (host : HostRows) (book : Book) : Type 0 where
   pub facts : book.facts ≡ host.facts
   pub entries : AreEntries (players_in host.facts) host.managers book.entries
-  pub leagues : book.leagues ≡ []
-  pub cups : book.cups ≡ []
+  pub leagues : book.leagues ≡ host.leagues
+  pub cups : book.cups ≡ host.cups
   pub lasts : book.lasts ≡ host.lasts
 
 -- the same with the operator's key

@@ -1,12 +1,14 @@
 // The host of a season.
-ghost use Rattle.std.specs.Prelude.{◌≡◌, ◌≤◌, Some, IfErr, MatchResult, IsOk};
+ghost use Rattle.std.specs.Prelude.{◌≡◌, ◌≢◌, ◌≤◌, Some, IfErr, MatchResult, IsOk};
 ghost use Rattle.rule_book.specs.Refusals.{IsJudged};
 ghost use Rattle.season_book.specs.Book.{Book, last_number};
 ghost use Rattle.season_book.specs.Commands.{IsCommand};
 ghost use Rattle.season_book.specs.Doing.{IsOutLate, IsShown, IsStoreless, MayAnswerIn};
 ghost use Rattle.season_book.specs.Hosts.{IsRequest, caller_with, owner_of};
-ghost use Rattle.season_book.specs.Verdict.{MayAnswer, fact_shown, number_refusal, pass, view_answer};
+ghost use Rattle.season_book.specs.Verdict.{Failures, MayAnswer, fact_shown, number_refusal, pass, view_answer};
+ghost use Rattle.season_book.specs.declared.answer.Answer.TheVariants as answer_of;
 ghost use Rattle.season_book.specs.declared.request.Request.TheVariants as request_of;
+ghost use Rattle.season_isolation.specs.Isolation.{ToldAlike};
 ghost use Rattle.season_host.specs.Accepting.{IsAccepted};
 ghost use Rattle.season_host.specs.EntryLaws.{IsOrderlyHost};
 ghost use Rattle.season_host.specs.Standing.{Follows, StandsIn, empty_rows, keys_in, number_at, passed};
@@ -17,6 +19,7 @@ use crate::running::RunningSeason;
 use fpl_base::{Caller, Keeper, Key, Memory, Moment, RecordKey, Rule, Steps};
 use season_book::{Answer, Command, Made, Request, View};
 use season_facts::Season;
+use season_isolation::answers_are_isolated;
 use season_views::show;
 use std::alloc::Global;
 use std::marker::Model;
@@ -135,7 +138,29 @@ impl Host {
         requires { IsRequest request.now }
         ensures answered { Follows self.old self.new (λ book after. MayAnswer self.old.operator (record { before = K.faults keeper.old; behind = K.faults keeper.new }) book caller now request.now result after) }
         ensures late { (book : Book) → StandsIn self.old book → IsOutLate self.old.operator (pass book now) caller now request.now result }
+        ensures isolated { result ≢ answer_of.Memory → (book : Book) → StandsIn self.old book → ToldAlike self.old.operator book caller now request.now result }
         ensures keeper { keeper.new ≡ keeper.old }
+        ensures operator { self.new.operator ≡ self.old.operator }
+        ensures storeless { IsStoreless result }
+    {
+        // The law that what may be answered is isolated, for the prover.
+        answers_are_isolated();
+        self.answer_by_book(keeper, caller, now, request, steps)
+    }
+
+    // The same, by what may be answered in a book.
+    fn answer_by_book<K: Keeper, L: Ledger>(
+        &mut self,
+        _keeper: &mut K,
+        caller: Caller,
+        now: Moment,
+        request: &Request,
+        steps: &mut Steps<L>,
+    ) -> Answer
+        requires { IsRequest request.now }
+        ensures answered { (failures : Failures) → Follows self.old self.new (λ book after. MayAnswer self.old.operator failures book caller now request.now result after) }
+        ensures late { (book : Book) → StandsIn self.old book → IsOutLate self.old.operator (pass book now) caller now request.now result }
+        ensures keeper { _keeper.new ≡ _keeper.old }
         ensures operator { self.new.operator ≡ self.old.operator }
         ensures storeless { IsStoreless result }
     {
@@ -170,6 +195,8 @@ impl Host {
             View::EntryGameweek { entry, gameweek } => {
                 running.entry_gameweek(entry, gameweek, steps)
             }
+            View::League { league } => running.league(self.alloc, league, steps),
+            View::Cup { cup } => running.cup(self.alloc, cup, steps),
             View::Season
             | View::Player { .. }
             | View::PlayerGameweek { .. }

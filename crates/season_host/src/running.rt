@@ -1,14 +1,18 @@
 // A season with its entries.
-ghost use Rattle.std.specs.Prelude.{◌≡◌, ◌≤◌, ℕ, List, [], IfErr, OnOk, OnErr, None, length, if◌then◌else◌};
+ghost use Rattle.std.specs.Prelude.{◌≡◌, ◌≤◌, ℕ, List, [], IfErr, IfOk, OnOk, OnErr, None, length, if◌then◌else◌};
 ghost use Rattle.fpl_base.specs.Texts.{is_key};
 ghost use Rattle.fpl_base.specs.declared.kinds.Caller.{Caller};
 ghost use Rattle.manager_book.specs.Managers.{manager_in};
 ghost use Rattle.season_book.specs.Book.{Book, caller_number, last_number};
 ghost use Rattle.season_book.specs.Commands.{IsCommand, part_of};
-ghost use Rattle.season_book.specs.Doing.{IsGranted, IsStoreless};
+ghost use Rattle.season_book.specs.Doing.{IsGranted, IsShown, IsStoreless};
 ghost use Rattle.season_book.specs.Verdict.{locked_at, ruled, seen_in};
+ghost use Rattle.season_book.specs.declared.answer.Answer.TheVariants as answer;
 ghost use Rattle.season_book.specs.declared.part.Part.TheVariants as part;
 ghost use Rattle.season_book.specs.declared.request.View.TheVariants as view;
+ghost use Rattle.season_book.specs.declared.shown.Shown.{Shown};
+ghost use Rattle.season_competitions.specs.Cups.{IsCupGranted};
+ghost use Rattle.season_competitions.specs.Leagues.{IsLeagueGranted};
 ghost use Rattle.season_entries.specs.Deeds.{IsDeedGranted};
 ghost use Rattle.season_entries.specs.Keys.{keys_of};
 ghost use Rattle.season_book.specs.Hosts.{entry_with};
@@ -16,25 +20,30 @@ ghost use Rattle.season_host.specs.Accepting.{HasRoom, IsDone, IsGrantedTo, IsRe
 ghost use Rattle.season_host.specs.EntryLaws.{IsOrderly};
 ghost use Rattle.season_host.specs.Standing.{Plays};
 
-use fpl_base::{Caller, EntryId, Key, Memory, Moment, Rule, Steps};
+use classic_leagues::Leagues;
+use cup_rounds::Cups;
+use fpl_base::{Caller, CupId, EntryId, Key, LeagueId, Memory, Moment, Rule, Steps};
 use manager_book::ManagerBook;
 use season_book::{Answer, Command, Made, Part, Shown};
+use season_competitions::{do_cup, do_league, judge_cup, judge_league};
 use season_entries::{
     do_deed, do_key, early_is_in_time, entries_are_issued, facts_leave_entries, judge_deed,
     judge_key, moments_leave_entries, owners_are_alike,
 };
 use season_facts::Season;
-use season_views::{entry_gameweek, my_entry};
+use season_views::{cup, entry_gameweek, league, my_entry};
 use std::alloc::Global;
 use std::marker::Model;
 use std::sync::ledger::Ledger;
 
-/// A season with its entries: what the operator handed in, and what the managers did. A contract sees the facts, and the
-/// managers with their rows.
+/// A season with its entries, leagues and cups: what the operator handed in, and what the managers did. A contract sees
+/// the facts, the managers with their rows, the leagues and the cups.
 #[derive(Drop)]
 pub struct RunningSeason {
     season: Season,
     managers: ManagerBook,
+    leagues: Leagues,
+    cups: Cups,
 }
 
 impl Model for RunningSeason {
@@ -42,18 +51,23 @@ impl Model for RunningSeason {
 
     ghost Value = { Running };
 
-    ghost view = { λ r. record { facts = r.season; managers = r.managers.managers } };
+    ghost view = { λ r. record { facts = r.season; managers = r.managers.managers; leagues = r.leagues; cups = r.cups } };
 
     ghost invariant = { λ r. InStep r.season r.managers };
 }
 
 impl RunningSeason {
-    /// A season that begins, without entries.
+    /// A season that begins, without entries, leagues and cups.
     pub fn begin(alloc: Global, season: Season) -> Self
-        ensures { result ≡ record { facts = season; managers = [] } }
+        ensures { result ≡ record { facts = season; managers = []; leagues = []; cups = [] } }
     {
         let managers = ManagerBook::new(alloc, season.profile());
-        RunningSeason { season, managers }
+        RunningSeason {
+            season,
+            managers,
+            leagues: Leagues::new(alloc),
+            cups: Cups::new(alloc),
+        }
     }
 
     /// What the operator handed in.
@@ -73,7 +87,7 @@ impl RunningSeason {
 
     /// Locks the gameweeks whose deadlines have passed.
     pub fn pass(&mut self, now: Moment)
-        ensures { self.new ≡ record { facts = locked_at now self.old.facts; managers = self.old.managers } }
+        ensures { self.new ≡ record self.old { facts = locked_at now self.old.facts } }
     {
         // The law that nothing was done later than the next gameweek, for the prover.
         moments_leave_entries();
@@ -117,6 +131,8 @@ impl RunningSeason {
             Part::Facts => self.season.judge(now, command, steps),
             Part::Entries => self.judge_entry(operator, command),
             Part::Deeds => self.judge_deed(caller, command),
+            Part::Leagues => self.judge_league(caller, command),
+            Part::Cups => self.judge_cup(command),
         }
     }
 
@@ -159,13 +175,47 @@ impl RunningSeason {
         }
     }
 
-    /// What a command makes, where nothing refuses it: a new entry has the next number.
-    pub fn made_by(&self, command: &Command) -> Made
-        ensures { result ≡ made_by self.now.managers command.now }
+    // The same of a command on leagues.
+    fn judge_league(&self, caller: &Caller, command: &Command) -> Result<(), Answer>
+        requires { part_of command.now ≡ part.Leagues }
+        ensures granted { (now : ℕ) → OnOk result (IsGrantedTo self.now caller.now now command.now) }
+        ensures ruled { (operator : List ℕ) (now : ℕ) (book : Book) → Plays self.now book → IsRuled (ruled operator book caller.now now command.now) result }
+        ensures refusal { IfErr result IsRefusal }
     {
-        match command.part() {
-            Part::Entries => match EntryId::new(self.managers.entries() + 1) {
+        judge_league(
+            &self.season,
+            &self.managers,
+            &self.leagues,
+            caller,
+            command,
+        )
+    }
+
+    // The same of the draw of a cup.
+    fn judge_cup(&self, command: &Command) -> Result<(), Answer>
+        requires { part_of command.now ≡ part.Cups }
+        ensures granted { (now : ℕ) (caller : Caller) → OnOk result (IsGrantedTo self.now caller now command.now) }
+        ensures ruled { (operator : List ℕ) (now : ℕ) (caller : Caller) (book : Book) → Plays self.now book → IsRuled (ruled operator book caller now command.now) result }
+        ensures refusal { IfErr result IsRefusal }
+    {
+        judge_cup(&self.season, &self.managers, &self.cups, command)
+    }
+
+    /// What a command makes, where nothing refuses it: a new entry, league or cup has the next number.
+    pub fn made_by(&self, command: &Command) -> Made
+        ensures { result ≡ made_by self.now command.now }
+    {
+        match command {
+            Command::Key { .. } => match EntryId::new(self.managers.entries() + 1) {
                 Some(entry) => Made::Entry(entry),
+                None => Made::Nothing,
+            },
+            Command::League { .. } => match LeagueId::new(self.leagues.count() + 1) {
+                Some(league) => Made::League(league),
+                None => Made::Nothing,
+            },
+            Command::Cup { .. } => match CupId::new(self.cups.count() + 1) {
+                Some(cup) => Made::Cup(cup),
                 None => Made::Nothing,
             },
             _ => Made::Nothing,
@@ -183,6 +233,8 @@ impl RunningSeason {
             Part::Facts => self.change_facts(caller, now, command),
             Part::Entries => self.add_entry(command),
             Part::Deeds => self.do_deed(caller, command),
+            Part::Leagues => self.do_league(caller, command),
+            Part::Cups => self.do_cup(command),
         }
     }
 
@@ -236,6 +288,26 @@ impl RunningSeason {
         }
     }
 
+    // Does a command on leagues.
+    fn do_league(&mut self, caller: &Caller, command: &Command) -> Result<(), Memory>
+        requires part { part_of command.now ≡ part.Leagues }
+        requires granted { IsLeagueGranted self.old.facts self.old.leagues (caller_number caller.now) command.now }
+        ensures done { (now : ℕ) → OnOk result (IsDone caller.now now command.now self.old self.new) }
+        ensures err { OnErr result (self.new ≡ self.old) }
+    {
+        do_league(&self.season, &mut self.leagues, caller, command)
+    }
+
+    // Draws a cup.
+    fn do_cup(&mut self, command: &Command) -> Result<(), Memory>
+        requires part { part_of command.now ≡ part.Cups }
+        requires granted { IsCupGranted self.old.facts self.old.cups command.now }
+        ensures done { (now : ℕ) (caller : Caller) → OnOk result (IsDone caller now command.now self.old self.new) }
+        ensures err { OnErr result (self.new ≡ self.old) }
+    {
+        do_cup(&self.season, &mut self.cups, command)
+    }
+
     /// What a caller sees of his own entry, under the number of his last command. It is computed from his rows and the
     /// facts: each line of a match that it reads is a counted read.
     pub fn my_entry<L: Ledger>(&self, caller: &Caller, last: u64, steps: &mut Steps<L>) -> Answer
@@ -273,5 +345,44 @@ impl RunningSeason {
             Some(shown) => Answer::Shown(Shown::EntryGameweek(shown)),
             None => Answer::Unknown,
         }
+    }
+
+    /// The table of a league over the locked gameweeks. It is computed from the rows of its members and the facts.
+    pub fn league<L: Ledger>(&self, alloc: Global, number: u32, steps: &mut Steps<L>) -> Answer
+        ensures { (caller : Caller) (book : Book) → Plays self.now book → IsShown (seen_in book caller (view.League number) self.now.facts) result }
+    {
+        let Some(id) = LeagueId::new(number) else {
+            return Answer::Unknown;
+        };
+        match self.leagues.get(id) {
+            Some(there) => answer_of(league(alloc, &self.season, &self.managers, there, steps)),
+            None => Answer::Unknown,
+        }
+    }
+
+    /// The winners of the rounds of a cup, as far as they are locked. They are computed likewise.
+    pub fn cup<L: Ledger>(&self, alloc: Global, number: u32, steps: &mut Steps<L>) -> Answer
+        ensures { (caller : Caller) (book : Book) → Plays self.now book → IsShown (seen_in book caller (view.Cup number) self.now.facts) result }
+    {
+        let Some(id) = CupId::new(number) else {
+            return Answer::Unknown;
+        };
+        match self.cups.get(id) {
+            Some(there) => match cup(alloc, &self.season, &self.managers, there, steps) {
+                Ok(shown) => Answer::Shown(Shown::Cup(shown)),
+                Err(Memory) => Answer::Memory,
+            },
+            None => Answer::Unknown,
+        }
+    }
+}
+
+// What is shown, or want of memory.
+fn answer_of(shown: Result<Shown, Memory>) -> Answer
+    ensures { (due : Shown) → IfOk shown (λ s. s ≡ due) → IsShown (answer.Shown due) result }
+{
+    match shown {
+        Ok(shown) => Answer::Shown(shown),
+        Err(Memory) => Answer::Memory,
     }
 }

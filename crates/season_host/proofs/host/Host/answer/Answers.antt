@@ -1,25 +1,11 @@
-use Rattle.season_book.specs.declared.request.Request.TheVariants as request
-use Rattle.season_host.proofs.HostFacts.{command_follows, command_out_late, view_follows, view_out_late}
+use Rattle.std.proofs.Common.{subst}
+use Rattle.season_book.specs.Doing.{IsStoreless}
+use Rattle.season_book.specs.Verdict.{Failures}
 use Rattle.season_host.proofs.host.Host.answer.Goals as goal
 
-pub returns-in-View-clause-answered : goal.returns-in-View-clause-answered
-returns-in-View-clause-answered g c =
-    rw c.in-View.is
-    (view_follows c.args.self.now c.pass.new.self c.args.now c.pass.ensures _ c.args.caller c.in-View.view c.answer_view.result c.answer_view.ensures.shown)
-
-pub returns-in-Command-clause-answered : goal.returns-in-Command-clause-answered
-returns-in-Command-clause-answered g c =
-    rw c.in-Command.is
-    (command_follows c.args.self.now c.pass.new.self c.args.now c.pass.ensures c.answer_command.new.self _ c.args.caller (request.Command c.in-Command.number c.in-Command.command)
-    c.answer_command.result c.answer_command.ensures.answered)
-
-pub returns-in-View-clause-late : goal.returns-in-View-clause-late
-returns-in-View-clause-late g c =
-    rw c.in-View.is
-    (view_out_late c.args.self.now c.pass.new.self c.args.now c.pass.ensures c.args.caller c.in-View.view c.answer_view.result c.answer_view.ensures.shown)
-
-pub returns-in-Command-clause-late : goal.returns-in-Command-clause-late
-returns-in-Command-clause-late g c =
-    rw c.in-Command.is
-    (command_out_late c.args.self.now c.pass.new.self c.args.now c.pass.ensures c.args.caller (request.Command c.in-Command.number c.in-Command.command)
-    c.answer_command.result c.answer_command.ensures.late)
+pub returns-clause-isolated : goal.returns-clause-isolated
+returns-clause-isolated g c = λ some book stands.
+    let failures : Failures = record { before = 0; behind = 0 } in
+    let led = c.answer_by_book.ensures.answered failures book stands in
+    c.answers_are_isolated.ensures c.args.self.now.operator failures book c.args.caller c.args.now c.args.request.now c.answer_by_book.result led.0 led.2
+    some (λ keeper. subst IsStoreless keeper c.answer_by_book.ensures.storeless)

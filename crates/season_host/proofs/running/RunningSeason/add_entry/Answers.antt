@@ -19,13 +19,13 @@ invariant_of-self c = record {
 
 pub returns-after-do_key-clause-done : goal.returns-after-do_key-clause-done
 returns-after-do_key-clause-done c = λ now caller.
-    let before : Running = record { facts = c.self.inside.season; managers = c.self.inside.managers.managers } in
-    let after : Running = record { facts = c.self.inside.season; managers = c.do_key.new.managers.managers } in
+    let before : Running = record { facts = c.self.inside.season; managers = c.self.inside.managers.managers; leagues = c.self.inside.leagues; cups = c.self.inside.cups } in
+    let after : Running = record { facts = c.self.inside.season; managers = c.do_key.new.managers.managers; leagues = c.self.inside.leagues; cups = c.self.inside.cups } in
     elim c.match-do_key.branch [
       | in-Ok w ↦
           let done : IsDone caller now c.args.command.now c.args.self.now after =
           subst (λ (r : Running). IsDone caller now c.args.command.now r after) c.self.view_is
-          (λ operator book plays ok. key_done operator book caller now c.args.command.now before plays c.in-Key.key c.in-Key.name after c.in-Key.is refl
+          (λ operator book plays ok. key_done operator book caller now c.args.command.now before plays c.in-Key.key c.in-Key.name after c.in-Key.is refl refl refl
           (same_many before.facts.players before.managers book.entries plays.entries)
           (w.in-Ok.ensures.books before.facts.players book.entries plays.entries) ok) in
           rw w.result-is done

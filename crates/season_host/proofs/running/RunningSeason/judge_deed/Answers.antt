@@ -9,7 +9,7 @@ use Rattle.season_host.proofs.running.RunningSeason.judge_deed.Goals as goal
 
 pub returns-then-get-entries-clause-ruled : goal.returns-then-get-entries-clause-ruled
 returns-then-get-entries-clause-ruled c = λ operator now book plays.
-    let running : Running = record { facts = c.self.inside.season; managers = c.self.inside.managers.managers } in
+    let running : Running = record { facts = c.self.inside.season; managers = c.self.inside.managers.managers; leagues = c.self.inside.leagues; cups = c.self.inside.cups } in
     let plays_here : Plays running book = subst (λ r. Plays r book) (sym c.self.view_is) plays in
     let one : 1 ≤ c.in-Entry.entry = subst (λ n. 1 ≤ n) c.get.ensures.value c.get.ensures.range in
     let few : c.in-Entry.entry ≤ length running.managers = omega (arith, c.get.ensures.value, c.entries.ensures.count, c.if-get-entries.true) in
@@ -18,7 +18,7 @@ returns-then-get-entries-clause-ruled c = λ operator now book plays.
 
 pub returns-else-get-entries-clause-ruled : goal.returns-else-get-entries-clause-ruled
 returns-else-get-entries-clause-ruled c = λ operator now book plays.
-    let running : Running = record { facts = c.self.inside.season; managers = c.self.inside.managers.managers } in
+    let running : Running = record { facts = c.self.inside.season; managers = c.self.inside.managers.managers; leagues = c.self.inside.leagues; cups = c.self.inside.cups } in
     let plays_here : Plays running book = subst (λ r. Plays r book) (sym c.self.view_is) plays in
     let past : length running.managers < c.in-Entry.entry = omega (arith, c.get.ensures.value, c.entries.ensures.count, c.if-get-entries.false) in
     nobody_ruled operator book c.args.caller.now now c.args.command.now running plays_here c.entries_are_issued.ensures c.in-Entry.entry

@@ -19,7 +19,7 @@ use Rattle.season_host.proofs.running.RunningSeason.my_entry.Goals as goal
 
 pub returns-then-get-entries-clause-seen : goal.returns-then-get-entries-clause-seen
 returns-then-get-entries-clause-seen g c = λ book plays is_last.
-    let running : Running = record { facts = c.self.inside.season; managers = c.self.inside.managers.managers } in
+    let running : Running = record { facts = c.self.inside.season; managers = c.self.inside.managers.managers; leagues = c.self.inside.leagues; cups = c.self.inside.cups } in
     let here : Plays running book = subst (λ r. Plays r book) (sym c.self.view_is) plays in
     let past : length running.managers < c.in-Entry.entry = omega (arith, c.get.ensures.value, c.entries.ensures.count, c.if-get-entries.true) in
     let none = (c.entries_are_issued.ensures running.facts.players running.managers book.entries c.in-Entry.entry here.entries).none past in
@@ -32,7 +32,7 @@ my_entry-requires-clause-later g c =
 
 pub returns-in-Some-clause-seen : goal.returns-in-Some-clause-seen
 returns-in-Some-clause-seen g c = λ book plays is_last.
-    let running : Running = record { facts = c.self.inside.season; managers = c.self.inside.managers.managers } in
+    let running : Running = record { facts = c.self.inside.season; managers = c.self.inside.managers.managers; leagues = c.self.inside.leagues; cups = c.self.inside.cups } in
     let here : Plays running book = subst (λ r. Plays r book) (sym c.self.view_is) plays in
     let one : 1 ≤ c.in-Entry.entry = subst (λ n. 1 ≤ n) c.get.ensures.value c.get.ensures.range in
     let few : c.in-Entry.entry ≤ length running.managers = omega (arith, c.get.ensures.value, c.entries.ensures.count, c.if-get-entries.false) in
@@ -46,7 +46,7 @@ returns-in-Some-clause-seen g c = λ book plays is_last.
 
 pub returns-in-None-clause-seen : goal.returns-in-None-clause-seen
 returns-in-None-clause-seen g c = λ book plays is_last.
-    let running : Running = record { facts = c.self.inside.season; managers = c.self.inside.managers.managers } in
+    let running : Running = record { facts = c.self.inside.season; managers = c.self.inside.managers.managers; leagues = c.self.inside.leagues; cups = c.self.inside.cups } in
     let here : Plays running book = subst (λ r. Plays r book) (sym c.self.view_is) plays in
     let one : 1 ≤ c.in-Entry.entry = subst (λ n. 1 ≤ n) c.get.ensures.value c.get.ensures.range in
     let few : c.in-Entry.entry ≤ length running.managers = omega (arith, c.get.ensures.value, c.entries.ensures.count, c.if-get-entries.false) in
