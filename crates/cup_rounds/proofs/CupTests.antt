@@ -10,6 +10,7 @@ use Rattle.std.proofs.lemmas.List.Folds.{Any-from_list_any, list_any_at}
 use Rattle.std.proofs.lemmas.List.FromFn.{get_or-range_with_len, length-range_with_len}
 use Rattle.std.proofs.lemmas.List.Sums.{AllPass-from_list_all, list_all-from_AllPass}
 use Rattle.std.proofs.lemmas.Map.Made.{is_member-Decides}
+use Rattle.std.proofs.lemmas.Option.{none-some}
 use Rattle.fpl_base.specs.declared.rule.Rule.{Rule}
 use Rattle.fpl_base.specs.declared.rule.Rule.TheVariants.{StartPassed, DrawWrong}
 use Rattle.rule_book.specs.declared.cup.Bracket.{Bracket}
@@ -114,3 +115,12 @@ pub no_rule_broken : (b : Bracket) (gameweeks locked : ℕ) → locked < b.start
 unfolding judged
 no_rule_broken b gameweeks locked later cup =
     ap (λ p. judged b p (is_cup b gameweeks)) (lt-leb b.start locked later) ∙ ap (judged b false) ((is_cup-Decides b gameweeks).1 cup)
+
+-- where no rule is broken, the test holds
+pub unbroken_cup : (b : Bracket) (gameweeks locked : ℕ) → wrong_cup b gameweeks locked ≡ None → IsCup b gameweeks
+unbroken_cup b gameweeks locked none = (is_cup-Decides b gameweeks).0 (by_tests (nat_le b.start locked) (is_cup b gameweeks) none)
+  where
+    by_tests : (passed cup : Bool) → cond passed (Some (StartPassed b.start)) (cond cup None (Some DrawWrong)) ≡ None → cup ≡ true
+    by_tests true cup none = absurd (none-some (StartPassed b.start) (sym none))
+    by_tests false true none = refl
+    by_tests false false none = absurd (none-some DrawWrong (sym none))

@@ -1,8 +1,8 @@
 // What follows of the winners of a cup.
-ghost use Rattle.std.specs.Prelude.{ℕ, ◌≡◌, ◌≤◌, ◌+◌, ◌*◌, ◌^◌, length};
+ghost use Rattle.std.specs.Prelude.{None, ℕ, ◌≡◌, ◌≤◌, ◌+◌, ◌*◌, ◌^◌, length};
 ghost use Rattle.rule_book.specs.declared.cup.Bracket.{Bracket};
 ghost use Rattle.rule_book.specs.declared.cup.Side.{Side};
-ghost use Rattle.rule_book.specs.Cups.{IsCup};
+ghost use Rattle.rule_book.specs.Cups.{IsCup, wrong_cup};
 ghost use Rattle.rule_book.specs.CupLaws.{TieOfWinners, ByeLetsThrough, WonByEntrant};
 ghost use Rattle.rule_book.specs.CupRounds.{rounds_of, winners_of};
 ghost use Rattle.cup_rounds.specs.Rounds.{RoundFollows, WinnersHalve};
@@ -24,6 +24,11 @@ pub fn entrants_win()
 /// A law: a cup that can be played has the shape of one.
 pub fn cups_have_shape()
     ensures { (b : Bracket) (gameweeks : ℕ) → IsCup b gameweeks → HasShape b }
+{}
+
+/// A law: so does a draw that breaks no rule, wherever the season stands.
+pub fn unbroken_cups_have_shape()
+    ensures { (b : Bracket) (gameweeks locked : ℕ) → wrong_cup b gameweeks locked ≡ None → HasShape b }
 {}
 
 /// A law: before the first round the winners are the slots; those of each round are half as many as before, and are who

@@ -9,7 +9,9 @@ mod ties;
 
 pub use cups::Cups;
 pub use draw::{check, check_draw};
-pub use laws::{cups_have_shape, entrants_win, rounds_follow, winners_meet};
+pub use laws::{
+    cups_have_shape, entrants_win, rounds_follow, unbroken_cups_have_shape, winners_meet,
+};
 pub use rule_book::{Bracket, Coins, Side, Slots};
 pub use shape::{coin, rounds};
 pub use ties::tie;

@@ -1,7 +1,6 @@
 -- The commands on leagues by kept rows: what refuses each, and what nothing refuses.
 use Rattle.std.specs.Prelude.{◌≡◌, ◌≤◌, ℕ, Bool, true, List, Option, Some, None, Result, if◌then◌else◌, ⊤}
 use Rattle.std.specs.Option.{option_map}
-use Rattle.rule_book.specs.Entries.{most_entries}
 use Rattle.rule_book.specs.Leagues.{LeagueFacts}
 use Rattle.manager_book.specs.declared.manager.Manager.{Manager}
 use Rattle.season_book.specs.Book.{EntryFacts, Facts}
@@ -34,8 +33,8 @@ IsLeagueJudgedByBooks facts managers leagues e command judged = (entries : List 
 
 -- who creates or joins a league is an entry
 abbrev pub IsByEntry : ℕ → Command → Type 0
-IsByEntry e (command.League kind name code start) = (1 ≤ e) × (e ≤ most_entries)
-IsByEntry e (command.Join l code) = (1 ≤ e) × (e ≤ most_entries)
+IsByEntry e (command.League kind name code start) = 1 ≤ e
+IsByEntry e (command.Join l code) = 1 ≤ e
 IsByEntry e command = ⊤
 
 -- nothing refuses it: the gameweek or the league that it names is there, and it breaks no rule

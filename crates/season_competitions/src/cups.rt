@@ -10,7 +10,7 @@ ghost use Rattle.season_entries.specs.Deeds.{IsAnswered};
 ghost use Rattle.season_competitions.specs.Cups.{IsCupGranted, IsCupJudgedByBooks, cup_answer_by, cups_after};
 
 use crate::known::{are_entrants_issued, are_entrants_registered};
-use cup_rounds::{Bracket, Coins, Cups, Slots, check_draw, cups_have_shape};
+use cup_rounds::{Bracket, Coins, Cups, Slots, check_draw, unbroken_cups_have_shape};
 use fpl_base::{Gw, Memory, Refused, Rule};
 use manager_book::ManagerBook;
 use season_book::{Answer, Command};
@@ -141,8 +141,8 @@ fn add(
     ensures done { OnOk result (cups.new ≡ cups_after cups.old (command.Cup start slots.now coins.now)) }
     ensures err { OnErr result (cups.new ≡ cups.old) }
 {
-    // The law that a cup which can be played has the shape of one, for the prover.
-    cups_have_shape();
+    // The law that a cup which breaks no rule has the shape of one, for the prover.
+    unbroken_cups_have_shape();
     let _season = season;
     let slots = slots.copy()?;
     let coins = coins.copy()?;
