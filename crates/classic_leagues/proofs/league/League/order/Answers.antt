@@ -1,0 +1,8 @@
+use Rattle.classic_leagues.proofs.Members.{few_in_order, order_differs}
+use Rattle.classic_leagues.proofs.league.League.order.Goals as goal
+
+pub returns-clause-differ : goal.returns-clause-differ
+returns-clause-differ c = rw c.as_slice.ensures (order_differs _ c.self.invariant)
+
+pub returns-clause-few : goal.returns-clause-few
+returns-clause-few c = rw c.as_slice.ensures (few_in_order _ c.self.invariant)
