@@ -1,5 +1,5 @@
 -- What the members of a league and the order of its draw are.
-use Rattle.std.proofs.Common.{◌≡◌, ◌≢◌, ◌∙◌, sym, ap, refl, subst, ℕ, ◌≤◌, true, false, List, [], ◌∷◌, ◌++◌, length, Bool, ◌&&◌, ◌||◌, arith}
+use Rattle.std.proofs.Common.{◌≡◌, ◌≢◌, ◌∙◌, sym, ap, refl, subst, ℕ, ◌+◌, ◌<◌, ◌≤◌, true, false, List, [], ◌∷◌, ◌++◌, length, Bool, ◌&&◌, ◌||◌, arith}
 use Rattle.std.specs.Prelude.{IsPermutation, IsTrue, nat_eq, nat_lt, not, ◌==◌}
 use Rattle.std.specs.List.{All, filter, list_any}
 use Rattle.std.specs.Cmp.{unsigned_Decides}
@@ -16,8 +16,8 @@ use Rattle.rule_book.specs.HeadToHead.{IsDraw}
 use Rattle.rule_book.specs.LeagueCalls.{is_drawn, is_head, is_member, most_members, with_member}
 use Rattle.rule_book.specs.Leagues.{LeagueFacts}
 use Rattle.rule_book.specs.Ranks.{AllDiffer}
-use Rattle.classic_leagues.specs.Books.{CanDraw, IsLeague, Rise}
-use Rattle.classic_leagues.proofs.Numbers.{rising_differ}
+use Rattle.classic_leagues.specs.Books.{CanDraw, CanEnter, IsLeague, Rise}
+use Rattle.classic_leagues.proofs.Numbers.{few_with, rise_with, rising_differ, some_with}
 
 -- who differ still differ in another order
 others_differ : (members order : List ℕ) → AllDiffer members → IsPermutation members order → AllDiffer order
@@ -71,3 +71,12 @@ module _ (league : LeagueFacts) (e : ℕ) where
 
   pub member_as_before : (d : ℕ) → d ≢ e → is_member (with_member e league) d ≡ is_member league d
   member_as_before d other = among d ∙ grind (arith, nat_tests)
+
+  -- and it is a league as before
+  pub entered : IsLeague league → CanEnter league e → IsLeague (with_member e league)
+  entered is can = record {
+    rise = rise_with e league.members is.rise;
+    some = some_with e league.members;
+    few = omega (arith, few_with e league.members, can.room);
+    drawn = λ drawn. absurd (grind (arith, nat_tests, drawn, can.open_still));
+  }

@@ -1,5 +1,5 @@
 -- Ascending numbers: what a search among them finds, and one number more in its place.
-use Rattle.std.proofs.Common.{◌≡◌, ◌≢◌, ◌∙◌, sym, ap, refl, subst, ℕ, zero, suc, ◌+◌, ◌<◌, ◌≤◌, Bool, true, false, List, [], ◌∷◌, ◌++◌, length, get_or, take, drop, Result, Ok, Err, arith, inl, inr}
+use Rattle.std.proofs.Common.{◌≡◌, ◌≢◌, ◌∙◌, sym, ap, refl, subst, ℕ, zero, suc, ◌+◌, ◌<◌, ◌≤◌, Bool, true, false, List, [], ◌∷◌, ◌++◌, length, get_or, take, drop, Result, Ok, Err, arith, inl, inr, length-append}
 use Rattle.std.specs.Prelude.{nat_lt, ◌==◌}
 use Rattle.std.specs.List.{All, filter, insert, list_any}
 use Rattle.std.specs.List.Sorted.{IsBinarySearchResult, IsNonDecreasingBy, IsPartitionedBy, IsPartitionPoint, IsSearchInRange}
@@ -9,10 +9,11 @@ use Rattle.std.proofs.lemmas.Bool.{cases_eq}
 use Rattle.std.proofs.lemmas.Bool.Decides.{nat_tests}
 use Rattle.std.proofs.lemmas.Cmp.{ranked}
 use Rattle.std.proofs.lemmas.List.{append-nil, take-append-drop}
-use Rattle.std.proofs.lemmas.List.Elements.{All-head, All-tail, All-weaker, filter-append}
+use Rattle.std.proofs.lemmas.List.Elements.{All-append, All-cons, All-head, All-tail, All-weaker, filter-append, filter_passes}
 use Rattle.std.proofs.lemmas.List.Folds.{list_any_none}
+use Rattle.std.proofs.lemmas.List.Kept.{AllPairs-cons, AllPairs-filter}
 use Rattle.std.proofs.lemmas.List.Sorted.{IsNonDecreasingBy-from_default, IsPartitionedBy-ltb}
-use Rattle.fpl_base.proofs.Around.{All-take_from, All-drop_from, AllPairs-middle}
+use Rattle.fpl_base.proofs.Around.{All-take_from, All-drop_from, AllPairs-head, AllPairs-middle, AllPairs-tail}
 use Rattle.rule_book.specs.Ranks.{AllDiffer}
 use Rattle.classic_leagues.specs.Books.{Rise, with_number}
 
@@ -97,3 +98,34 @@ module _ (ns : List ℕ) (n at : ℕ) (within : at ≤ length ns) (parts : IsPar
   -- and they still rise
   pub still_rise : Rise ns → Rise (insert ns at n)
   still_rise rise = AllPairs-middle (λ a b. a < b) (take at ns) (drop at ns) n (subst Rise (sym (take-append-drop at ns)) rise) front back
+
+-- numbers that rise still rise with one more in its place, whether it was among them or not
+rise_joined : (n : ℕ) (ls hs : List ℕ) → Rise ls → All (λ m. m < n) ls → Rise hs → All (λ m. n < m) hs → Rise (ls ++ n ∷ hs)
+rise_joined n [] hs low below high above = AllPairs-cons (λ a b. a < b) n hs above high
+rise_joined n (l ∷ ls) hs low below high above =
+    let first : l < n = All-head (λ m. m < n) l ls below in
+    let behind : All (λ m. l < m) (n ∷ hs) = All-cons (λ m. l < m) n hs first (All-weaker (λ m. n < m) (λ m. l < m) (λ m h. omega arith) hs above) in
+    AllPairs-cons (λ a b. a < b) l (ls ++ n ∷ hs)
+    (All-append (λ m. l < m) ls (n ∷ hs) (AllPairs-head (λ a b. a < b) l ls low) behind)
+    (rise_joined n ls hs (AllPairs-tail (λ a b. a < b) l ls low) (All-tail (λ m. m < n) l ls below) high above)
+
+pub rise_with : (n : ℕ) (ns : List ℕ) → Rise ns → Rise (with_number n ns)
+rise_with n ns rise =
+    let low = filter (λ m. nat_lt m n) ns in
+    let high = filter (λ m. nat_lt n m) ns in
+    rise_joined n low high
+    (AllPairs-filter (λ a b. a < b) (λ m. nat_lt m n) ns rise)
+    (All-weaker (λ m. nat_lt m n ≡ true) (λ m. m < n) (λ m h. grind (arith, nat_tests)) low (filter_passes (λ m. nat_lt m n) ns))
+    (AllPairs-filter (λ a b. a < b) (λ m. nat_lt n m) ns rise)
+    (All-weaker (λ m. nat_lt n m ≡ true) (λ m. n < m) (λ m h. grind (arith, nat_tests)) high (filter_passes (λ m. nat_lt n m) ns))
+
+-- and they are at least one, and at most one more
+few_apart : (n : ℕ) (ns : List ℕ) → length (filter (λ m. nat_lt m n) ns) + length (filter (λ m. nat_lt n m) ns) ≤ length ns
+few_apart n [] = omega arith
+few_apart n (m ∷ ns) = let more = few_apart n ns in grind (arith, nat_tests, more)
+
+pub some_with : (n : ℕ) (ns : List ℕ) → 1 ≤ length (with_number n ns)
+some_with n ns = omega (arith, length-append (filter (λ m. nat_lt m n) ns) (n ∷ filter (λ m. nat_lt n m) ns))
+
+pub few_with : (n : ℕ) (ns : List ℕ) → length (with_number n ns) ≤ length ns + 1
+few_with n ns = omega (arith, few_apart n ns, length-append (filter (λ m. nat_lt m n) ns) (n ∷ filter (λ m. nat_lt n m) ns))
