@@ -68,8 +68,8 @@ module _ (leagues : List LeagueFacts) (rows : List (List ℕ)) (booked : AreBook
         his : row_of rows_new e ≡ leagues_of (leagues ++ new ∷ []) e
         his =
             let last : with_number l (leagues_of leagues e) ≡ leagues_of leagues e ++ l ∷ [] =
-                subst (λ ls. with_number l ls ≡ leagues_of leagues e ++ l ∷ []) (append-nil (leagues_of leagues e))
-                (with_between l (leagues_of leagues e) [] (All-weaker (λ m. m < length leagues + 1) (λ m. m < l) (λ m h. omega arith) (leagues_of leagues e) below) (λ k d lt. absurd (omega arith))) in
+            subst (λ ls. with_number l ls ≡ leagues_of leagues e ++ l ∷ []) (append-nil (leagues_of leagues e))
+            (with_between l (leagues_of leagues e) [] (All-weaker (λ m. m < length leagues + 1) (λ m. m < l) (λ m h. omega arith) (leagues_of leagues e) below) (λ k d lt. absurd (omega arith))) in
             put ∙ (ap (with_number l) (booked.told e) ∙ (last ∙ sym (member e true (grind (arith, nat_tests)))))
 
         theirs : (d : ℕ) → d ≢ e → leagues_of (leagues ++ new ∷ []) d ≡ leagues_of leagues d

@@ -1,5 +1,5 @@
 -- What the members of a league and the order of its draw are.
-use Rattle.std.proofs.Common.{◌≡◌, ◌≢◌, ◌∙◌, sym, ap, refl, subst, ℕ, ◌+◌, ◌<◌, ◌≤◌, true, false, List, [], ◌∷◌, ◌++◌, length, Bool, ◌&&◌, ◌||◌, arith}
+use Rattle.std.proofs.Common.{◌≡◌, ◌≢◌, ◌∙◌, ap, refl, ℕ, ◌≤◌, true, false, List, [], ◌∷◌, length, ◌&&◌, ◌||◌, arith}
 use Rattle.std.specs.Prelude.{IsPermutation, IsTrue, nat_eq, nat_lt, not, ◌==◌}
 use Rattle.std.specs.List.{All, filter, list_any}
 use Rattle.std.specs.Cmp.{unsigned_Decides}
@@ -13,7 +13,7 @@ use Rattle.std.proofs.lemmas.Map.Views.{any-filter_same}
 use Rattle.rule_book.specs.declared.league.LeagueKind.{LeagueKind}
 use Rattle.rule_book.specs.declared.league.LeagueKind.TheVariants as kind
 use Rattle.rule_book.specs.HeadToHead.{IsDraw}
-use Rattle.rule_book.specs.LeagueCalls.{is_drawn, is_head, is_member, most_members, with_member}
+use Rattle.rule_book.specs.LeagueCalls.{is_head, is_member, most_members, with_member}
 use Rattle.rule_book.specs.Leagues.{LeagueFacts}
 use Rattle.rule_book.specs.Ranks.{AllDiffer}
 use Rattle.classic_leagues.specs.Books.{CanDraw, CanEnter, IsLeague, Rise}

@@ -12,7 +12,7 @@ use Rattle.std.proofs.lemmas.List.{append-nil, take-append-drop}
 use Rattle.std.proofs.lemmas.List.Elements.{All-append, All-cons, All-head, All-tail, All-weaker, filter-append, filter_passes}
 use Rattle.std.proofs.lemmas.List.Folds.{list_any_none}
 use Rattle.std.proofs.lemmas.List.Kept.{AllPairs-cons, AllPairs-filter}
-use Rattle.std.proofs.lemmas.List.Sorted.{IsNonDecreasingBy-from_default, IsPartitionedBy-ltb}
+use Rattle.std.proofs.lemmas.List.Sorted.{IsPartitionedBy-ltb}
 use Rattle.fpl_base.proofs.Around.{All-take_from, All-drop_from, AllPairs-head, AllPairs-middle, AllPairs-tail}
 use Rattle.rule_book.specs.Ranks.{AllDiffer}
 use Rattle.classic_leagues.specs.Books.{Rise, with_number}

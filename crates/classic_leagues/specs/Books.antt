@@ -1,5 +1,5 @@
 -- The leagues of a season, and the leagues of each entry beside them.
-use Rattle.std.specs.Prelude.{◌≡◌, ◌<◌, ◌≤◌, ◌++◌, ℕ, true, false, IsTrue, List, [], ◌∷◌, length, filter, AllPairs, Option, nat_lt, slice_index_or, IsSomeAnd}
+use Rattle.std.specs.Prelude.{◌≡◌, ◌<◌, ◌≤◌, ◌++◌, ℕ, true, false, IsTrue, List, [], ◌∷◌, length, filter, AllPairs, nat_lt, slice_index_or, IsSomeAnd}
 use Rattle.rule_book.specs.Entries.{entry_in}
 use Rattle.rule_book.specs.HeadToHead.{IsDraw}
 use Rattle.rule_book.specs.LeagueCalls.{is_drawn, is_head, is_member, leagues_of, most_leagues, most_members}

@@ -1,4 +1,4 @@
-use Rattle.std.proofs.Common.{◌∙◌, rules}
+use Rattle.std.proofs.Common.{◌∙◌}
 use Rattle.classic_leagues.proofs.Numbers.{found}
 use Rattle.classic_leagues.proofs.league.League.is_member.Goals as goal
 

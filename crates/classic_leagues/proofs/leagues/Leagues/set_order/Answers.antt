@@ -1,4 +1,4 @@
-use Rattle.std.proofs.Common.{◌≡◌, ◌∙◌, ◌-◌, sym, ap, Result, Ok, Err, ℕ, List, get_or, set, OnOk, OnErr, rules, arith}
+use Rattle.std.proofs.Common.{◌≡◌, ◌∙◌, ◌-◌, ap, Result, Ok, Err, ℕ, List, set, OnOk, OnErr}
 use Rattle.rule_book.specs.LeagueCalls.{with_order}
 use Rattle.rule_book.specs.Leagues.{LeagueFacts}
 use Rattle.classic_leagues.proofs.Booked.{changed, booked_stay}
@@ -22,6 +22,6 @@ invariant_of-self c =
 pub returns-clause-ok : goal.returns-clause-ok
 returns-clause-ok c =
     on_ok c.set_order.result (λ e.
-      rw (← c.self.view_is, ← c.get.ensures.value) (ap (set c.self.inside.leagues.items (c.get.result - 1)) (e ∙ ap (with_order c.args.order.now) c.index_mut.ensures.value)
-      ∙ changed (with_order c.args.order.now) c.self.inside.leagues.items c.get.result c.index_mut.result.now c.get.ensures.range))
+    rw (← c.self.view_is, ← c.get.ensures.value) (ap (set c.self.inside.leagues.items (c.get.result - 1)) (e ∙ ap (with_order c.args.order.now) c.index_mut.ensures.value)
+    ∙ changed (with_order c.args.order.now) c.self.inside.leagues.items c.get.result c.index_mut.result.now c.get.ensures.range))
     c.set_order.ensures.ok

@@ -1,9 +1,9 @@
-use Rattle.std.proofs.Common.{◌≡◌, ◌≢◌, ◌∙◌, ◌≤◌, ap, length, rules, arith}
+use Rattle.std.proofs.Common.{◌≡◌, ◌≢◌, ◌∙◌, ◌≤◌, ap, length, rules}
 use Rattle.std.specs.Prelude.{nat_lt, true, false}
-use Rattle.std.specs.List.{All, insert}
+use Rattle.std.specs.List.{All}
 use Rattle.std.specs.List.Sorted.{IsPartitionPoint}
 use Rattle.std.proofs.lemmas.Fn.{always_returns_same}
-use Rattle.classic_leagues.specs.Books.{Rise, with_number}
+use Rattle.classic_leagues.specs.Books.{with_number}
 use Rattle.classic_leagues.proofs.Numbers.{parted, put_in_place, still_rise}
 use Rattle.classic_leagues.proofs.memberships.Numbers.add.Goals as goal
 
