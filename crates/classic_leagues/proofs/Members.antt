@@ -1,5 +1,5 @@
 -- What the members of a league and the order of its draw are.
-use Rattle.std.proofs.Common.{◌≡◌, ◌≢◌, ◌∙◌, ap, refl, ℕ, ◌≤◌, true, false, List, [], ◌∷◌, length, ◌&&◌, ◌||◌, arith}
+use Rattle.std.proofs.Common.{◌≡◌, ◌≢◌, ◌∙◌, ap, refl, ℕ, ◌<◌, ◌≤◌, true, false, List, [], ◌∷◌, length, ◌&&◌, ◌||◌, arith}
 use Rattle.std.specs.Prelude.{IsPermutation, IsTrue, nat_eq, nat_lt, not, ◌==◌}
 use Rattle.std.specs.List.{All, filter, list_any}
 use Rattle.std.specs.Cmp.{unsigned_Decides}
@@ -43,6 +43,15 @@ few_by league (m ∷ order) e is =
     let can : CanDraw league.order league = is.drawn (rw e (grind (arith, nat_tests))) in
     let moved = length_permutation league.members league.order can.draw.1 in
     omega (arith, ap length e, moved, is.few, most_of_head league.kind can.head)
+
+two_by : (league : LeagueFacts) (order : List ℕ) → league.order ≡ order → IsLeague league → 0 < length order → 2 ≤ length order
+two_by league [] e is some = absurd (omega arith)
+two_by league (m ∷ order) e is some =
+    let can : CanDraw league.order league = is.drawn (rw e (grind (arith, nat_tests))) in
+    omega (arith, ap length e, length_permutation league.members league.order can.draw.1, can.draw.0)
+
+pub two_in_order : (league : LeagueFacts) → IsLeague league → 0 < length league.order → 2 ≤ length league.order
+two_in_order league is some = two_by league league.order refl is some
 
 pub few_in_order : (league : LeagueFacts) → IsLeague league → length league.order ≤ 64
 few_in_order league is = few_by league league.order refl is
