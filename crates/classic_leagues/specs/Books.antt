@@ -1,5 +1,6 @@
 -- The leagues of a season, and the leagues of each entry beside them.
 use Rattle.std.specs.Prelude.{◌≡◌, ◌<◌, ◌≤◌, ◌++◌, ℕ, true, false, IsTrue, List, [], ◌∷◌, length, filter, AllPairs, nat_lt, slice_index_or, IsSomeAnd}
+use Rattle.rule_book.specs.declared.league.LeagueKind.{LeagueKind}
 use Rattle.rule_book.specs.Entries.{entry_in}
 use Rattle.rule_book.specs.HeadToHead.{IsDraw}
 use Rattle.rule_book.specs.LeagueCalls.{is_drawn, is_head, is_member, leagues_of, most_leagues, most_members}
@@ -8,6 +9,18 @@ use Rattle.rule_book.specs.Leagues.{LeagueFacts}
 -- numbers that rise, so that each stands once
 abbrev pub Rise : List ℕ → Type 0
 Rise numbers = AllPairs (λ a b. a < b) numbers
+
+-- a league by its parts
+abbrev pub league_of : LeagueKind → List ℕ → List ℕ → ℕ → ℕ → List ℕ → List ℕ → LeagueFacts
+league_of kind name code start creator members order = record {
+  kind = kind;
+  name = name;
+  code = code;
+  start = start;
+  creator = creator;
+  members = members;
+  order = order;
+}
 
 -- a league can have this order: it is a head-to-head league, and the order is a draw of its members
 pub record CanDraw (order : List ℕ) (league : LeagueFacts) : Type 0 where

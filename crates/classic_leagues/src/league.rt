@@ -30,13 +30,13 @@ pub struct League {
 
 impl Model for League {
     ghost use Rattle.rule_book.specs.Leagues.{LeagueFacts};
-    ghost use Rattle.classic_leagues.specs.Books.{IsLeague};
+    ghost use Rattle.classic_leagues.specs.Books.{IsLeague, league_of};
 
     ghost Value = { LeagueFacts };
 
-    ghost view = { λ l. record { kind = l.kind; name = l.name; code = l.code; start = l.start; creator = l.creator; members = l.members; order = l.order } };
+    ghost view = { λ l. league_of l.kind l.name l.code l.start l.creator l.members l.order };
 
-    ghost invariant = { λ l. IsLeague (record { kind = l.kind; name = l.name; code = l.code; start = l.start; creator = l.creator; members = l.members; order = l.order }) };
+    ghost invariant = { λ l. IsLeague (league_of l.kind l.name l.code l.start l.creator l.members l.order) };
 }
 
 impl League {
