@@ -1,5 +1,5 @@
 //! One league: who is in it, and in which order it was drawn.
-ghost use Rattle.std.specs.Prelude.{◌≡◌, ◌<◌, ◌≤◌, ◌∷◌, false, nat_lt, [], length, AllPairs, IfOk, IsTrue, OnErr, OnOk};
+ghost use Rattle.std.specs.Prelude.{◌≡◌, ◌<◌, ◌≤◌, ◌∷◌, false, nat_lt, [], length, AllPairs, IfOk, IfSome, IsTrue, OnErr, OnOk};
 ghost use Rattle.std.specs.Str.{bytes_eq};
 ghost use Rattle.rule_book.specs.LeagueCalls.{is_drawn, is_member, most_members, new_league, with_member, with_order};
 ghost use Rattle.rule_book.specs.LeagueRows.{place_of};
@@ -30,18 +30,18 @@ pub struct League {
 
 impl Model for League {
     ghost use Rattle.rule_book.specs.Leagues.{LeagueFacts};
-    ghost use Rattle.classic_leagues.specs.Books.{IsLeague};
+    ghost use Rattle.classic_leagues.specs.Books.{IsLeague, league_of};
 
     ghost Value = { LeagueFacts };
 
-    ghost view = { λ l. record { kind = l.kind; name = l.name; code = l.code; start = l.start; creator = l.creator; members = l.members; order = l.order } };
+    ghost view = { λ l. league_of l.kind l.name l.code l.start l.creator l.members l.order };
 
-    ghost invariant = { λ l. IsLeague (record { kind = l.kind; name = l.name; code = l.code; start = l.start; creator = l.creator; members = l.members; order = l.order }) };
+    ghost invariant = { λ l. IsLeague (league_of l.kind l.name l.code l.start l.creator l.members l.order) };
 }
 
 impl League {
-    /// A league that an entry creates, which is its first member.
-    pub fn new(
+    // A league that an entry creates, which is its first member.
+    pub(crate) fn new(
         alloc: Global,
         kind: LeagueKind,
         name: Name,
@@ -115,6 +115,7 @@ impl League {
         ensures value { result.now ≡ self.now.order }
         ensures differ { AllDiffer result.now }
         ensures few { length result.now ≤ 64 }
+        ensures two { 0 < length result.now → 2 ≤ length result.now }
         ensures drawn { IsTrue (is_drawn self.now) → CanDraw result.now self.now }
     {
         self.order.as_slice()
@@ -136,20 +137,21 @@ impl League {
 
     /// The place of a member in the order, counted from 0; `None` before the draw, and where the entry is no member.
     pub fn place(&self, e: EntryId) -> Option<usize>
-        ensures { result ≡ place_of self.now.order e }
+        ensures value { result ≡ place_of self.now.order e }
+        ensures within { IfSome result (λ place. place < length self.now.order) }
     {
         self.order.as_slice().iter().position(|member| *member == e)
     }
 
-    /// Whether this code joins it.
-    pub fn has_code(&self, code: &Code) -> bool
+    // Whether this code joins it.
+    pub(crate) fn has_code(&self, code: &Code) -> bool
         ensures { result ≡ bytes_eq code.now self.now.code }
     {
         code.bytes() == self.code.bytes()
     }
 
-    /// Whether one more can be a member.
-    pub fn has_room(&self) -> bool
+    // Whether one more can be a member.
+    pub(crate) fn has_room(&self) -> bool
         ensures { result ≡ nat_lt (length self.now.members) (most_members self.now.kind) }
     {
         self.members.as_slice().len() < most_members(self.kind)

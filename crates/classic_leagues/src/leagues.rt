@@ -136,10 +136,10 @@ impl Leagues {
         ensures ok { OnOk result (self.new ≡ changed_in (with_member e) self.old l) }
         ensures err { OnErr result (self.new ≡ self.old) }
     {
-        let place = l.get() as usize - 1;
-        let members = self.leagues[place].joined(e)?;
+        let league = &mut self.leagues[l.get() as usize - 1];
+        let members = league.joined(e)?;
         self.memberships.add(e, l)?;
-        self.leagues[place].set_members(e, members);
+        league.set_members(e, members);
         Ok(())
     }
 

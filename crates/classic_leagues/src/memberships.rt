@@ -64,6 +64,7 @@ fn grow(rows: &mut Vec<Numbers>, count: usize) -> Result<(), Memory>
 /// For each entry the numbers of its leagues, ascending.
 #[derive(Drop)]
 pub struct Memberships {
+    // The row of an entry stands at the place of its number, and the first one stays empty.
     rows: Vec<Numbers>,
 }
 
@@ -87,10 +88,9 @@ impl Memberships {
 
     /// The leagues of an entry.
     pub fn of(&self, e: EntryId) -> &[LeagueId]
-        ensures value { result.now ≡ row_of self.now e }
-        ensures from_1 { 1 ≤ e }
+        ensures { result.now ≡ row_of self.now e }
     {
-        match self.rows.get(e.get() as usize - 1) {
+        match self.rows.get(e.get() as usize) {
             Some(numbers) => numbers.as_slice(),
             None => &[],
         }
@@ -100,11 +100,11 @@ impl Memberships {
     pub fn add(&mut self, e: EntryId, l: LeagueId) -> Result<(), Memory>
         requires new { All (λ n. n ≢ l) (row_of self.old e) }
         ensures ok { OnOk result (row_of self.new e ≡ with_number l (row_of self.old e)) }
-        ensures others { (d : ℕ) → 1 ≤ d → d ≢ e → row_of self.new d ≡ row_of self.old d }
+        ensures others { (d : ℕ) → d ≢ e → row_of self.new d ≡ row_of self.old d }
         ensures err { OnErr result (row_of self.new e ≡ row_of self.old e) }
     {
-        let count = e.get() as usize;
-        grow(&mut self.rows, count)?;
-        self.rows[count - 1].add(l)
+        let place = e.get() as usize;
+        grow(&mut self.rows, place + 1)?;
+        self.rows[place].add(l)
     }
 }
