@@ -10,7 +10,9 @@ use Rattle.fpl_base.specs.declared.kinds.Position.{Position}
 use Rattle.fpl_base.specs.declared.kinds.Position.TheVariants as position
 use Rattle.fpl_base.specs.declared.kinds.Profile.{Profile}
 use Rattle.fpl_base.specs.declared.kinds.Profile.TheVariants as profile
-use Rattle.fpl_base.specs.Texts.{is_key, is_name}
+use Rattle.fpl_base.specs.Texts.{is_code, is_key, is_name}
+use Rattle.rule_book.specs.declared.league.LeagueKind.{LeagueKind}
+use Rattle.rule_book.specs.declared.league.LeagueKind.TheVariants as kind
 use Rattle.serde_json.specs.Data.{Data, Items, no_items, item}
 use Rattle.serde_json.specs.Find.{get, as_array, as_bool, as_null, as_number, as_object, as_str, as_u64}
 use Rattle.serde_json.specs.Read.{read}
@@ -111,6 +113,13 @@ if_key which bytes = if is_key bytes then Ok bytes else Err which
 abbrev pub key : FieldName → Data → Result (List ℕ) FieldName
 key which d = text which d >>= if_key which
 
+-- a league's code
+abbrev pub if_code : FieldName → List ℕ → Result (List ℕ) FieldName
+if_code which bytes = if is_code bytes then Ok bytes else Err which
+
+abbrev pub code : FieldName → Data → Result (List ℕ) FieldName
+code which d = text which d >>= if_code which
+
 -- a position by its letter
 abbrev pub position_of : List ℕ → Option Position
 position_of letter =
@@ -134,6 +143,16 @@ chip_of name =
 
 abbrev pub chip_in : FieldName → Data → Result Chip FieldName
 chip_in which d = text which d >>= λ name. or_wrong which (chip_of name)
+
+-- how a league is decided, by its name: by total points, or by matches of two
+abbrev pub kind_of : List ℕ → Option LeagueKind
+kind_of name =
+    if bytes_eq name (codes "classic") then Some kind.Classic
+    else if bytes_eq name (codes "head") then Some kind.Head
+    else None
+
+abbrev pub kind_in : FieldName → Data → Result LeagueKind FieldName
+kind_in which d = text which d >>= λ name. or_wrong which (kind_of name)
 
 -- a profile by its number: 1 is A, and 2 is B
 abbrev pub profile_of : Data → Option Profile

@@ -20,7 +20,7 @@ use Rattle.fpl_routes.specs.declared.route.CommandRoute.TheVariants as route
 use Rattle.fpl_routes.specs.declared.route.Route.{Route}
 use Rattle.fpl_routes.specs.declared.route.ViewRoute.{ViewRoute}
 use Rattle.fpl_routes.specs.declared.route.ViewRoute.TheVariants as seen
-use Rattle.fpl_bodies.specs.Members.{◌>>=◌, chip_in, club_id, entry, fixture_id, gameweek, key, last_moment, list, moment, object_of, place, player_id, position_in, price, profile_in, title, truth, whole}
+use Rattle.fpl_bodies.specs.Members.{◌>>=◌, chip_in, club_id, code, entry, fixture_id, gameweek, key, kind_in, last_moment, list, moment, object_of, place, player_id, position_in, price, profile_in, title, truth, whole}
 
 -- The parts of commands.
 
@@ -74,6 +74,18 @@ swap d = player_id field.Out d >>= λ out. player_id field.In d >>= λ into. Ok 
 -- 1 to 15 transfers
 abbrev pub swaps : Data → Result (List Swap) FieldName
 swaps d = list field.Swaps 1 15 swap d
+
+-- at most 64 entries, by their places in a draw
+abbrev pub order : Data → Result (List ℕ) FieldName
+order d = list field.Order 0 64 (entry field.Order 1 4294967295) d
+
+-- at most 1024 slots of a cup: the numbers of entries, 0 for a bye
+abbrev pub slots : Data → Result (List ℕ) FieldName
+slots d = list field.Slots 0 1024 (entry field.Slots 0 4294967295) d
+
+-- at most 1024 coins of 0 or 1
+abbrev pub coins : Data → Result (List ℕ) FieldName
+coins d = list field.Coins 0 1024 (entry field.Coins 0 1) d
 
 -- The commands, each by its members in their order.
 
@@ -141,7 +153,22 @@ lineup d =
 abbrev pub play : Data → Result Command FieldName
 play d = chip_in field.Chip d >>= λ c. Ok (command.Chip c)
 
--- the command of a route at a fixture, where its target names one
+abbrev pub league : Data → Result Command FieldName
+league d =
+    kind_in field.Kind d >>= λ kind. title field.Name d >>= λ name. code field.Code d >>= λ c.
+    gameweek field.Start d >>= λ start.
+    Ok (command.League kind name c start)
+
+abbrev pub join : ℕ → Data → Result Command FieldName
+join l d = code field.Code d >>= λ c. Ok (command.Join l c)
+
+abbrev pub draw : ℕ → Data → Result Command FieldName
+draw l d = order d >>= λ es. Ok (command.Draw l es)
+
+abbrev pub cup : Data → Result Command FieldName
+cup d = gameweek field.Start d >>= λ start. slots d >>= λ ss. coins d >>= λ cs. Ok (command.Cup start ss cs)
+
+-- the command of a route at the id of its target, a fixture or a league, where it has one
 abbrev pub command_of : CommandRoute → ℕ → Data → Result Command FieldName
 command_of route.Season f d = season d
 command_of route.Deadlines f d = deadline d
@@ -161,6 +188,10 @@ command_of route.Transfers f d = transfers d
 command_of route.Lineup f d = lineup d
 command_of route.Chip f d = play d
 command_of route.CancelChip f d = Ok command.CancelChip
+command_of route.Leagues l d = league d
+command_of route.Join l d = join l d
+command_of route.Draw l d = draw l d
+command_of route.Cups l d = cup d
 
 -- The requests.
 
@@ -172,11 +203,13 @@ view_of seen.ShowPlayer ids = view.Player (slice_index ids 0)
 view_of seen.ShowPlayerGameweek ids = view.PlayerGameweek (slice_index ids 0) (slice_index ids 1)
 view_of seen.ShowFixture ids = view.Fixture (slice_index ids 0)
 view_of seen.ShowEntryGameweek ids = view.EntryGameweek (slice_index ids 0) (slice_index ids 1)
+view_of seen.ShowLeague ids = view.League (slice_index ids 0)
+view_of seen.ShowCup ids = view.Cup (slice_index ids 0)
 
 -- the command that a body orders, under its number, which comes first
 abbrev pub ordered : CommandRoute → ℕ → List ℕ → Result Request FieldName
-ordered which f body =
-    object_of body >>= λ d. whole field.Number 1 9223372036854775807 d >>= λ number. command_of which f d >>= λ c.
+ordered which id body =
+    object_of body >>= λ d. whole field.Number 1 9223372036854775807 d >>= λ number. command_of which id d >>= λ c.
     Ok (request.Command number c)
 
 -- what is asked: a command, or a view, whatever its body is

@@ -2,13 +2,13 @@
 ghost use Rattle.std.specs.Prelude.{◌≢◌, IfOk};
 ghost use Rattle.season_book.specs.Commands.{IsCommand};
 ghost use Rattle.fpl_bodies.specs.Members.{Gives};
-ghost use Rattle.fpl_bodies.specs.Requests.{command_of, deadline, drop, finish, fixture, gone, guest, lineup, move, new_club, new_key, new_price, play, player, put, season, sheet, squad, transfers};
+ghost use Rattle.fpl_bodies.specs.Requests.{command_of, cup, deadline, draw, drop, finish, fixture, gone, guest, join, league, lineup, move, new_club, new_key, new_price, play, player, put, season, sheet, squad, transfers};
 ghost use Rattle.json_tree.specs.Trees.{view};
 
-use crate::lists::{clubs, deadlines, fifteen, lines, player_line, swaps};
+use crate::lists::{clubs, coins, deadlines, fifteen, lines, order, player_line, slots, swaps};
 use crate::members::{
-    chip, club_id, fixture_id, gameweek, key, moment, place, player_id, position, price, profile,
-    title, truth, whole, wrong,
+    chip, club_id, code, fixture_id, gameweek, key, kind, moment, place, player_id, position,
+    price, profile, title, truth, whole, wrong,
 };
 use crate::{FieldName, ReadFault};
 use fpl_base::ClubId;
@@ -17,14 +17,14 @@ use json_tree::Tree;
 use season_book::Command;
 use std::alloc::Global;
 
-/// The command of a route at a fixture, where its target names one.
+/// The command of a route at the id of its target, a fixture or a league, where it has one.
 pub(crate) fn read_command(
     alloc: Global,
     which: CommandRoute,
-    fixture_there: u32,
+    id: u32,
     value: &Tree<'_>,
 ) -> Result<Command, ReadFault>
-    ensures gives { Gives result (command_of which fixture_there (view value.now)) }
+    ensures gives { Gives result (command_of which id (view value.now)) }
     ensures readable { IfOk result IsCommand }
 {
     match which {
@@ -35,17 +35,21 @@ pub(crate) fn read_command(
         CommandRoute::Clubs => new_club(value),
         CommandRoute::Gone => gone(value),
         CommandRoute::Fixtures => fixture(value),
-        CommandRoute::Move => moved(fixture_there, value),
-        CommandRoute::Sheet => sheet(alloc, fixture_there, value),
-        CommandRoute::Line => put(alloc, fixture_there, value),
-        CommandRoute::Drop => dropped(fixture_there, value),
-        CommandRoute::Finished => finished(fixture_there, value),
+        CommandRoute::Move => moved(id, value),
+        CommandRoute::Sheet => sheet(alloc, id, value),
+        CommandRoute::Line => put(alloc, id, value),
+        CommandRoute::Drop => dropped(id, value),
+        CommandRoute::Finished => finished(id, value),
         CommandRoute::Keys => new_key(alloc, value),
         CommandRoute::Squad => squad(alloc, value),
         CommandRoute::Transfers => transfers(alloc, value),
         CommandRoute::Lineup => lineup(alloc, value),
         CommandRoute::Chip => play(value),
         CommandRoute::CancelChip => Ok(Command::CancelChip),
+        CommandRoute::Leagues => league(alloc, value),
+        CommandRoute::Join => join(alloc, id, value),
+        CommandRoute::Draw => draw(alloc, id, value),
+        CommandRoute::Cups => cup(alloc, value),
     }
 }
 
@@ -256,4 +260,50 @@ fn play(value: &Tree<'_>) -> Result<Command, ReadFault>
 {
     let chip = chip(value, FieldName::Chip)?;
     Ok(Command::Chip { chip })
+}
+
+fn league(alloc: Global, value: &Tree<'_>) -> Result<Command, ReadFault>
+    ensures gives { Gives result (league (view value.now)) }
+    ensures readable { IfOk result IsCommand }
+{
+    let kind = kind(value, FieldName::Kind)?;
+    let name = title(alloc, value, FieldName::Name)?;
+    let code = code(alloc, value, FieldName::Code)?;
+    let start = gameweek(value, FieldName::Start)?;
+    Ok(Command::League {
+        kind,
+        name,
+        code,
+        start,
+    })
+}
+
+fn join(alloc: Global, league: u32, value: &Tree<'_>) -> Result<Command, ReadFault>
+    ensures gives { Gives result (join league (view value.now)) }
+    ensures readable { IfOk result IsCommand }
+{
+    let code = code(alloc, value, FieldName::Code)?;
+    Ok(Command::Join { league, code })
+}
+
+fn draw(alloc: Global, league: u32, value: &Tree<'_>) -> Result<Command, ReadFault>
+    ensures gives { Gives result (draw league (view value.now)) }
+    ensures readable { IfOk result IsCommand }
+{
+    let order = order(alloc, value)?;
+    Ok(Command::Draw { league, order })
+}
+
+fn cup(alloc: Global, value: &Tree<'_>) -> Result<Command, ReadFault>
+    ensures gives { Gives result (cup (view value.now)) }
+    ensures readable { IfOk result IsCommand }
+{
+    let start = gameweek(value, FieldName::Start)?;
+    let slots = slots(alloc, value)?;
+    let coins = coins(alloc, value)?;
+    Ok(Command::Cup {
+        start,
+        slots,
+        coins,
+    })
 }

@@ -1,20 +1,22 @@
 // Readers of the lists that commands hold.
-ghost use Rattle.std.specs.Prelude.{◌≡◌, ◌≤◌, ◌==◌, ◌&&◌, IfOk, Result, length, nat_le};
+ghost use Rattle.std.specs.Prelude.{All, ◌≡◌, ◌≤◌, ◌==◌, ◌&&◌, IfOk, Result, length, nat_le};
 ghost use Rattle.std.specs.List.{list_any};
 ghost use Rattle.season_book.specs.Commands.{club_ids};
 ghost use Rattle.rule_book.specs.Ranks.{AllDiffer};
 ghost use Rattle.fpl_bodies.specs.declared.field.FieldName.{FieldName};
 ghost use Rattle.fpl_bodies.specs.declared.field.FieldName.TheVariants as field;
 ghost use Rattle.fpl_bodies.specs.Members.{Gives, GivesItems, each, entry, last_moment, under};
-ghost use Rattle.fpl_bodies.specs.Requests.{club, clubs, deadlines, differ, fifteen, line, lines, player_line, swap, swaps};
+ghost use Rattle.fpl_bodies.specs.Requests.{club, clubs, coins, deadlines, differ, fifteen, line, lines, order, player_line, slots, swap, swaps};
 ghost use Rattle.json_tree.specs.Trees.{items_view, view};
 
-use crate::members::{club_id, entry, items, moment_entry, player_entry, player_id, title, wrong};
+use crate::members::{
+    club_id, drawn_entry, entry, items, moment_entry, player_entry, player_id, title, wrong,
+};
 use crate::{FieldName, ReadFault};
 use fpl_base::{ClubId, Name, PlayerId};
 use json_tree::Tree;
 use rule_book::{Line, Swap};
-use season_book::{Clubs, Lines, Moments, Swaps};
+use season_book::{Clubs, Coins, Lines, Moments, Order, Slots, Swaps};
 use std::alloc::Global;
 
 // Whatever is wrong inside of a list, the list is named.
@@ -226,4 +228,80 @@ fn swap(value: &Tree<'_>) -> Result<Swap, ReadFault>
     let out = player_id(value, FieldName::Out)?;
     let into = player_id(value, FieldName::In)?;
     Ok(Swap { out, into })
+}
+
+/// Entries by their places in a draw.
+pub(crate) fn order(alloc: Global, value: &Tree<'_>) -> Result<Order, ReadFault>
+    ensures gives { Gives result (order (view value.now)) }
+    ensures long { IfOk result (λ es. length es ≤ 64) }
+{
+    let values = items(value, FieldName::Order)?;
+    let list = under(each_entry(alloc, values), FieldName::Order)?;
+    if is_long(list.as_slice().len(), 0, 64) {
+        Ok(list)
+    } else {
+        Err(wrong(FieldName::Order))
+    }
+}
+
+fn each_entry(alloc: Global, values: &[Tree<'_>]) -> Result<Order, ReadFault>
+    ensures { Gives result (each (entry field.Order 1 4294967295) (items_view values.now)) }
+{
+    let mut list = Order::with_room(alloc, values.len().min(64))?;
+    for value in values {
+        let one = drawn_entry(value, FieldName::Order)?;
+        list.push(one)?;
+    }
+    Ok(list)
+}
+
+/// The slots of a cup.
+pub(crate) fn slots(alloc: Global, value: &Tree<'_>) -> Result<Slots, ReadFault>
+    ensures gives { Gives result (slots (view value.now)) }
+    ensures long { IfOk result (λ ss. length ss ≤ 1024) }
+{
+    let values = items(value, FieldName::Slots)?;
+    let list = under(each_slot(alloc, values), FieldName::Slots)?;
+    if is_long(list.as_slice().len(), 0, 1024) {
+        Ok(list)
+    } else {
+        Err(wrong(FieldName::Slots))
+    }
+}
+
+fn each_slot(alloc: Global, values: &[Tree<'_>]) -> Result<Slots, ReadFault>
+    ensures { Gives result (each (entry field.Slots 0 4294967295) (items_view values.now)) }
+{
+    let mut list = Slots::with_room(alloc, values.len().min(1024))?;
+    for value in values {
+        let one = entry(value, FieldName::Slots, 0, 4_294_967_295)?;
+        list.push(one as u32)?;
+    }
+    Ok(list)
+}
+
+/// The coins of a cup.
+pub(crate) fn coins(alloc: Global, value: &Tree<'_>) -> Result<Coins, ReadFault>
+    ensures gives { Gives result (coins (view value.now)) }
+    ensures long { IfOk result (λ cs. length cs ≤ 1024) }
+    ensures sides { IfOk result (λ cs. All (λ coin. coin ≤ 1) cs) }
+{
+    let values = items(value, FieldName::Coins)?;
+    let list = under(each_coin(alloc, values), FieldName::Coins)?;
+    if is_long(list.as_slice().len(), 0, 1024) {
+        Ok(list)
+    } else {
+        Err(wrong(FieldName::Coins))
+    }
+}
+
+fn each_coin(alloc: Global, values: &[Tree<'_>]) -> Result<Coins, ReadFault>
+    ensures { Gives result (each (entry field.Coins 0 1) (items_view values.now)) }
+{
+    let mut list = Coins::with_room(alloc, values.len().min(1024))?;
+    for value in values {
+        let one = entry(value, FieldName::Coins, 0, 1)?;
+        list.push(one as u8)?;
+    }
+    Ok(list)
 }

@@ -2,12 +2,15 @@
 ghost use Rattle.std.specs.Prelude.{◌≡◌, ◌≢◌, ◌≤◌, IfOk, IfSome};
 ghost use Rattle.fpl_base.specs.declared.kinds.Chip.TheVariants.{None as NoChip};
 ghost use Rattle.fpl_bodies.specs.declared.field.ReadFault.TheVariants as fault;
-ghost use Rattle.fpl_bodies.specs.Members.{Gives, GivesText, GivesTrees, chip_in, chip_of, club_id, entry, fixture_id, gameweek, items, key, last_moment, moment, number_in, place, place_in, player_id, position_in, position_of, price, profile_in, profile_of, text, title, truth, whole};
+ghost use Rattle.fpl_bodies.specs.Members.{Gives, GivesText, GivesTrees, chip_in, chip_of, club_id, code, entry, fixture_id, gameweek, items, key, kind_in, kind_of, last_moment, moment, number_in, place, place_in, player_id, position_in, position_of, price, profile_in, profile_of, text, title, truth, whole};
 ghost use Rattle.json_tree.specs.Trees.{view};
 
 use crate::{FieldName, ReadFault};
-use fpl_base::{Chip, ClubId, FixtureId, Gw, Key, Moment, Name, PlayerId, Position, Profile};
+use fpl_base::{
+    Chip, ClubId, Code, EntryId, FixtureId, Gw, Key, Moment, Name, PlayerId, Position, Profile,
+};
 use json_tree::Tree;
+use rule_book::LeagueKind;
 use std::alloc::Global;
 
 pub(crate) fn wrong(which: FieldName) -> ReadFault
@@ -98,6 +101,14 @@ pub(crate) fn player_entry(value: &Tree<'_>, list: FieldName) -> Result<PlayerId
 {
     let n = entry(value, list, 1, 999_999)?;
     PlayerId::new(n as u32).ok_or(wrong(list))
+}
+
+/// The entry that a value names, as an item of the list of this name.
+pub(crate) fn drawn_entry(value: &Tree<'_>, list: FieldName) -> Result<EntryId, ReadFault>
+    ensures { Gives result (entry list 1 4294967295 (view value.now)) }
+{
+    let n = entry(value, list, 1, 4_294_967_295)?;
+    EntryId::new(n as u32).ok_or(wrong(list))
 }
 
 /// The number that a value is, as an item of the list of this name.
@@ -197,6 +208,17 @@ pub(crate) fn key(alloc: Global, value: &Tree<'_>, which: FieldName) -> Result<K
     }
 }
 
+/// A league's code.
+pub(crate) fn code(alloc: Global, value: &Tree<'_>, which: FieldName) -> Result<Code, ReadFault>
+    ensures { Gives result (code which (view value.now)) }
+{
+    let text = text(value, which)?;
+    match Code::new(alloc, text.as_bytes())? {
+        Some(code) => Ok(code),
+        None => Err(wrong(which)),
+    }
+}
+
 pub(crate) fn position(value: &Tree<'_>, which: FieldName) -> Result<Position, ReadFault>
     ensures { Gives result (position_in which (view value.now)) }
 {
@@ -228,6 +250,24 @@ fn chip_of(name: &str) -> Option<Chip>
         "free_hit" => Some(Chip::FreeHit),
         "bench_boost" => Some(Chip::BenchBoost),
         "triple_captain" => Some(Chip::TripleCaptain),
+        _ => None,
+    }
+}
+
+/// How a league is decided.
+pub(crate) fn kind(value: &Tree<'_>, which: FieldName) -> Result<LeagueKind, ReadFault>
+    ensures { Gives result (kind_in which (view value.now)) }
+{
+    let text = text(value, which)?;
+    kind_of(text).ok_or(wrong(which))
+}
+
+fn kind_of(name: &str) -> Option<LeagueKind>
+    ensures { result ≡ kind_of name.now }
+{
+    match name {
+        "classic" => Some(LeagueKind::Classic),
+        "head" => Some(LeagueKind::Head),
         _ => None,
     }
 }

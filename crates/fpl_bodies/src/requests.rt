@@ -50,23 +50,25 @@ fn view_of(view: ViewRoute, ids: [u32; 2]) -> View
             entry: ids[0],
             gameweek: ids[1],
         },
+        ViewRoute::ShowLeague => View::League { league: ids[0] },
+        ViewRoute::ShowCup => View::Cup { cup: ids[0] },
     }
 }
 
-// What a body orders by the route of a command, at a fixture, where its target names one.
+// What a body orders by the route of a command, at the id of its target, where it has one.
 fn read_ordered(
     alloc: Global,
     scratch: &mut Scratch,
     which: CommandRoute,
-    fixture: u32,
+    id: u32,
     body: &[u8],
 ) -> Result<Request, ReadFault>
-    ensures gives { Gives result (ordered which fixture body.now) }
+    ensures gives { Gives result (ordered which id body.now) }
     ensures readable { IfOk result IsRequest }
 {
     let value = object_of(alloc, scratch, body)?;
     let number = whole(&value, FieldName::Number, 1, 9_223_372_036_854_775_807)?;
-    let command = read_command(alloc, which, fixture, &value)?;
+    let command = read_command(alloc, which, id, &value)?;
     Ok(Request::Command { number, command })
 }
 

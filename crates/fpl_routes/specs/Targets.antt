@@ -42,12 +42,18 @@ served =
     ∷ (Post, codes "/lineup", Entry, Command command.Lineup)
     ∷ (Post, codes "/chip", Entry, Command command.Chip)
     ∷ (Post, codes "/chip/cancel", Entry, Command command.CancelChip)
+    ∷ (Post, codes "/leagues", Entry, Command command.Leagues)
+    ∷ (Post, codes "/leagues/{l}/join", Entry, Command command.Join)
+    ∷ (Post, codes "/leagues/{l}/draw", Operator, Command command.Draw)
+    ∷ (Post, codes "/cups", Operator, Command command.Cups)
     ∷ (Get, codes "/season", Both, View view.ShowSeason)
     ∷ (Get, codes "/me", Entry, View view.ShowMe)
     ∷ (Get, codes "/players/{p}", Both, View view.ShowPlayer)
     ∷ (Get, codes "/players/{p}/gameweeks/{g}", Both, View view.ShowPlayerGameweek)
     ∷ (Get, codes "/fixtures/{f}", Both, View view.ShowFixture)
     ∷ (Get, codes "/entries/{e}/gameweeks/{g}", Both, View view.ShowEntryGameweek)
+    ∷ (Get, codes "/leagues/{l}", Both, View view.ShowLeague)
+    ∷ (Get, codes "/cups/{c}", Both, View view.ShowCup)
     ∷ []
 
 abbrev pub is_method : Method → Method → Bool

@@ -31,6 +31,10 @@ pub enum CommandRoute {
     Lineup,
     Chip,
     CancelChip,
+    Leagues,
+    Join,
+    Draw,
+    Cups,
 }
 
 /// The views that have a route.
@@ -42,6 +46,8 @@ pub enum ViewRoute {
     ShowPlayerGameweek,
     ShowFixture,
     ShowEntryGameweek,
+    ShowLeague,
+    ShowCup,
 }
 
 /// What a route asks of the host.

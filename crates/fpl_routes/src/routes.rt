@@ -7,11 +7,12 @@ ghost use Rattle.fpl_routes.specs.Targets.{AreIds, IsFound, IsId, IsShaped, afte
 use crate::Asks::{Command, View};
 use crate::Callers::{Both, Entry, Operator};
 use crate::CommandRoute::{
-    CancelChip, Chip, Clubs, Deadlines, Drop, Finished, Fixtures, Gone, Keys, Line, Lineup, Move,
-    Players, Prices, Season, Sheet, Squad, Transfers,
+    CancelChip, Chip, Clubs, Cups, Deadlines, Draw, Drop, Finished, Fixtures, Gone, Join, Keys,
+    Leagues, Line, Lineup, Move, Players, Prices, Season, Sheet, Squad, Transfers,
 };
 use crate::ViewRoute::{
-    ShowEntryGameweek, ShowFixture, ShowMe, ShowPlayer, ShowPlayerGameweek, ShowSeason,
+    ShowCup, ShowEntryGameweek, ShowFixture, ShowLeague, ShowMe, ShowPlayer, ShowPlayerGameweek,
+    ShowSeason,
 };
 use crate::route::Method::{self, Get, Post};
 use crate::{Asks, Callers, Found, Route};
@@ -37,7 +38,7 @@ struct Place {
 }
 
 // Each route: its method, the pattern of its targets with a name in braces for each id, who may ask it, what it asks.
-static SERVED: [(Method, &str, Callers, Asks); 24] = [
+static SERVED: [(Method, &str, Callers, Asks); 30] = [
     (Post, "/season", Operator, Command(Season)),
     (Post, "/deadlines", Operator, Command(Deadlines)),
     (Post, "/players", Operator, Command(Players)),
@@ -56,6 +57,10 @@ static SERVED: [(Method, &str, Callers, Asks); 24] = [
     (Post, "/lineup", Entry, Command(Lineup)),
     (Post, "/chip", Entry, Command(Chip)),
     (Post, "/chip/cancel", Entry, Command(CancelChip)),
+    (Post, "/leagues", Entry, Command(Leagues)),
+    (Post, "/leagues/{l}/join", Entry, Command(Join)),
+    (Post, "/leagues/{l}/draw", Operator, Command(Draw)),
+    (Post, "/cups", Operator, Command(Cups)),
     (Get, "/season", Both, View(ShowSeason)),
     (Get, "/me", Entry, View(ShowMe)),
     (Get, "/players/{p}", Both, View(ShowPlayer)),
@@ -72,6 +77,8 @@ static SERVED: [(Method, &str, Callers, Asks); 24] = [
         Both,
         View(ShowEntryGameweek),
     ),
+    (Get, "/leagues/{l}", Both, View(ShowLeague)),
+    (Get, "/cups/{c}", Both, View(ShowCup)),
 ];
 
 /// The table of all routes, ready for look-ups.
