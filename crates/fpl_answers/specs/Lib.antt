@@ -1,6 +1,7 @@
 pub mod Answers
 pub mod KeptPlaces
 pub mod KindNames
+pub mod LeagueData
 pub mod MemberData
 pub mod RuleData
 pub mod ShownData

@@ -16,6 +16,7 @@ use Rattle.season_book.specs.declared.shown.ShownMe.{ShownMe}
 use Rattle.season_book.specs.declared.shown.ShownPick.{ShownPick}
 use Rattle.season_book.specs.declared.shown.ShownSeason.{ShownSeason}
 use Rattle.fpl_answers.specs.KindNames.{chip_word, profile_number}
+use Rattle.fpl_answers.specs.LeagueData.{classic_data, cup_data, head_data}
 use Rattle.fpl_answers.specs.MemberData.{count, count_or_null}
 
 -- a club of the season
@@ -129,3 +130,6 @@ shown_data (shown.PlayerGameweek f) = figures_data f
 shown_data (shown.Fixture f) = fixture_data f
 shown_data (shown.Me m) = me_data m
 shown_data (shown.EntryGameweek e) = entry_gameweek_data e
+shown_data (shown.Classic l) = classic_data l
+shown_data (shown.Head l) = head_data l
+shown_data (shown.Cup c) = cup_data c

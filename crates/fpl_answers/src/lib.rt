@@ -5,6 +5,7 @@
 mod answers;
 mod entries;
 mod kinds;
+mod leagues;
 mod members;
 mod rules;
 mod texts;

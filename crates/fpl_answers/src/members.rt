@@ -6,9 +6,10 @@ ghost use Rattle.serde_json.specs.Find.{of_integer};
 ghost use Rattle.fpl_answers.specs.MemberData.{count, count_or_null};
 ghost use Rattle.fpl_answers.specs.Tokens.{Appends, member_tokens, tokens_of};
 
-use fpl_base::Gw;
+use fpl_base::{Gw, Name};
 use json::Writer;
 use std::alloc::AllocError;
+use std::str;
 
 /// A whole number from 0.
 #[inline(always)]
@@ -87,4 +88,14 @@ pub(crate) fn write_two(
     write_count(out, name, n)?;
     write_count(out, other, m)?;
     out.end_object()
+}
+
+/// A name as text, which it always is.
+pub(crate) fn text_of(name: &Name) -> &str
+    ensures { result.now ≡ name.now }
+{
+    match str::from_utf8(name.bytes()) {
+        Ok(text) => text,
+        Err(_) => unreachable!(),
+    }
 }

@@ -1,5 +1,5 @@
 // What the views show: a small function for each, and one for each list in it.
-ghost use Rattle.std.specs.Prelude.{◌≡◌, map};
+ghost use Rattle.std.specs.Prelude.{map};
 ghost use Rattle.serde_json.specs.Data.{array};
 ghost use Rattle.serde_json.specs.View.{items_of};
 ghost use Rattle.fpl_answers.specs.MemberData.{count};
@@ -8,13 +8,15 @@ ghost use Rattle.fpl_answers.specs.Tokens.{Appends, tokens_of};
 
 use crate::entries::{write_entry_gameweek, write_me};
 use crate::kinds::profile_number;
-use crate::members::{write_count, write_gameweek, write_integer, write_text, write_truth};
+use crate::leagues::{write_classic, write_cup, write_head};
+use crate::members::{
+    text_of, write_count, write_gameweek, write_integer, write_text, write_truth,
+};
 use fpl_base::{ClubId, Moment, Name};
 use json::Writer;
 use rule_book::{Figures, Player};
 use season_book::{Shown, ShownFixture, ShownLine, ShownSeason};
 use std::alloc::AllocError;
-use std::str;
 
 /// About how many bytes the text of a view takes.
 pub(crate) fn room_of(shown: &Shown) -> usize {
@@ -34,8 +36,15 @@ pub(crate) fn room_of(shown: &Shown) -> usize {
         }
         Shown::Me(_) => 1280,
         Shown::EntryGameweek(_) => 320,
+        Shown::Classic(league) => room_of_rows(league.rows.as_slice().len()),
+        Shown::Head(league) => room_of_rows(league.rows.as_slice().len()),
         _ => 160,
     }
+}
+
+// About how many bytes a league of so many rows takes.
+fn room_of_rows(rows: usize) -> usize {
+    rows.saturating_mul(128).saturating_add(128)
 }
 
 pub(crate) fn write_shown(out: &mut Writer, shown: &Shown) -> Result<(), AllocError>
@@ -48,6 +57,9 @@ pub(crate) fn write_shown(out: &mut Writer, shown: &Shown) -> Result<(), AllocEr
         Shown::Fixture(fixture) => write_fixture(out, fixture),
         Shown::Me(me) => write_me(out, me),
         Shown::EntryGameweek(gameweek) => write_entry_gameweek(out, gameweek),
+        Shown::Classic(league) => write_classic(out, league),
+        Shown::Head(league) => write_head(out, league),
+        Shown::Cup(cup) => write_cup(out, cup),
     }
 }
 
@@ -153,14 +165,4 @@ fn write_line(out: &mut Writer, line: &ShownLine) -> Result<(), AllocError>
     write_count(out, "player", u64::from(line.player.get()))?;
     write_integer(out, "points", line.points)?;
     out.end_object()
-}
-
-/// A name as text, which it always is.
-fn text_of(name: &Name) -> &str
-    ensures { result.now ≡ name.now }
-{
-    match str::from_utf8(name.bytes()) {
-        Ok(text) => text,
-        Err(_) => unreachable!(),
-    }
 }

@@ -1,0 +1,8 @@
+use Rattle.fpl_answers.proofs.AppendLemmas.{one, then}
+use Rattle.fpl_answers.proofs.leagues.write_cup.Goals as goal
+
+pub returns : goal.returns
+returns c =
+    rw (c.as_slice.ensures, c.from.ensures, c.get.ensures.value) at
+    (then (one c.in_ok-begin_object.ensures) (then (one c.in_ok-key.ensures)
+    (then c.in_ok-write_rounds.ensures (then c.in_ok-write_count.ensures (one c.end_object.ensures)))))
