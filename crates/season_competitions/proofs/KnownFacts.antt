@@ -1,11 +1,7 @@
 -- Entrants one by one, and registered entries among the managers.
-use Rattle.std.proofs.Common.{◌≡◌, ◌<◌, ℕ, zero, suc, Bool, true, false, not, ◌&&◌, ◌||◌, ◌==◌, List, [], ◌∷◌, Option, Some, None, length, get_or, filter, if◌then◌else◌, arith, refl, sym, ap, ◌∙◌}
+use Rattle.std.proofs.Common.{◌≡◌, ℕ, Bool, true, false, not, ◌&&◌, ◌||◌, ◌==◌, List, [], ◌∷◌, if◌then◌else◌, refl, ap}
 use Rattle.std.specs.List.{list_all}
-use Rattle.std.proofs.lemmas.Option.{none-some}
 use Rattle.rule_book.specs.CupCalls.{entrants}
-use Rattle.season_ledger.specs.Rows.{first_in}
-use Rattle.manager_book.specs.declared.manager.Manager.{Manager}
-use Rattle.manager_book.specs.Managers.{nobody}
 
 -- a test of all entrants is one of all slots that passes byes over
 pub entrants_all : (test : ℕ → Bool) (slots : List ℕ) → list_all (λ slot. (slot == 0) || test slot) slots ≡ list_all test (entrants slots)
@@ -21,4 +17,3 @@ entrants_all test (slot ∷ slots) = by_bye (slot == 0) (test slot) (entrants_al
 pub all_hold : (order : List ℕ) → list_all (λ number. true) order ≡ true
 all_hold [] = refl
 all_hold (number ∷ order) = all_hold order
-

@@ -146,7 +146,11 @@ fn add(
     let _season = season;
     let slots = slots.copy()?;
     let coins = coins.copy()?;
-    match cups.add(Bracket { start, slots, coins }) {
+    match cups.add(Bracket {
+        start,
+        slots,
+        coins,
+    }) {
         Ok(_) => Ok(()),
         Err(Refused::Memory) => Err(Memory),
         Err(Refused::Rule(_)) => unreachable!(),

@@ -8,7 +8,8 @@ pub add-requires : goal.add-requires
 add-requires c =
     let can = can_add c.unbroken_cups_have_shape.ensures c.args.season.now c.args.cups.now c.args.start c.args.slots.now c.args.coins.now c.requires.granted in
     let b : List ℕ → List ℕ → Bracket = λ slots coins. record { start = c.args.start; slots = slots; coins = coins } in
-    record { shape =
-        subst (λ (k : List ℕ). HasShape (b c.in_ok-slots.slots k)) (sym c.in_ok-coins.ensures)
-        (subst (λ (s : List ℕ). HasShape (b s c.args.coins.now)) (sym c.in_ok-slots.ensures) can.shape);
+    record {
+      shape =
+          subst (λ (k : List ℕ). HasShape (b c.in_ok-slots.slots k)) (sym c.in_ok-coins.ensures)
+          (subst (λ (s : List ℕ). HasShape (b s c.args.coins.now)) (sym c.in_ok-slots.ensures) can.shape);
     }
