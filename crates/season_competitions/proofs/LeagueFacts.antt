@@ -1,21 +1,17 @@
 -- What refuses a command on leagues, and what nothing refuses.
-use Rattle.std.proofs.Common.{◌≡◌, ◌≤◌, ◌==◌, ℕ, Bool, true, false, not, ◌&&◌, List, [], ◌∷◌, Option, Some, None, if◌then◌else◌, arith, refl, sym, ap, ◌∙◌, subst}
-use Rattle.std.specs.Prelude.{Result, Ok, Err, OnOk, is_some, nat_lt}
+use Rattle.std.proofs.Common.{◌≡◌, ℕ, Bool, true, false, ◌&&◌, List, [], ◌∷◌, Option, Some, None, if◌then◌else◌, refl, sym, ap, ◌∙◌, subst}
+use Rattle.std.specs.Prelude.{Result, Ok, Err, OnOk, is_some}
 use Rattle.std.specs.List.{list_all}
 use Rattle.std.specs.Option.{option_and_then, option_map}
 use Rattle.std.proofs.lemmas.Bool.{false≢true}
-use Rattle.std.proofs.lemmas.Bool.Decides.{nat_tests}
 use Rattle.std.proofs.lemmas.Option.{none-some}
 use Rattle.fpl_base.specs.declared.rule.Rule.{Rule}
 use Rattle.fpl_base.specs.declared.rule.Rule.TheVariants as rule
 use Rattle.rule_book.specs.Entries.{entry_in}
-use Rattle.rule_book.specs.HeadToHead.{wrong_draw}
-use Rattle.rule_book.specs.LeagueCalls.{create_refusal, draw_refusal, is_drawn, is_head, join_refusal}
+use Rattle.rule_book.specs.LeagueCalls.{create_refusal, draw_refusal, join_refusal}
 use Rattle.rule_book.specs.Leagues.{LeagueFacts}
 use Rattle.rule_book.specs.Refusals.{first_broken, unless}
-use Rattle.season_ledger.specs.Rows.{first_in}
 use Rattle.manager_book.specs.declared.manager.Manager.{Manager}
-use Rattle.manager_book.specs.Managers.{manager_in}
 use Rattle.season_book.specs.Book.{Facts}
 use Rattle.season_book.specs.Commands.{has_gameweek}
 use Rattle.season_book.specs.LeagueCommands.{league_refusal, leagues_there}
@@ -93,13 +89,6 @@ is_registered_then : (registered : Bool) (o : Option Rule) → first_broken (unl
 is_registered_then true o is = refl
 is_registered_then false o is = absurd (none-some rule.NotRegistered (sym is))
 
-numbered : (managers : List Manager) (e : ℕ) → is_registered_by managers e ≡ true → 1 ≤ e
-numbered managers e is = by_zero (e == 0) refl (is_some (first_in (manager_in managers e).season)) is
-  where
-    by_zero : (zero : Bool) → (e == 0) ≡ zero → (row : Bool) → (not zero && row) ≡ true → 1 ≤ e
-    by_zero true none row holds = absurd (false≢true holds)
-    by_zero false some row holds = grind (arith, nat_tests, some)
-
 left : (a b : Bool) → (a && b) ≡ true → a ≡ true
 left true b is = refl
 left false b is = absurd (false≢true is)
@@ -108,19 +97,19 @@ module _ (facts : Facts) (managers : List Manager) (leagues : List LeagueFacts) 
   abbrev Unrefused : Command → Type 0
   Unrefused cmd = league_answer_by facts managers leagues e cmd ≡ None
 
-  unrefused : (cmd : Command) → Unrefused cmd → IsLeagueGranted facts leagues e cmd
+  unrefused : (cmd : Command) → Unrefused cmd → IsLeagueGranted facts managers leagues e cmd
   unrefused (command.League kind name code start) none =
       let registered = is_registered_by managers e in
       let own = create_refusal leagues e start facts.calendar.locked in
       let f = free (has_gameweek facts start) (first_broken (unless registered rule.NotRegistered ∷ own ∷ [])) none in
       let is = is_registered_then registered own f.unbroken in
-      record { by_entry = numbered managers e is; there = f.there_is; unbroken = alone own ∙ sym (behind registered own is) ∙ f.unbroken }
+      record { by_entry = is; there = f.there_is; unbroken = alone own ∙ sym (behind registered own is) ∙ f.unbroken }
   unrefused (command.Join l code) none =
       let registered = is_registered_by managers e in
       let own = option_and_then (λ x. join_refusal leagues e x code) (entry_in leagues l) in
       let f = free (is_some (entry_in leagues l)) (first_broken (unless registered rule.NotRegistered ∷ own ∷ [])) none in
       let is = is_registered_then registered own f.unbroken in
-      record { by_entry = numbered managers e is; there = f.there_is; unbroken = alone own ∙ sym (behind registered own is) ∙ f.unbroken }
+      record { by_entry = is; there = f.there_is; unbroken = alone own ∙ sym (behind registered own is) ∙ f.unbroken }
   unrefused (command.Draw l order) none =
       let own = option_and_then (λ x. draw_refusal x order facts.calendar.locked) (entry_in leagues l) in
       let f = free (is_some (entry_in leagues l) && list_all (is_issued_by managers) order) own none in
@@ -149,26 +138,6 @@ module _ (facts : Facts) (managers : List Manager) (leagues : List LeagueFacts) 
   unrefused command.CancelChip none = absurd (none-some answer.Unknown (sym none))
   unrefused (command.Cup a b c) none = absurd (none-some answer.Unknown (sym none))
 
-  pub league_granted : {T : Type 0} (cmd : Command) (result : Result T Answer) → IsAnswered (league_answer_by facts managers leagues e cmd) result → OnOk result (IsLeagueGranted facts leagues e cmd)
+  pub league_granted : {T : Type 0} (cmd : Command) (result : Result T Answer) → IsAnswered (league_answer_by facts managers leagues e cmd) result → OnOk result (IsLeagueGranted facts managers leagues e cmd)
   league_granted cmd (Ok value) none = unrefused cmd none
   league_granted cmd (Err reply) refused = tt
-
--- an order that nothing refuses is one of a head-to-head league, and no wrong draw
-pub record CanOrder (league : LeagueFacts) (order : List ℕ) : Type 0 where
-  pub head : is_head league.kind ≡ true
-  pub right : wrong_draw order league.members ≡ None
-
-order_free : (open_still later head : Bool) (start : Rule) (wrong : Option Rule)
-    → first_broken (unless open_still rule.LeagueClosed ∷ unless later start ∷ unless head rule.DrawWrong ∷ wrong ∷ []) ≡ None
-    → Free head wrong
-order_free true true true start wrong is = record { there_is = refl; unbroken = sym (alone wrong) ∙ is }
-order_free true true false start wrong is = absurd (none-some rule.DrawWrong (sym is))
-order_free true false head start wrong is = absurd (none-some start (sym is))
-order_free false later head start wrong is = absurd (none-some rule.LeagueClosed (sym is))
-
-pub can_order : (facts : Facts) (leagues : List LeagueFacts) (e l : ℕ) (order : List ℕ) (league : LeagueFacts)
-    → IsLeagueGranted facts leagues e (command.Draw l order) → entry_in leagues l ≡ Some league → CanOrder league order
-can_order facts leagues e l order league granted at =
-    let f = order_free (not (is_drawn league)) (nat_lt facts.calendar.locked league.start) (is_head league.kind) (rule.StartPassed league.start) (wrong_draw order league.members)
-    (sym (ap (option_and_then (λ x. draw_refusal x order facts.calendar.locked)) at) ∙ granted.unbroken) in
-    record { head = f.there_is; right = f.unbroken }

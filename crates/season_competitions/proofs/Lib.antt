@@ -1,3 +1,4 @@
 pub mod KnownFacts
 pub mod CupFacts
 pub mod LeagueFacts
+pub mod MemberFacts

@@ -1,10 +1,11 @@
 -- The commands on leagues by kept rows: what refuses each, and what nothing refuses.
-use Rattle.std.specs.Prelude.{◌≡◌, ◌≤◌, ℕ, Bool, true, List, Option, Some, None, Result, if◌then◌else◌, ⊤}
+use Rattle.std.specs.Prelude.{All, length, ◌≡◌, ◌≤◌, ℕ, Bool, true, List, Option, Some, None, Result, if◌then◌else◌, ⊤}
 use Rattle.std.specs.Option.{option_map}
+use Rattle.rule_book.specs.Entries.{entry_in}
 use Rattle.rule_book.specs.Leagues.{LeagueFacts}
 use Rattle.manager_book.specs.declared.manager.Manager.{Manager}
 use Rattle.season_book.specs.Book.{EntryFacts, Facts}
-use Rattle.season_book.specs.LeagueCommands.{is_issued, is_registered, league_refusal, leagues_there}
+use Rattle.season_book.specs.LeagueCommands.{is_issued, is_registered, league_refusal, leagues_after, leagues_there}
 use Rattle.season_book.specs.declared.answer.Answer.{Answer}
 use Rattle.season_book.specs.declared.answer.Answer.TheVariants as answer
 use Rattle.season_book.specs.declared.command.Command.{Command}
@@ -31,14 +32,29 @@ IsLeagueJudgedByBooks facts managers leagues e command judged = (entries : List 
     → AreEntries facts.players managers entries
     → IsAnswered (league_answer facts (is_issued entries) (is_registered entries) leagues e command) judged
 
--- who creates or joins a league is an entry
-abbrev pub IsByEntry : ℕ → Command → Type 0
-IsByEntry e (command.League kind name code start) = 1 ≤ e
-IsByEntry e (command.Join l code) = 1 ≤ e
-IsByEntry e command = ⊤
+-- who creates or joins a league is a registered entry
+abbrev pub IsByEntry : List Manager → ℕ → Command → Type 0
+IsByEntry managers e (command.League kind name code start) = is_registered_by managers e ≡ true
+IsByEntry managers e (command.Join l code) = is_registered_by managers e ≡ true
+IsByEntry managers e command = ⊤
 
 -- nothing refuses it: the gameweek or the league that it names is there, and it breaks no rule
-pub record IsLeagueGranted (facts : Facts) (leagues : List LeagueFacts) (e : ℕ) (command : Command) : Type 0 where
-  pub by_entry : IsByEntry e command
+pub record IsLeagueGranted (facts : Facts) (managers : List Manager) (leagues : List LeagueFacts) (e : ℕ) (command : Command) : Type 0 where
+  pub by_entry : IsByEntry managers e command
   pub there : leagues_there facts (λ number. true) leagues command ≡ true
   pub unbroken : league_refusal facts true leagues e command ≡ None
+
+-- each member of each league is one of so many entries
+abbrev pub AreMembers : ℕ → List LeagueFacts → Type 0
+AreMembers count leagues = All (λ league. All (λ e. e ≤ count) league.members) leagues
+
+-- so it stays behind a command that nothing refuses, and where entries are added
+pub record MembersStay (facts : Facts) (managers : List Manager) (leagues : List LeagueFacts) : Type 0 where
+  pub commands : (e : ℕ) (command : Command) → IsLeagueGranted facts managers leagues e command
+      → AreMembers (length managers) leagues → AreMembers (length managers) (leagues_after leagues e command)
+  pub entries : (count : ℕ) → length managers ≤ count → AreMembers (length managers) leagues → AreMembers count leagues
+  pub there : (l : ℕ) (league : LeagueFacts) → entry_in leagues l ≡ Some league → AreMembers (length managers) leagues
+      → All (λ e. e ≤ length managers) league.members
+
+abbrev pub MembersAlwaysStay : Type 0
+MembersAlwaysStay = (facts : Facts) (managers : List Manager) (leagues : List LeagueFacts) → MembersStay facts managers leagues

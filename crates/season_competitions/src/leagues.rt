@@ -161,7 +161,7 @@ pub fn judge_league(
     requires { part_of command.now ≡ part.Leagues }
     ensures rows { IsAnswered (league_answer_by season.now managers.now.managers leagues.now (caller_number caller.now) command.now) result }
     ensures books { IsLeagueJudgedByBooks season.now managers.now.managers leagues.now (caller_number caller.now) command.now result }
-    ensures granted { OnOk result (IsLeagueGranted season.now leagues.now (caller_number caller.now) command.now) }
+    ensures granted { OnOk result (IsLeagueGranted season.now managers.now.managers leagues.now (caller_number caller.now) command.now) }
 {
     // The law on which the clause of books stands, and that players are lawful and entries few, for the prover.
     entries_are_known();
@@ -173,6 +173,7 @@ pub fn judge_league(
 // Creates a league that nothing refuses.
 fn do_create(
     season: &Season,
+    managers: &ManagerBook,
     leagues: &mut Leagues,
     entry: EntryId,
     kind: LeagueKind,
@@ -180,10 +181,11 @@ fn do_create(
     code: &Code,
     start: Gw,
 ) -> Result<(), Memory>
-    requires granted { IsLeagueGranted season.now leagues.old entry (command.League kind name.now code.now start) }
+    requires granted { IsLeagueGranted season.now managers.now.managers leagues.old entry (command.League kind name.now code.now start) }
     ensures done { OnOk result (leagues.new ≡ leagues_after leagues.old entry (command.League kind name.now code.now start)) }
     ensures err { OnErr result (leagues.new ≡ leagues.old) }
 {
+    let _managers = managers;
     let name = name.copy()?;
     let code = code.copy()?;
     match leagues.create(entry, kind, name, code, start, season.calendar().locked()) {
@@ -196,16 +198,17 @@ fn do_create(
 // Lets an entry join a league where nothing refuses it.
 fn do_join(
     season: &Season,
+    managers: &ManagerBook,
     leagues: &mut Leagues,
     entry: EntryId,
     number: u32,
     code: &Code,
 ) -> Result<(), Memory>
-    requires granted { IsLeagueGranted season.now leagues.old entry (command.Join number code.now) }
+    requires granted { IsLeagueGranted season.now managers.now.managers leagues.old entry (command.Join number code.now) }
     ensures done { OnOk result (leagues.new ≡ leagues_after leagues.old entry (command.Join number code.now)) }
     ensures err { OnErr result (leagues.new ≡ leagues.old) }
 {
-    let _season = season;
+    let (_season, _managers) = (season, managers);
     let Some(league) = LeagueId::new(number) else {
         unreachable!()
     };
@@ -219,15 +222,16 @@ fn do_join(
 // Draws a league where nothing refuses it.
 fn do_draw(
     season: &Season,
+    managers: &ManagerBook,
     leagues: &mut Leagues,
     number: u32,
     order: &[EntryId],
 ) -> Result<(), Memory>
-    requires granted { (e : ℕ) × IsLeagueGranted season.now leagues.old e (command.Draw number order.now) }
+    requires granted { (e : ℕ) × IsLeagueGranted season.now managers.now.managers leagues.old e (command.Draw number order.now) }
     ensures done { (e : ℕ) → OnOk result (leagues.new ≡ leagues_after leagues.old e (command.Draw number order.now)) }
     ensures err { OnErr result (leagues.new ≡ leagues.old) }
 {
-    let _season = season;
+    let (_season, _managers) = (season, managers);
     let Some(id) = LeagueId::new(number) else {
         unreachable!()
     };
@@ -243,12 +247,13 @@ fn do_draw(
 /// Does a caller's command on leagues that nothing refuses, as `judge_league` says; unchanged where memory is wanting.
 pub fn do_league(
     season: &Season,
+    managers: &ManagerBook,
     leagues: &mut Leagues,
     caller: &Caller,
     command: &Command,
 ) -> Result<(), Memory>
     requires part { part_of command.now ≡ part.Leagues }
-    requires granted { IsLeagueGranted season.now leagues.old (caller_number caller.now) command.now }
+    requires granted { IsLeagueGranted season.now managers.now.managers leagues.old (caller_number caller.now) command.now }
     ensures done { OnOk result (leagues.new ≡ leagues_after leagues.old (caller_number caller.now) command.now) }
     ensures err { OnErr result (leagues.new ≡ leagues.old) }
 {
@@ -260,15 +265,21 @@ pub fn do_league(
             start,
         } => match caller {
             Caller::Entry(entry) => {
-                do_create(season, leagues, *entry, *kind, name, code, *start)
+                do_create(season, managers, leagues, *entry, *kind, name, code, *start)
             }
             Caller::Operator => unreachable!(),
         },
         Command::Join { league, code } => match caller {
-            Caller::Entry(entry) => do_join(season, leagues, *entry, *league, code),
+            Caller::Entry(entry) => do_join(season, managers, leagues, *entry, *league, code),
             Caller::Operator => unreachable!(),
         },
-        Command::Draw { league, order } => do_draw(season, leagues, *league, order.as_slice()),
+        Command::Draw { league, order } => do_draw(
+            season,
+            managers,
+            leagues,
+            *league,
+            order.as_slice(),
+        ),
         _ => unreachable!(),
     }
 }

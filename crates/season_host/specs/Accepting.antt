@@ -47,7 +47,7 @@ IsGrantedIn part.Facts running e now command = IsGranted running.facts now comma
 IsGrantedIn part.Entries running e now command = HasRoom running.managers command
 IsGrantedIn part.Deeds running e now command =
     (1 ≤ e) × (e ≤ length running.managers) × IsDeedGranted running.facts (manager_in running.managers e).season command
-IsGrantedIn part.Leagues running e now command = IsLeagueGranted running.facts running.leagues e command
+IsGrantedIn part.Leagues running e now command = IsLeagueGranted running.facts running.managers running.leagues e command
 IsGrantedIn part.Cups running e now command = IsCupGranted running.facts running.cups command
 
 abbrev pub IsGrantedTo : Running → Caller → ℕ → Command → Type 0

@@ -1,5 +1,5 @@
 -- What a host keeps, and the books that it stands for.
-use Rattle.std.specs.Prelude.{◌≡◌, ℕ, List, [], Option, Some, None, map}
+use Rattle.std.specs.Prelude.{◌≡◌, ℕ, List, [], Option, Some, None, length, map}
 use Rattle.std.specs.Option.{option_map, option_map_or}
 use Rattle.fpl_base.specs.declared.kinds.Caller.{Caller}
 use Rattle.rule_book.specs.declared.cup.Bracket.{Bracket}
@@ -11,6 +11,7 @@ use Rattle.rule_book.specs.ById.{at_id}
 use Rattle.season_book.specs.Book.{Book, Facts, Last, caller_number}
 use Rattle.season_book.specs.Hosts.{HostState, number_in}
 use Rattle.season_book.specs.Verdict.{locked_at}
+use Rattle.season_competitions.specs.Leagues.{AreMembers}
 use Rattle.season_entries.specs.EntryLaws.{AreEarly}
 use Rattle.season_entries.specs.Entries.{AreEntries}
 
@@ -23,10 +24,12 @@ pub record Running : Type 0 where
   pub leagues : List LeagueFacts
   pub cups : List Bracket
 
--- the managers play by the season's rules, and did nothing for a gameweek behind the next one or the last
-pub record InStep (facts : Facts) (book : Managers) : Type 0 where
+-- the managers play by the season's rules, and did nothing for a gameweek behind the next one or the last; the members
+-- of each league are among them
+pub record InStep (facts : Facts) (book : Managers) (leagues : List LeagueFacts) : Type 0 where
   pub profile : book.profile ≡ facts.profile
   pub early : AreEarly facts book.managers
+  pub members : AreMembers (length book.managers) leagues
 
 -- a running season stands for a book: the same facts, leagues and cups, and entries whose rows stand for their histories
 pub record Plays (running : Running) (book : Book) : Type 0 where

@@ -25,7 +25,7 @@ use cup_rounds::Cups;
 use fpl_base::{Caller, CupId, EntryId, Key, LeagueId, Memory, Moment, Rule, Steps};
 use manager_book::ManagerBook;
 use season_book::{Answer, Command, Made, Part, Shown};
-use season_competitions::{do_cup, do_league, judge_cup, judge_league};
+use season_competitions::{do_cup, do_league, judge_cup, judge_league, members_stay};
 use season_entries::{
     do_deed, do_key, early_is_in_time, entries_are_issued, facts_leave_entries, judge_deed,
     judge_key, moments_leave_entries, owners_are_alike,
@@ -53,7 +53,7 @@ impl Model for RunningSeason {
 
     ghost view = { λ r. record { facts = r.season; managers = r.managers.managers; leagues = r.leagues; cups = r.cups } };
 
-    ghost invariant = { λ r. InStep r.season r.managers };
+    ghost invariant = { λ r. InStep r.season r.managers r.leagues };
 }
 
 impl RunningSeason {
@@ -291,11 +291,19 @@ impl RunningSeason {
     // Does a command on leagues.
     fn do_league(&mut self, caller: &Caller, command: &Command) -> Result<(), Memory>
         requires part { part_of command.now ≡ part.Leagues }
-        requires granted { IsLeagueGranted self.old.facts self.old.leagues (caller_number caller.now) command.now }
+        requires granted { IsLeagueGranted self.old.facts self.old.managers self.old.leagues (caller_number caller.now) command.now }
         ensures done { (now : ℕ) → OnOk result (IsDone caller.now now command.now self.old self.new) }
         ensures err { OnErr result (self.new ≡ self.old) }
     {
-        do_league(&self.season, &mut self.leagues, caller, command)
+        // The law that its members are entries, for the prover.
+        members_stay();
+        do_league(
+            &self.season,
+            &self.managers,
+            &mut self.leagues,
+            caller,
+            command,
+        )
     }
 
     // Draws a cup.
