@@ -5,6 +5,7 @@ mod entries;
 mod figures;
 mod scores;
 mod sheets;
+mod sides;
 mod totals;
 mod views;
 
