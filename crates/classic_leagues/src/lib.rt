@@ -1,10 +1,15 @@
-//! Classic leagues: the table.
+//! Classic leagues: the table. And the leagues of a season, classic and head-to-head, with their members.
 #![tactic(auto)]
 
 mod classic_table;
+mod league;
+mod leagues;
+mod memberships;
 
 pub use classic_table::table;
-pub use rule_book::Ranked;
+pub use league::{Ids, League};
+pub use leagues::Leagues;
+pub use rule_book::{LeagueKind, Ranked};
 
 #[cfg(test)]
 mod tests;

@@ -1,0 +1,40 @@
+-- The leagues of a season, and the leagues of each entry beside them.
+use Rattle.std.specs.Prelude.{◌≡◌, ◌<◌, ◌≤◌, ◌-◌, ◌++◌, ℕ, true, IsTrue, List, [], ◌∷◌, length, filter, AllPairs, Option, nat_lt, slice_index_or, IsSomeAnd}
+use Rattle.rule_book.specs.Entries.{entry_in}
+use Rattle.rule_book.specs.HeadToHead.{IsDraw}
+use Rattle.rule_book.specs.LeagueCalls.{is_drawn, is_head, leagues_of, most_leagues, most_members}
+use Rattle.rule_book.specs.Leagues.{LeagueFacts}
+
+-- numbers that rise, so that each stands once
+abbrev pub Rise : List ℕ → Type 0
+Rise numbers = AllPairs (λ a b. a < b) numbers
+
+-- a league can have this order: it is a head-to-head league, and the order is a draw of its members
+pub record CanDraw (order : List ℕ) (league : LeagueFacts) : Type 0 where
+  pub head : is_head league.kind ≡ true
+  pub draw : IsDraw order league.members
+
+-- the league of a number is there, and can have this order
+abbrev pub CanDrawIn : List LeagueFacts → ℕ → List ℕ → Type 0
+CanDrawIn leagues l order = IsSomeAnd (entry_in leagues l) (CanDraw order)
+
+-- a league has members who ascend, at least one and no more than its kind can have, and where it was drawn, it can have
+-- its order
+pub record IsLeague (league : LeagueFacts) : Type 0 where
+  pub rise : Rise league.members
+  pub some : 1 ≤ length league.members
+  pub few : length league.members ≤ most_members league.kind
+  pub drawn : IsTrue (is_drawn league) → CanDraw league.order league
+
+-- ascending numbers with one more, in its place
+abbrev pub with_number : ℕ → List ℕ → List ℕ
+with_number n numbers = filter (λ m. nat_lt m n) numbers ++ n ∷ filter (λ m. nat_lt n m) numbers
+
+-- the numbers that stand in the row of an entry; none where it has no row
+abbrev pub row_of : List (List ℕ) → ℕ → List ℕ
+row_of rows e = slice_index_or rows (e - 1) []
+
+-- there are not too many leagues, and the row of each entry has the leagues that it is in
+pub record AreBooked (leagues : List LeagueFacts) (rows : List (List ℕ)) : Type 0 where
+  pub few : length leagues ≤ most_leagues
+  pub told : (e : ℕ) → 1 ≤ e → row_of rows e ≡ leagues_of leagues e

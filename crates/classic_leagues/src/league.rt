@@ -1,0 +1,142 @@
+//! One league: who is in it, and in which order it was drawn.
+ghost use Rattle.std.specs.Prelude.{◌≡◌, ◌<◌, ◌≤◌, ◌∷◌, false, [], length, AllPairs, IfOk, IsTrue, OnErr, OnOk};
+ghost use Rattle.rule_book.specs.LeagueCalls.{is_drawn, is_member, most_members, new_league, with_member, with_order};
+ghost use Rattle.rule_book.specs.LeagueRows.{place_of};
+ghost use Rattle.rule_book.specs.Ranks.{AllDiffer};
+ghost use Rattle.classic_leagues.specs.Books.{CanDraw};
+
+use fpl_base::{Code, EntryId, Gw, ListOf, Memory, Name};
+use rule_book::LeagueKind;
+use std::alloc::Global;
+use std::marker::Model;
+
+/// Entries in an order.
+pub type Ids = ListOf<EntryId>;
+
+/// A league. Its members stand by ascending number, each once. There is at least one: who created it. A classic league
+/// has at most 2,048 members, and a head-to-head league 64. The order of a head-to-head league that was drawn has each
+/// member once; it is empty before, and in a classic league.
+#[derive(Drop)]
+pub struct League {
+    kind: LeagueKind,
+    name: Name,
+    code: Code,
+    start: Gw,
+    creator: EntryId,
+    members: Ids,
+    order: Ids,
+}
+
+impl Model for League {
+    ghost use Rattle.rule_book.specs.Leagues.{LeagueFacts};
+    ghost use Rattle.classic_leagues.specs.Books.{IsLeague};
+
+    ghost Value = { LeagueFacts };
+
+    ghost view = { λ l. record { kind = l.kind; name = l.name; code = l.code; start = l.start; creator = l.creator; members = l.members; order = l.order } };
+
+    ghost invariant = { λ l. IsLeague (record { kind = l.kind; name = l.name; code = l.code; start = l.start; creator = l.creator; members = l.members; order = l.order }) };
+}
+
+impl League {
+    /// A league that an entry creates, which is its first member.
+    pub fn new(
+        alloc: Global,
+        kind: LeagueKind,
+        name: Name,
+        code: Code,
+        start: Gw,
+        creator: EntryId,
+    ) -> Result<Self, Memory>
+        ensures { IfOk result (λ league. league ≡ new_league kind name code start creator) }
+    {
+        let mut members = Ids::with_room(alloc, 1)?;
+        members.push(creator)?;
+        Ok(League {
+            kind,
+            name,
+            code,
+            start,
+            creator,
+            members,
+            order: Ids::new(alloc),
+        })
+    }
+
+    /// How it is decided.
+    pub fn kind(&self) -> LeagueKind
+        ensures { result ≡ self.now.kind }
+    {
+        self.kind
+    }
+
+    /// What it is called.
+    pub fn name(&self) -> &Name
+        ensures { result.now ≡ self.now.name }
+    {
+        &self.name
+    }
+
+    /// The code that joins it.
+    pub fn code(&self) -> &Code
+        ensures { result.now ≡ self.now.code }
+    {
+        &self.code
+    }
+
+    /// The first gameweek that it counts.
+    pub fn start(&self) -> Gw
+        ensures { result ≡ self.now.start }
+    {
+        self.start
+    }
+
+    /// Who created it.
+    pub fn creator(&self) -> EntryId
+        ensures { result ≡ self.now.creator }
+    {
+        self.creator
+    }
+
+    /// Its members, by ascending number.
+    pub fn members(&self) -> &[EntryId]
+        ensures value { result.now ≡ self.now.members }
+        ensures differ { AllDiffer result.now }
+        ensures rise { AllPairs (λ a b. a < b) result.now }
+        ensures some { 1 ≤ length result.now }
+        ensures few { length result.now ≤ most_members self.now.kind }
+    {
+        self.members.as_slice()
+    }
+
+    /// The order in which it was drawn: its members by place. It is empty before.
+    pub fn order(&self) -> &[EntryId]
+        ensures value { result.now ≡ self.now.order }
+        ensures differ { AllDiffer result.now }
+        ensures few { length result.now ≤ 64 }
+        ensures drawn { IsTrue (is_drawn self.now) → CanDraw result.now self.now }
+    {
+        self.order.as_slice()
+    }
+
+    /// Whether an entry is a member.
+    pub fn is_member(&self, e: EntryId) -> bool
+        ensures { result ≡ is_member self.now e }
+    {
+        self.members.as_slice().binary_search(&e).is_ok()
+    }
+
+    /// Whether it was drawn.
+    pub fn is_drawn(&self) -> bool
+        ensures { result ≡ is_drawn self.now }
+    {
+        self.order.as_slice().len() != 0
+    }
+
+    /// The place of a member in the order, counted from 0; `None` before the draw, and where the entry is no member.
+    pub fn place(&self, e: EntryId) -> Option<usize>
+        ensures { result ≡ place_of self.now.order e }
+    {
+        self.order.as_slice().iter().position(|member| *member == e)
+    }
+}
