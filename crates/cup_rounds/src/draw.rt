@@ -2,6 +2,7 @@
 ghost use Rattle.std.specs.Prelude.{◌≡◌, ◌≢◌, ◌≤◌, ◌<◌, ◌+◌, ◌*◌, ◌^◌, ◌↔◌, ℕ, IfSome, IfNone, IsTrue, OnOk, length};
 ghost use Rattle.rule_book.specs.Cups.{StandsOnce, HasNoByeTie, IsCup, wrong_cup};
 ghost use Rattle.rule_book.specs.Refusals.{IsJudged};
+ghost use Rattle.cup_rounds.specs.Shapes.{HasShape};
 
 use fpl_base::Rule;
 use rule_book::Bracket;
@@ -14,6 +15,7 @@ pub fn check(b: &Bracket, gameweeks: u8, locked: u8) -> Result<(), Rule>
     ensures judged { IsJudged (wrong_cup b.now gameweeks locked) result }
     ensures open { OnOk result (locked < b.now.start) }
     ensures cup { OnOk result (IsCup b.now gameweeks) }
+    ensures shape { OnOk result (HasShape b.now) }
     ensures wrong { result ≡ Err Rule.DrawWrong → ¬ IsCup b.now gameweeks }
 {
     if b.start.get() <= locked {
@@ -46,7 +48,7 @@ fn can_be_played(b: &Bracket, gameweeks: u8) -> bool
 }
 
 // The rounds of a cup of so many slots, if there is such a cup.
-fn rounds_of(slots: usize) -> Option<u8>
+pub(crate) fn rounds_of(slots: usize) -> Option<u8>
     ensures some { IfSome result (λ r. (1 ≤ r) × (r ≤ 10) × (slots ≡ 2 ^ r)) }
     ensures none { IfNone result ((r : ℕ) → 1 ≤ r → r ≤ 10 → slots ≢ 2 ^ r) }
 {

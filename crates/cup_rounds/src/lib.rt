@@ -1,13 +1,17 @@
 //! Cups: which draw can be played, and who goes on in a tie.
 #![tactic(auto)]
 
+mod cups;
 mod draw;
 mod laws;
+mod shape;
 mod ties;
 
+pub use cups::Cups;
 pub use draw::check;
-pub use laws::{entrants_win, winners_meet};
+pub use laws::{cups_have_shape, entrants_win, rounds_follow, winners_meet};
 pub use rule_book::{Bracket, Coins, Side, Slots};
+pub use shape::{coin, rounds};
 pub use ties::tie;
 
 #[cfg(test)]

@@ -12,7 +12,7 @@ pub use head_table::table;
 pub use laws::{
     each_meets_one, mean_is_the_one, meet_once, opponent_is_the_one, points_by_results,
 };
-pub use matches::{average, result};
+pub use matches::{average, head_score, result};
 pub use rounds::opponent;
 pub use rule_book::{HeadRanked, HeadScore, Opponent};
 

@@ -5,6 +5,6 @@ use Rattle.head_to_head.proofs.matches.total.Given as goal
 abbrev pub invariant-loop-score : goal.invariant-loop-score
 invariant-loop-score l = record {
   sum : l.sum ≡ total_of (take l.score-index l.scores);
-  low : neg_ℤ (pos (1000000 * l.score-index)) ≤ℤ l.sum;
-  high : l.sum ≤ℤ pos (1000000 * l.score-index);
+  low : neg_ℤ (pos (18000000 * l.score-index)) ≤ℤ l.sum;
+  high : l.sum ≤ℤ pos (18000000 * l.score-index);
 }

@@ -1,0 +1,103 @@
+// The cups of a season.
+ghost use Rattle.std.specs.Prelude.{◌≡◌, ◌≤◌, ◌+◌, ◌++◌, [], ◌∷◌, length, nat_lt, IfOk, IfSome, OnOk, OnErr, option_copied};
+ghost use Rattle.fpl_base.specs.declared.rule.Rule.TheVariants as rule;
+ghost use Rattle.rule_book.specs.CupCalls.{most_cups, is_entrant, cups_of};
+ghost use Rattle.rule_book.specs.Entries.{entry_in};
+ghost use Rattle.rule_book.specs.Refusals.{IsJudgedOrOut, unless};
+ghost use Rattle.cup_rounds.specs.Shapes.{HasShape};
+
+use fpl_base::{CupId, EntryId, ListOf, Memory, Refused, Rule};
+use rule_book::Bracket;
+use std::alloc::Global;
+use std::marker::Model;
+
+/// The cups of a season, numbered from 1 in the order of their draws, at most 32. Each has as many slots as 1 to 10 rounds
+/// need, and a coin for each tie. `docs/RULES.md` has this under "Cups".
+#[derive(Drop)]
+pub struct Cups {
+    cups: Vec<Bracket>,
+}
+
+impl Model for Cups {
+    ghost use Rattle.std.specs.Prelude.{List};
+    ghost use Rattle.rule_book.specs.declared.cup.Bracket.{Bracket};
+    ghost use Rattle.cup_rounds.specs.Shapes.{AreCups};
+
+    ghost Value = { List Bracket };
+
+    ghost view = { λ c. c.cups.items };
+
+    ghost invariant = { λ c. AreCups c.cups.items };
+}
+
+impl Cups {
+    /// No cups.
+    pub fn new(alloc: Global) -> Self
+        ensures { result ≡ [] }
+    {
+        Cups {
+            cups: Vec::new(alloc),
+        }
+    }
+
+    /// How many cups there are.
+    pub fn count(&self) -> u32
+        ensures count { result ≡ length self.now }
+        ensures most { result ≤ 32 }
+    {
+        self.cups.len() as u32
+    }
+
+    /// A cup; None where there is none of this number.
+    pub fn get(&self, c: CupId) -> Option<&Bracket>
+        ensures there { option_copied result ≡ entry_in self.now c }
+        ensures shape { IfSome result (λ b. HasShape b.now) }
+    {
+        self.cups.get(c.get() as usize - 1)
+    }
+
+    /// Adds a cup behind the others, and answers its number. `CupsFull` refuses it where 32 are there. A cup that is
+    /// refused, or for which there is no memory, is let go. `check` says whether a cup has the shape.
+    pub fn add(&mut self, b: Bracket) -> Result<CupId, Refused>
+        requires shape { HasShape b }
+        ensures judged { IsJudgedOrOut (unless (nat_lt (length self.old) most_cups) rule.CupsFull) result }
+        ensures made { IfOk result (λ c. c ≡ length self.old + 1) }
+        ensures ok { OnOk result (self.new ≡ self.old ++ b ∷ []) }
+        ensures err { OnErr result (self.new ≡ self.old) }
+    {
+        if self.cups.len() >= 32 {
+            return Err(Refused::Rule(Rule::CupsFull));
+        }
+        let Some(c) = CupId::new(self.cups.len() as u32 + 1) else {
+            return Err(Refused::Rule(Rule::CupsFull));
+        };
+        if self.cups.push(b).is_err() {
+            return Err(Refused::Memory);
+        }
+        Ok(c)
+    }
+
+    /// The cups in which an entry stands, in the order of their numbers.
+    pub fn cups_of(&self, e: EntryId) -> Result<ListOf<CupId>, Memory>
+        ensures { IfOk result (λ ids. ids ≡ cups_of self.now e) }
+    {
+        let mut ids = ListOf::new(*self.cups.allocator());
+        let mut number = 0;
+        for b in &self.cups {
+            number += 1;
+            if stands_in(b, e)
+                && let Some(c) = CupId::new(number)
+            {
+                ids.push(c)?;
+            }
+        }
+        Ok(ids)
+    }
+}
+
+// Whether an entry stands in a slot of a cup.
+fn stands_in(b: &Bracket, e: EntryId) -> bool
+    ensures { result ≡ is_entrant b.now e }
+{
+    b.slots.as_slice().contains(&e.get())
+}
