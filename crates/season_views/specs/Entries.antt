@@ -1,5 +1,6 @@
 -- What is shown of an entry by what its rows tell, and what histories and entries the rows stand for.
 use Rattle.std.specs.Prelude.{ℕ, ℤ, List, Option, map}
+use Rattle.rule_book.specs.declared.player.Player.{Player}
 use Rattle.rule_book.specs.declared.team.Team.{Team}
 use Rattle.rule_book.specs.declared.team_score.Figures.{Figures}
 use Rattle.rule_book.specs.declared.team_score.TeamScore.{TeamScore}
@@ -25,6 +26,10 @@ OfEachHistory facts managers e Holds = (h : List Event) → StandsFor (position_
 -- this holds of the entries of each book that the managers stand for
 abbrev pub OfEachBook : Facts → Managers → (List EntryFacts → Type 0) → Type 0
 OfEachBook facts managers Holds = (entries : List EntryFacts) → AreEntries facts.players managers.managers entries → Holds entries
+
+-- and wherever their players may play
+abbrev pub OfEachNames : Managers → (List EntryFacts → Type 0) → Type 0
+OfEachNames managers Holds = (players : List Player) (entries : List EntryFacts) → AreEntries players managers.managers entries → Holds entries
 
 -- the points after deductions of a history in a gameweek; 0 where it has not begun
 abbrev pub net_by : Facts → List Event → ℕ → ℤ

@@ -1,8 +1,8 @@
 // What an entry has in a gameweek.
 ghost use Rattle.std.specs.Prelude.{◌≡◌};
 ghost use Rattle.rule_book.specs.FigureRange.{IsWithin};
-ghost use Rattle.season_book.specs.LeagueViews.{side_by, side_of};
-ghost use Rattle.season_views.specs.Entries.{OfEachHistory};
+ghost use Rattle.season_book.specs.LeagueViews.{side_by, side_in, side_of};
+ghost use Rattle.season_views.specs.Entries.{OfEachBook, OfEachHistory};
 
 use crate::scores::score_with;
 use fpl_base::{EntryId, Gw, Steps};
@@ -39,6 +39,30 @@ pub(crate) fn side_in<L: Ledger>(
             let cost = managers.cost(entry, gameweek, steps);
             side_of(&score_with(season, &team, cost, gameweek, steps))
         }
+        None => Side {
+            net: 0,
+            goals: 0,
+            conceded: 0,
+        },
+    }
+}
+
+// The same of the entry of a number; nothing where it was not issued.
+pub(crate) fn side_at<L: Ledger>(
+    season: &Season,
+    managers: &ManagerBook,
+    number: u32,
+    gameweek: Gw,
+    steps: &mut Steps<L>,
+) -> Side
+    requires { managers.now.profile ≡ season.now.profile }
+    ensures value { OfEachBook season.now managers.now (λ entries. result ≡ side_in season.now entries number gameweek) }
+    ensures near { IsWithin 18000000 result.net }
+{
+    // That the ids of players rise, for the prover.
+    let _count = season.players().len();
+    match EntryId::new(number) {
+        Some(entry) => side_in(season, managers, entry, gameweek, steps),
         None => Side {
             net: 0,
             goals: 0,

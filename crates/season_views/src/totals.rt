@@ -27,7 +27,7 @@ pub(crate) fn sum_of(nets: &[i32]) -> i32
 }
 
 // How many locked gameweeks there are from one on.
-fn locked_from(season: &Season, from: Gw) -> usize
+pub(crate) fn locked_from(season: &Season, from: Gw) -> usize
     ensures count { result ≡ (season.now.calendar.locked + 1) - from }
     ensures few { result + from ≤ 39 }
 {
