@@ -1,5 +1,5 @@
 -- The tables of leagues by what each entry has in each gameweek, and by lists of points alone.
-use Rattle.std.specs.Prelude.{◌≡◌, ◌≤◌, ℕ, ℤ, List, [], Option, All, length, map, slice_index}
+use Rattle.std.specs.Prelude.{◌≡◌, ◌≤◌, ℕ, ℤ, List, [], Option, All, length, map, pos, slice_index_or}
 use Rattle.std.specs.List.{range_with_len}
 use Rattle.std.specs.Option.{option_map_or}
 use Rattle.rule_book.specs.FigureRange.{IsWithin}
@@ -43,16 +43,16 @@ pub record AreRounds (places : ℕ) (rounds : List (List ℤ)) : Type 0 where
 
 -- the points of whom a place meets
 abbrev pub points_met : List ℤ → Opponent → ℤ
-points_met nets (Place j) = slice_index nets j
+points_met nets (Place j) = slice_index_or nets j (pos 0)
 points_met nets Average = mean_of nets
 
 -- the match of a place in a round: its own points, and those of whom it meets
 abbrev pub match_at : List ℤ → ℕ → ℕ → ℤ × ℤ
-match_at nets round place = (slice_index nets place, points_met nets (opponent_of (length nets) round place))
+match_at nets round place = (slice_index_or nets place (pos 0), points_met nets (opponent_of (length nets) round place))
 
 -- its matches in all rounds
 abbrev pub matches_at : List (List ℤ) → ℕ → List (ℤ × ℤ)
-matches_at rounds place = map (λ round. match_at (slice_index rounds round) round place) (range_with_len 0 (length rounds))
+matches_at rounds place = map (λ round. match_at (slice_index_or rounds round []) round place) (range_with_len 0 (length rounds))
 
 -- what a member has of its matches, where it has a place; else nothing
 abbrev pub score_at : List (List ℤ) → Option ℕ → HeadScore

@@ -1,5 +1,5 @@
 // The points of an entry over the locked gameweeks.
-ghost use Rattle.std.specs.Prelude.{◌≡◌, ◌≤◌, ◌+◌, ◌-◌, All, Some, length, map, take};
+ghost use Rattle.std.specs.Prelude.{◌≡◌, ◌≤◌, ◌+◌, ◌-◌, All, Some, length, map, max, take};
 ghost use Rattle.std.specs.List.{range_with_len};
 ghost use Rattle.rule_book.specs.FigureRange.{IsWithin};
 ghost use Rattle.rule_book.specs.HeadToHead.{total_of};
@@ -57,6 +57,13 @@ fn nets_from<L: Ledger>(
     nets
 }
 
+// The later of two gameweeks.
+fn later_of(one: Gw, other: Gw) -> Gw
+    ensures { result ≡ max one other }
+{
+    if one < other { other } else { one }
+}
+
 // The points after deductions of an entry over the locked gameweeks from one on, or from its first, if that is later.
 pub(crate) fn total_since<L: Ledger>(
     season: &Season,
@@ -70,7 +77,7 @@ pub(crate) fn total_since<L: Ledger>(
     ensures { OfEachHistory season.now managers.now entry
         (λ h. start_of h ≡ Some first → result ≡ total_since season.now h from) }
 {
-    let later = if from < first { first } else { from };
+    let later = later_of(from, first);
     let count = locked_from(season, later);
     let nets = nets_from(season, managers, entry, later, count, steps);
     sum_of(&nets[..count])
