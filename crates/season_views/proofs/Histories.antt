@@ -1,11 +1,10 @@
 -- What managers stand for, by the numbers of entries: their histories and their names.
-use Rattle.std.proofs.Common.{◌≡◌, ◌≤◌, ◌-◌, ◌==◌, ℕ, zero, suc, ⊥, Bool, false, List, [], ◌∷◌, Option, Some, None, arith, refl, sym, ap, subst, ◌∙◌, if◌then◌else◌, slice_index_or}
+use Rattle.std.proofs.Common.{◌≡◌, ◌≤◌, ◌-◌, ◌==◌, ℕ, zero, suc, true, false, true≢false, List, [], ◌∷◌, Option, Some, None, Result, Ok, Err, IfOk, arith, refl, sym, ap, subst, ◌∙◌, if◌then◌else◌, slice_index_or}
 use Rattle.std.specs.List.{slice_get}
 use Rattle.std.specs.Option.{option_map, option_map_or}
 use Rattle.std.proofs.lemmas.Bool.Decides.{nat_tests}
 use Rattle.std.proofs.lemmas.Option.{none-some, same_Some}
 use Rattle.fpl_base.specs.declared.kinds.Position.{Position}
-use Rattle.rule_book.specs.declared.cup.Side.{Side}
 use Rattle.rule_book.specs.declared.player.Player.{Player}
 use Rattle.rule_book.specs.Batch.{HavePositions}
 use Rattle.rule_book.specs.History.{Event}
@@ -15,7 +14,7 @@ use Rattle.season_ledger.specs.Stands.{StandsFor}
 use Rattle.manager_book.specs.declared.manager.Manager.{Manager}
 use Rattle.manager_book.specs.Managers.{Managers, name_of as name_by, nobody, season_of}
 use Rattle.season_book.specs.Book.{EntryFacts, Facts}
-use Rattle.season_book.specs.LeagueViews.{history_of, name_of, no_side, side_by, side_in}
+use Rattle.season_book.specs.LeagueViews.{history_of, name_of, no_side, side_in}
 use Rattle.season_entries.specs.Entries.{AreEntries}
 use Rattle.season_views.specs.Entries.{OfEachBook, OfEachHistory, OfEachNames}
 use Rattle.season_views.proofs.EntryRows.{have_positions}
@@ -45,12 +44,12 @@ in_books facts managers e Holds players one holds entries are =
     (subst (λ b. StandsFor (position_in facts.players) (season_of managers e) (option_map_or (λ entry. entry.history) (if b then None else slice_get entries (e - 1)) [])) (some_number e one)
     (stands_at facts.players managers.managers entries (e - 1) (have_positions facts.players players) are))
 
-must_be_zero : (n : ℕ) → (1 ≤ n → ⊥) → n ≡ 0
+must_be_zero : (n : ℕ) → (1 ≤ n → false ≡ true) → n ≡ 0
 must_be_zero zero none = refl
-must_be_zero (suc n) none = absurd (none (omega arith))
+must_be_zero (suc n) none = absurd (true≢false (sym (none (omega arith))))
 
 -- the number 0 is nobody's, who has nothing
-pub nobody_has : (facts : Facts) (entries : List EntryFacts) (e g : ℕ) → (1 ≤ e → ⊥) → no_side ≡ side_in facts entries e g
+pub nobody_has : (facts : Facts) (entries : List EntryFacts) (e g : ℕ) → (1 ≤ e → false ≡ true) → no_side ≡ side_in facts entries e g
 nobody_has facts entries e g none = ap (λ n. side_in facts entries n g) (sym (must_be_zero e none))
 
 -- the names at a place
@@ -72,3 +71,8 @@ pub name_in_books : (managers : Managers) (e : ℕ) (name : List ℕ) → 1 ≤ 
 name_in_books managers e name one is players entries are =
     named name (slice_get entries (e - 1)) (is ∙ names_at players managers.managers entries (e - 1) are)
     ∙ ap (λ b. option_map_or (λ entry. entry.name) (if b then None else slice_get entries (e - 1)) []) (some_number e one)
+
+-- what a result that is there has, and what follows from it
+pub if_ok : {T E : Type 0} (r : Result T E) (P Q : T → Type 0) → ((x : T) → P x → Q x) → IfOk r P → IfOk r Q
+if_ok (Ok x) P Q follows is = follows x is
+if_ok (Err e) P Q follows is = is

@@ -13,4 +13,4 @@ returns-in-Some-clause-value g c entries are =
     ∙ ap (λ n. side_in facts entries n c.args.gameweek) c.in-Some.ensures.value
 
 pub returns-in-None-clause-value : goal.returns-in-None-clause-value
-returns-in-None-clause-value g c entries are = nobody_has c.args.season.now entries c.args.number c.args.gameweek (λ one. c.in-None.ensures.there.1 one)
+returns-in-None-clause-value g c entries are = nobody_has c.args.season.now entries c.args.number c.args.gameweek c.in-None.ensures.there.1
