@@ -1,3 +1,5 @@
+pub mod CupLists
 pub mod CupTests
 pub mod RoundCases
+pub mod RoundFacts
 pub mod WinnerLemmas

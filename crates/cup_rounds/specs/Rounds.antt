@@ -1,7 +1,7 @@
 -- How the winners of a round give those of the next one.
-use Rattle.std.specs.Prelude.{ℕ, ◌≡◌, ◌<◌, ◌+◌, ◌*◌, ◌/◌, ◌^◌, List, length, map, slice_index}
+use Rattle.std.specs.Prelude.{ℕ, ◌≡◌, ◌+◌, ◌*◌, ◌/◌, ◌^◌, List, length, map, slice_index}
 use Rattle.std.specs.List.{range_with_len}
-use Rattle.rule_book.specs.CupRounds.{rounds_of, winners_of}
+use Rattle.rule_book.specs.CupRounds.{winners_of}
 use Rattle.rule_book.specs.Cups.{coin_after, goes_through}
 use Rattle.rule_book.specs.declared.cup.Bracket.{Bracket}
 use Rattle.rule_book.specs.declared.cup.Side.{Side}

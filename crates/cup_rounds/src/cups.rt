@@ -1,5 +1,5 @@
 // The cups of a season.
-ghost use Rattle.std.specs.Prelude.{◌≡◌, ◌≤◌, ◌+◌, ◌++◌, [], ◌∷◌, length, nat_lt, IfOk, IfSome, OnOk, OnErr, option_copied};
+ghost use Rattle.std.specs.Prelude.{◌≡◌, ◌≤◌, ◌<◌, ◌+◌, ◌++◌, [], ◌∷◌, length, nat_lt, IfOk, IfSome, OnOk, OnErr, option_copied};
 ghost use Rattle.fpl_base.specs.declared.rule.Rule.TheVariants as rule;
 ghost use Rattle.rule_book.specs.CupCalls.{most_cups, is_entrant, cups_of};
 ghost use Rattle.rule_book.specs.Entries.{entry_in};
@@ -56,6 +56,17 @@ impl Cups {
         self.cups.get(c.get() as usize - 1)
     }
 
+    // Adds a cup behind the others.
+    fn put(&mut self, b: Bracket) -> Result<(), Memory>
+        requires room { length self.old < most_cups }
+        requires shape { HasShape b }
+        ensures ok { OnOk result (self.new ≡ self.old ++ b ∷ []) }
+        ensures err { OnErr result (self.new ≡ self.old) }
+    {
+        self.cups.push(b)?;
+        Ok(())
+    }
+
     /// Adds a cup behind the others, and answers its number. `CupsFull` refuses it where 32 are there. A cup that is
     /// refused, or for which there is no memory, is let go. `check` says whether a cup has the shape.
     pub fn add(&mut self, b: Bracket) -> Result<CupId, Refused>
@@ -68,12 +79,8 @@ impl Cups {
         if self.cups.len() >= 32 {
             return Err(Refused::Rule(Rule::CupsFull));
         }
-        let Some(c) = CupId::new(self.cups.len() as u32 + 1) else {
-            return Err(Refused::Rule(Rule::CupsFull));
-        };
-        if self.cups.push(b).is_err() {
-            return Err(Refused::Memory);
-        }
+        let c = numbered(self.cups.len() as u32 + 1);
+        self.put(b)?;
         Ok(c)
     }
 
@@ -85,14 +92,20 @@ impl Cups {
         let mut number = 0;
         for b in &self.cups {
             number += 1;
-            if stands_in(b, e)
-                && let Some(c) = CupId::new(number)
-            {
-                ids.push(c)?;
+            if stands_in(b, e) {
+                ids.push(numbered(number))?;
             }
         }
         Ok(ids)
     }
+}
+
+// The cup of this number.
+fn numbered(number: u32) -> CupId
+    requires { 1 ≤ number }
+    ensures { result ≡ number }
+{
+    CupId::new(number).unwrap()
 }
 
 // Whether an entry stands in a slot of a cup.

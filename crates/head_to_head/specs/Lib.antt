@@ -1,1 +1,2 @@
+pub mod Scores
 pub mod Standing

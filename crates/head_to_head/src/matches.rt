@@ -1,8 +1,9 @@
 // Results, and the Average.
-ghost use Rattle.std.specs.Prelude.{◌≡◌, ◌≤◌, ◌<◌, ℤ, pos, neg_ℤ, ◌≤ℤ◌, All, length};
+ghost use Rattle.std.specs.Prelude.{◌≡◌, ◌≤◌, ◌<◌, ◌+◌, ℤ, pos, neg_ℤ, ◌≤ℤ◌, All, length};
 ghost use Rattle.std.specs.Int.{int_div_euclid};
 ghost use Rattle.rule_book.specs.FigureRange.{IsWithin};
 ghost use Rattle.rule_book.specs.HeadToHead.{IsFloorOfMean, total_of, match_points, head_score};
+ghost use Rattle.head_to_head.specs.Scores.{with_match};
 
 use rule_book::HeadScore;
 
@@ -46,12 +47,29 @@ pub fn average(scores: &[i32]) -> i32
     total(scores).div_euclid(scores.len() as i32)
 }
 
+// What a member has with one match more.
+fn with_match(score: HeadScore, played: &(i32, i32)) -> HeadScore
+    requires few { score.won + score.drawn + score.lost ≤ 38 }
+    requires points { score.points ≤ 114 }
+    requires within { IsWithin 684000000 score.scored }
+    requires near { IsWithin 18000000 played.now.0 }
+    ensures { result ≡ with_match score played.now }
+{
+    let (own, other) = *played;
+    HeadScore {
+        points: score.points + u32::from(result(own, other)),
+        won: score.won + u32::from(own > other),
+        drawn: score.drawn + u32::from(own == other),
+        lost: score.lost + u32::from(own < other),
+        scored: score.scored + own,
+    }
+}
+
 /// What a member has of his matches, each his own points and those of whom he met, after deductions. There are at most
-/// 38, and each of his own scores is at most 18,000,000 points from 0. `docs/RULES.md` has this under "Head-to-head
-/// leagues".
+/// 38, and his points in each are at most 18,000,000 from 0. `docs/RULES.md` has this under "Head-to-head leagues".
 pub fn head_score(matches: &[(i32, i32)]) -> HeadScore
     requires few { length matches.now ≤ 38 }
-    requires within { All (λ m. IsWithin 18000000 m.0) matches.now }
+    requires near { All (λ m. IsWithin 18000000 m.0) matches.now }
     ensures { result ≡ head_score matches.now }
 {
     let mut score = HeadScore {
@@ -61,13 +79,8 @@ pub fn head_score(matches: &[(i32, i32)]) -> HeadScore
         lost: 0,
         scored: 0,
     };
-    for (own, other) in matches {
-        let points = result(*own, *other);
-        score.points += points as u32;
-        score.won += (points == 3) as u32;
-        score.drawn += (points == 1) as u32;
-        score.lost += (points == 0) as u32;
-        score.scored += *own;
+    for played in matches {
+        score = with_match(score, played);
     }
     score
 }
