@@ -1,7 +1,11 @@
+mod CupRounds
 mod EntryRows
 mod Found
 mod Gameweeks
+mod Histories
 mod Lists
+mod Matches
 mod Standing
 mod Sums
+mod Tables
 mod Told

@@ -42,3 +42,12 @@ row_at xs ys i x d within paired is_x =
 -- a list whose first n are made of the first n of another, where neither has more
 pub made_whole : {X Y : Type 0} (f : X → Y) (xs : List X) (ys : List Y) (n : ℕ) → length xs ≤ n → length ys ≤ n → take n ys ≡ map f (take n xs) → ys ≡ map f xs
 made_whole f xs ys n short also made = sym (take_all n ys also) ∙ made ∙ ap (map f) (take_all n xs short)
+
+-- a list of rows, with one more, and their first parts
+pub first_parts_more : {X Y : Type 0} (xs : List X) (i : ℕ) (x : X) (row : X × Y) (old new : List (X × Y)) → i < length xs → x ≡ get_or xs i x → row.0 ≡ x
+    → map (λ r. r.0) old ≡ take i xs → new ≡ old ++ row ∷ [] → map (λ r. r.0) new ≡ take (i + 1) xs
+first_parts_more xs i x row old new within is first so_far more =
+    ap (map (λ r. r.0)) more ∙ map-append (λ r. r.0) old (row ∷ [])
+    ∙ ap (λ y. map (λ r. r.0) old ++ y ∷ []) first
+    ∙ ap (λ ys. ys ++ x ∷ []) so_far
+    ∙ sym (take_next xs i x (slice_get_read xs (length xs) i x refl within is))

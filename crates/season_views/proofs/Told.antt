@@ -1,14 +1,11 @@
 -- What an entry's rows tell is what is shown of its histories.
-use Rattle.std.proofs.Common.{◌≡◌, ◌+◌, ◌-◌, ◌≤◌, ℕ, ℤ, pos, negsuc, ◌+ℤ◌, FitsSigned, w32, Bool, true, false, true≢false, List, [], ◌∷◌, Option, Some, None, map, max, nat_le, arith, refl, sym, ap, ◌∙◌, if◌then◌else◌}
+use Rattle.std.proofs.Common.{◌≡◌, ◌+◌, ◌-◌, ◌≤◌, ℕ, zero, suc, ℤ, Bool, true, false, true≢false, List, [], ◌∷◌, Option, Some, None, map, max, nat_le, arith, refl, sym, ap, ◌∙◌, if◌then◌else◌}
 use Rattle.std.specs.List.{range_with_len}
 use Rattle.std.proofs.lemmas.Bool.Decides.{nat_tests}
-use Rattle.std.proofs.lemmas.Int.{fits_signed_from_abs, ints}
-use Rattle.std.proofs.lemmas.List.FromFn.{map-range_with_len_more}
-use Rattle.std.proofs.lemmas.List.Sums.{fold_push}
 use Rattle.std.proofs.lemmas.Option.{same_Some, none-some}
+use Rattle.rule_book.specs.declared.cup.Side.{Side}
 use Rattle.rule_book.specs.declared.team.Team.{Team}
 use Rattle.rule_book.specs.declared.team_score.TeamScore.{TeamScore}
-use Rattle.rule_book.specs.FigureRange.{IsWithin}
 use Rattle.rule_book.specs.HeadToHead.{total_of}
 use Rattle.rule_book.specs.History.{Event}
 use Rattle.rule_book.specs.HistoryRules.{FirstTold, is_started}
@@ -25,7 +22,8 @@ use Rattle.season_book.specs.Book.{Facts}
 use Rattle.season_book.specs.declared.shown.ShownEntryGameweek.{ShownEntryGameweek}
 use Rattle.season_book.specs.declared.shown.ShownMe.{ShownMe}
 use Rattle.season_book.specs.EntryViews.{entry_gameweek_shown, gameweek_seen, me_shown, score_by, team_by, total_by}
-use Rattle.season_views.specs.Entries.{gameweek_with, me_with, score_with}
+use Rattle.season_book.specs.LeagueViews.{no_side, side_by, side_of}
+use Rattle.season_views.specs.Entries.{gameweek_with, me_with, net_by, score_with, total_since}
 
 -- a choice whose test holds, and one whose test does not
 pub chosen : {X : Type 0} (b : Bool) (x y : X) → b ≡ true → x ≡ (if b then x else y)
@@ -62,8 +60,8 @@ module _ (facts : Facts) (h : List Event) (g : ℕ) (team : Team) (told : TeamTo
   score_told cost score costs is =
       is ∙ ap (λ t. score_with facts t cost g) is_team ∙ ap (λ n. score_with facts (team_by facts h g) n g) costs
 
-  pub net_told : (cost : ℕ) (score : TeamScore) → cost ≡ cost_at facts.profile h g → score ≡ score_with facts team cost g → score.net ≡ (score_by facts h g).net
-  net_told cost score costs is = ap (λ (s : TeamScore). s.net) (score_told cost score costs is)
+  pub side_told : (cost : ℕ) (score : TeamScore) (side : Side) → cost ≡ cost_at facts.profile h g → score ≡ score_with facts team cost g → side ≡ side_of score → side ≡ side_by facts h g
+  side_told cost score side costs is gives = gives ∙ ap side_of (score_told cost score costs is) ∙ chosen (is_begun h g) (side_of (score_by facts h g)) no_side told.0
 
   pub gameweek_told : (cost : ℕ) (shown : ShownEntryGameweek) → cost ≡ cost_at facts.profile h g → shown ≡ gameweek_with facts team cost g
       → Some shown ≡ (if is_begun h g then Some (entry_gameweek_shown facts h g) else None)
@@ -85,32 +83,34 @@ module _ (facts : Facts) (h : List Event) (g : ℕ) (team : Team) (told : TeamTo
       ∙ ap at seen)
       ∙ chosen (is_started h) (Some (me_shown facts h e last)) None started
 
--- what is so near to 0 fits a number of 32 bits
-pub fits_near : (z : ℤ) → IsWithin 1000000000 z → FitsSigned w32 z
-fits_near (pos n) near = let most : n ≤ 1000000000 = omega (arith, ints, near.1) in fits_signed_from_abs w32 (pos n) (omega (arith, most))
-fits_near (negsuc n) near = let most : n + 1 ≤ 1000000000 = omega (arith, ints, near.0) in fits_signed_from_abs w32 (negsuc n) (omega (arith, most))
+-- the points of a gameweek in which a history has begun are those of its score
+net_begun : (facts : Facts) (h : List Event) (g : ℕ) → is_begun h g ≡ true → net_by facts h g ≡ (score_by facts h g).net
+net_begun facts h g begun = ap (λ (b : Bool). (if b then side_of (score_by facts h g) else no_side).net) begun
 
--- a total over no gameweek yet
-pub total_none : (net : ℕ → ℤ) (first n : ℕ) → n ≡ first → pos 0 ≡ total_of (map net (range_with_len first (n - first)))
-total_none net first n is = let none : 0 ≡ n - first = omega arith in ap (λ k. total_of (map net (range_with_len first k))) none
+nets_begun : (facts : Facts) (h : List Event) (first from count : ℕ) → start_of h ≡ Some first → first ≤ from
+    → map (net_by facts h) (range_with_len from count) ≡ map (λ g. (score_by facts h g).net) (range_with_len from count)
+nets_begun facts h first from zero start le = refl
+nets_begun facts h first from (suc n) start le =
+    let nets : List ℤ = map (net_by facts h) (range_with_len (from + 1) n) in
+    ap (λ z. z ∷ nets) (net_begun facts h from (begun_by h first from start le))
+    ∙ ap (λ rest. (score_by facts h from).net ∷ rest) (nets_begun facts h first (from + 1) n start (omega (arith, le)))
 
--- and over one gameweek more
-pub total_more : (net : ℕ → ℤ) (first n : ℕ) (old new x : ℤ) → first ≤ n → x ≡ net n → old ≡ total_of (map net (range_with_len first (n - first)))
-    → new ≡ old +ℤ x → new ≡ total_of (map net (range_with_len first ((n + 1) - first)))
-total_more net first n old new x from is so_far more =
-    let k = n - first in
-    let one : k + 1 ≡ (n + 1) - first = omega arith in
-    more ∙ ap (λ z. z +ℤ x) so_far ∙ ap (λ z. total_of (map net (range_with_len first k)) +ℤ z) is
-    ∙ sym (fold_push ◌+ℤ◌ (pos 0) (map net (range_with_len first k)) (net n))
-    ∙ ap total_of (sym (map-range_with_len_more net first k n (omega arith)))
-    ∙ ap (λ j. total_of (map net (range_with_len first j))) one
+-- the total over the locked gameweeks from the later of two on
+pub total_later : (facts : Facts) (h : List Event) (from first later count : ℕ) (nets : List ℤ) (total : ℤ) → start_of h ≡ Some first
+    → later ≡ max from first → count ≡ (facts.calendar.locked + 1) - later → nets ≡ map (net_by facts h) (range_with_len later count)
+    → total ≡ total_of nets → total ≡ total_since facts h from
+total_later facts h from first later count nets total start is counts made sums =
+    let net : ℕ → ℤ = net_by facts h in
+    sums ∙ ap total_of made
+    ∙ ap (λ k. total_of (map net (range_with_len later k))) counts
+    ∙ ap (λ w. total_of (map net (range_with_len w ((facts.calendar.locked + 1) - w)))) is
+    ∙ ap (λ o. total_from net from o facts.calendar.locked) (sym start)
 
--- the total over all locked gameweeks from the first on
-pub total_whole : (facts : Facts) (h : List Event) (first n : ℕ) (total : ℤ) → 1 ≤ first → start_of h ≡ Some first → n - first ≡ (facts.calendar.locked + 1) - first
-    → total ≡ total_of (map (λ g. (score_by facts h g).net) (range_with_len first (n - first))) → total ≡ total_by facts h
-total_whole facts h first n total low start ends is =
+-- from the first gameweek of a season on it is that over all
+pub total_whole : (facts : Facts) (h : List Event) (first : ℕ) (total : ℤ) → start_of h ≡ Some first → total ≡ total_since facts h 1 → total ≡ total_by facts h
+total_whole facts h first total start is =
     let net : ℕ → ℤ = λ g. (score_by facts h g).net in
-    let later : first ≡ max 1 first = omega arith in
-    is ∙ ap (λ k. total_of (map net (range_with_len first k))) ends
-    ∙ ap (λ from. total_of (map net (range_with_len from ((facts.calendar.locked + 1) - from)))) later
-    ∙ ap (λ o. total_from net 1 o facts.calendar.locked) (sym start)
+    let locked : ℕ = facts.calendar.locked in
+    is ∙ ap (λ o. total_from (net_by facts h) 1 o locked) start
+    ∙ ap total_of (nets_begun facts h first (max 1 first) ((locked + 1) - max 1 first) start (omega arith))
+    ∙ ap (λ o. total_from net 1 o locked) (sym start)

@@ -1,5 +1,6 @@
--- What is shown of an entry by what its rows tell, and what histories the rows stand for.
+-- What is shown of an entry by what its rows tell, and what histories and entries the rows stand for.
 use Rattle.std.specs.Prelude.{ℕ, ℤ, List, Option, map}
+use Rattle.rule_book.specs.declared.player.Player.{Player}
 use Rattle.rule_book.specs.declared.team.Team.{Team}
 use Rattle.rule_book.specs.declared.team_score.Figures.{Figures}
 use Rattle.rule_book.specs.declared.team_score.TeamScore.{TeamScore}
@@ -7,16 +8,36 @@ use Rattle.rule_book.specs.Calendar.{next_gameweek}
 use Rattle.rule_book.specs.EntryScores.{figures_of_team, score_in}
 use Rattle.rule_book.specs.History.{Event}
 use Rattle.rule_book.specs.PlayerFigures.{position_in}
+use Rattle.rule_book.specs.Totals.{total_from}
+use Rattle.rule_book.specs.UpTo.{start_of}
 use Rattle.season_ledger.specs.Stands.{StandsFor}
 use Rattle.manager_book.specs.Managers.{Managers, season_of}
-use Rattle.season_book.specs.Book.{Facts}
+use Rattle.season_book.specs.Book.{EntryFacts, Facts}
 use Rattle.season_book.specs.EntryViews.{pick_shown, player_in_slot}
+use Rattle.season_book.specs.LeagueViews.{side_by}
 use Rattle.season_book.specs.declared.shown.ShownEntryGameweek.{ShownEntryGameweek}
 use Rattle.season_book.specs.declared.shown.ShownMe.{ShownMe}
+use Rattle.season_entries.specs.Entries.{AreEntries}
 
 -- this holds of each history that an entry's rows stand for, where its players play as they do in the season
 abbrev pub OfEachHistory : Facts → Managers → ℕ → (List Event → Type 0) → Type 0
 OfEachHistory facts managers e Holds = (h : List Event) → StandsFor (position_in facts.players) (season_of managers e) h → Holds h
+
+-- this holds of the entries of each book that the managers stand for
+abbrev pub OfEachBook : Facts → Managers → (List EntryFacts → Type 0) → Type 0
+OfEachBook facts managers Holds = (entries : List EntryFacts) → AreEntries facts.players managers.managers entries → Holds entries
+
+-- and wherever their players may play
+abbrev pub OfEachNames : Managers → (List EntryFacts → Type 0) → Type 0
+OfEachNames managers Holds = (players : List Player) (entries : List EntryFacts) → AreEntries players managers.managers entries → Holds entries
+
+-- the points after deductions of a history in a gameweek; 0 where it has not begun
+abbrev pub net_by : Facts → List Event → ℕ → ℤ
+net_by facts h g = (side_by facts h g).net
+
+-- and over the locked gameweeks, from this one or from its first on
+abbrev pub total_since : Facts → List Event → ℕ → ℤ
+total_since facts h from = total_from (net_by facts h) from (start_of h) facts.calendar.locked
 
 -- what the players of a team did in a gameweek of a season, by slot
 abbrev pub figures_with : Facts → Team → ℕ → List Figures

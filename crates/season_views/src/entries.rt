@@ -27,7 +27,7 @@ use std::sync::ledger::Ledger;
 /// What a registered manager sees of his entry, whose last accepted command has the number `last`; `None` where he is
 /// not registered. Team, chip, free transfers and cost are those of the next gameweek, or of the last one when the
 /// season is over, and nothing was done for the entry in a later one. Each row of an entry and each line of a match that
-/// it reads is a counted read, and it reads none of another entry (docs/RULES.md, "The score of a team").
+/// it reads is a counted read, and it reads none of another entry (docs/RULES.md, "A team's score").
 pub fn my_entry<L: Ledger>(
     season: &Season,
     managers: &ManagerBook,
@@ -130,7 +130,7 @@ fn player_in_slot(team: &Team, slot: u8) -> PlayerId
 
 /// What an entry's team scored in a gameweek; `None` where the entry was not issued, is not registered, or has no team in
 /// the gameweek, and where the gameweek is not locked. Each row of an entry and each line of a match that it reads is a
-/// counted read (docs/RULES.md, "The score of a team").
+/// counted read (docs/RULES.md, "A team's score").
 pub fn entry_gameweek<L: Ledger>(
     season: &Season,
     managers: &ManagerBook,

@@ -1,12 +1,20 @@
 //! What views show of a season.
 #![tactic(auto)]
 
+mod classic;
+mod cups;
 mod entries;
 mod figures;
+mod head;
+mod leagues;
+mod names;
 mod scores;
 mod sheets;
+mod sides;
 mod totals;
 mod views;
 
+pub use cups::cup;
 pub use entries::{entry_gameweek, my_entry};
+pub use leagues::league;
 pub use views::show;

@@ -33,7 +33,7 @@ pub fn show<L: Ledger>(
             Ok(gameweek_shown(season, player, gameweek, steps))
         }
         View::Fixture { fixture } => fixture_shown(alloc, season, fixture, steps),
-        View::Me | View::EntryGameweek { .. } => Ok(None),
+        View::Me | View::EntryGameweek { .. } | View::League { .. } | View::Cup { .. } => Ok(None),
     }
 }
 

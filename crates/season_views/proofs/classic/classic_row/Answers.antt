@@ -1,0 +1,20 @@
+use Rattle.std.proofs.Common.{◌≡◌, ◌≤◌, ℕ, ℤ, rules, ap, subst, ◌∙◌}
+use Rattle.rule_book.specs.HistoryTransfers.{counted_through}
+use Rattle.rule_book.specs.PlayerFigures.{position_in}
+use Rattle.rule_book.specs.Players.{ArePlayers}
+use Rattle.season_book.specs.LeagueViews.{history_of}
+use Rattle.season_views.specs.Entries.{total_since}
+use Rattle.season_views.proofs.Histories.{in_books}
+use Rattle.season_views.proofs.classic.classic_row.Goals as goal
+
+pub returns-clause-value : goal.returns-clause-value
+returns-clause-value g c entries are =
+    let facts = c.args.season.now in
+    let managers = c.args.managers.now in
+    let e = c.args.entry in
+    let lawful : ArePlayers facts.players = subst ArePlayers c.players.ensures c.len-count.ensures.lawful in
+    let one : 1 ≤ e = search rules in
+    let total = in_books facts managers e (λ h. c.total_of-total.result ≡ total_since facts h c.args.start) lawful one c.total_of-total.ensures entries are in
+    let counted = in_books facts managers e (λ h. c.counted_transfers-counted.result ≡ counted_through h facts.calendar.locked) lawful one
+        (λ h stands. c.counted_transfers-counted.ensures.history (position_in facts.players) h stands ∙ ap (counted_through h) (c.locked.ensures.value ∙ ap (λ those. those.locked) c.calendar.ensures)) entries are in
+    ap (λ z. (e, z, c.counted_transfers-counted.result)) total ∙ ap (λ n. (e, total_since facts (history_of entries e) c.args.start, n)) counted

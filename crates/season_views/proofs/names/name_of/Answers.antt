@@ -1,0 +1,11 @@
+use Rattle.std.proofs.Common.{◌≡◌, ◌≤◌, rules, ◌∙◌}
+use Rattle.season_book.specs.LeagueViews.{name_of}
+use Rattle.season_views.specs.Entries.{OfEachNames}
+use Rattle.season_views.proofs.Histories.{if_ok, name_in_books}
+use Rattle.season_views.proofs.names.name_of.Goals as goal
+
+pub returns : goal.returns
+returns c =
+    let one : 1 ≤ c.args.entry = search rules in
+    if_ok c.copy.result (λ name. name ≡ c.in-Some.name.now) (λ name. OfEachNames c.args.managers.now (λ entries. name ≡ name_of entries c.args.entry))
+    (λ name same players entries are. same ∙ name_in_books c.args.managers.now c.args.entry c.in-Some.name.now one c.in-Some.ensures players entries are) c.copy.ensures

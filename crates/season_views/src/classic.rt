@@ -1,0 +1,136 @@
+// The table of a classic league, and the names in it.
+ghost use Rattle.std.specs.Prelude.{◌≡◌, ◌≤◌, ℕ, List, All, IfOk, length, map};
+ghost use Rattle.rule_book.specs.Ranks.{AllDiffer};
+ghost use Rattle.rule_book.specs.Tables.{classic_table_of};
+ghost use Rattle.season_book.specs.LeagueViews.{classic_shown, history_of, ranked_shown};
+ghost use Rattle.season_views.specs.Entries.{OfEachBook, OfEachHistory, OfEachNames, total_since};
+ghost use Rattle.season_views.specs.Leagues.{AreIssued, classic_row_since};
+
+use crate::names::name_of;
+use crate::totals::total_since;
+use classic_leagues::{League, table};
+use fpl_base::{EntryId, Gw, ListOf, Memory, Steps};
+use manager_book::ManagerBook;
+use rule_book::{Ranked, tables_are_the_one};
+use season_book::{ShownClassic, ShownRanked};
+use season_facts::Season;
+use std::alloc::Global;
+use std::sync::ledger::Ledger;
+
+// The total of an entry over the locked gameweeks from one on; 0 where it is not registered.
+fn total_of<L: Ledger>(
+    season: &Season,
+    managers: &ManagerBook,
+    entry: EntryId,
+    start: Gw,
+    steps: &mut Steps<L>,
+) -> i32
+    requires { managers.now.profile ≡ season.now.profile }
+    ensures { OfEachHistory season.now managers.now entry (λ h. result ≡ total_since season.now h start) }
+{
+    match managers.first(entry) {
+        Some(first) => total_since(season, managers, entry, start, first, steps),
+        None => 0,
+    }
+}
+
+// An entry's row of a league that starts in a gameweek.
+fn classic_row<L: Ledger>(
+    season: &Season,
+    managers: &ManagerBook,
+    entry: EntryId,
+    start: Gw,
+    steps: &mut Steps<L>,
+) -> (EntryId, i32, u32)
+    requires { managers.now.profile ≡ season.now.profile }
+    ensures value { OfEachBook season.now managers.now (λ entries. result ≡ classic_row_since season.now entries start entry) }
+    ensures entry { result.0 ≡ entry }
+{
+    // That the ids of players rise, for the prover.
+    let _count = season.players().len();
+    let total = total_of(season, managers, entry, start, steps);
+    let counted = managers.counted_transfers(entry, season.calendar().locked(), steps);
+    (entry, total, counted)
+}
+
+// A row for each member.
+fn classic_rows<L: Ledger>(
+    alloc: Global,
+    season: &Season,
+    managers: &ManagerBook,
+    members: &[EntryId],
+    start: Gw,
+    steps: &mut Steps<L>,
+) -> Result<Vec<(EntryId, i32, u32)>, Memory>
+    requires { managers.now.profile ≡ season.now.profile }
+    ensures value { IfOk result (λ rows. OfEachBook season.now managers.now
+        (λ entries. rows.items ≡ map (classic_row_since season.now entries start) members.now)) }
+    ensures entries { IfOk result (λ rows. map (λ row. row.0) rows.items ≡ members.now) }
+{
+    let mut rows = Vec::with_capacity(alloc, members.len())?;
+    for member in members {
+        rows.push(classic_row(season, managers, *member, start, steps))?;
+    }
+    Ok(rows)
+}
+
+// The rows with their ranks, by rank, then entry.
+fn classic_table(alloc: Global, rows: &[(EntryId, i32, u32)]) -> Result<Vec<Ranked>, Memory>
+    requires { AllDiffer (map (λ row. row.0) rows.now) }
+    ensures value { IfOk result (λ table. table.items ≡ classic_table_of rows.now) }
+    ensures entries { (n : ℕ) → All (λ e. e ≤ n) (map (λ row. row.0) rows.now)
+        → IfOk result (λ table. All (λ row. row.entry ≤ n) table.items) }
+{
+    // The law by which there is one table.
+    tables_are_the_one();
+    table(alloc, rows)
+}
+
+// A row with the name of its entry.
+fn ranked_shown(managers: &ManagerBook, row: &Ranked) -> Result<ShownRanked, Memory>
+    requires { row.now.entry ≤ length managers.now.managers }
+    ensures { IfOk result (λ shown. OfEachNames managers.now (λ entries. shown ≡ ranked_shown entries row.now)) }
+{
+    Ok(ShownRanked {
+        row: *row,
+        name: name_of(managers, row.entry)?,
+    })
+}
+
+// The rows with the names of their entries.
+fn classic_named(
+    alloc: Global,
+    managers: &ManagerBook,
+    table: &[Ranked],
+) -> Result<ListOf<ShownRanked>, Memory>
+    requires { All (λ row. row.entry ≤ length managers.now.managers) table.now }
+    ensures { IfOk result (λ shown. OfEachNames managers.now (λ entries. shown ≡ map (ranked_shown entries) table.now)) }
+{
+    let mut shown = ListOf::with_room(alloc, table.len())?;
+    for row in table {
+        shown.push(ranked_shown(managers, row)?)?;
+    }
+    Ok(shown)
+}
+
+// A classic league with its table.
+pub(crate) fn classic<L: Ledger>(
+    alloc: Global,
+    season: &Season,
+    managers: &ManagerBook,
+    league: &League,
+    steps: &mut Steps<L>,
+) -> Result<ShownClassic, Memory>
+    requires profile { managers.now.profile ≡ season.now.profile }
+    requires issued { AreIssued managers.now league.now.members }
+    ensures { IfOk result (λ shown. OfEachBook season.now managers.now
+        (λ entries. shown ≡ classic_shown season.now entries league.now)) }
+{
+    let rows = classic_rows(alloc, season, managers, league.members(), league.start(), steps)?;
+    let table = classic_table(alloc, &rows)?;
+    Ok(ShownClassic {
+        name: league.name().copy()?,
+        start: league.start(),
+        rows: classic_named(alloc, managers, &table)?,
+    })
+}
