@@ -1,1 +1,5 @@
+pub mod Booked
+pub mod LeaguesOf
+pub mod Members
+pub mod Numbers
 pub mod StandingLemmas

@@ -1,13 +1,26 @@
 -- The leagues of a season, and the leagues of each entry beside them.
-use Rattle.std.specs.Prelude.{◌≡◌, ◌<◌, ◌≤◌, ◌-◌, ◌++◌, ℕ, true, IsTrue, List, [], ◌∷◌, length, filter, AllPairs, Option, nat_lt, slice_index_or, IsSomeAnd}
+use Rattle.std.specs.Prelude.{◌≡◌, ◌<◌, ◌≤◌, ◌++◌, ℕ, true, false, IsTrue, List, [], ◌∷◌, length, filter, AllPairs, nat_lt, slice_index_or, IsSomeAnd}
+use Rattle.rule_book.specs.declared.league.LeagueKind.{LeagueKind}
 use Rattle.rule_book.specs.Entries.{entry_in}
 use Rattle.rule_book.specs.HeadToHead.{IsDraw}
-use Rattle.rule_book.specs.LeagueCalls.{is_drawn, is_head, leagues_of, most_leagues, most_members}
+use Rattle.rule_book.specs.LeagueCalls.{is_drawn, is_head, is_member, leagues_of, most_leagues, most_members}
 use Rattle.rule_book.specs.Leagues.{LeagueFacts}
 
 -- numbers that rise, so that each stands once
 abbrev pub Rise : List ℕ → Type 0
 Rise numbers = AllPairs (λ a b. a < b) numbers
+
+-- a league by its parts
+abbrev pub league_of : LeagueKind → List ℕ → List ℕ → ℕ → ℕ → List ℕ → List ℕ → LeagueFacts
+league_of kind name code start creator members order = record {
+  kind = kind;
+  name = name;
+  code = code;
+  start = start;
+  creator = creator;
+  members = members;
+  order = order;
+}
 
 -- a league can have this order: it is a head-to-head league, and the order is a draw of its members
 pub record CanDraw (order : List ℕ) (league : LeagueFacts) : Type 0 where
@@ -17,6 +30,12 @@ pub record CanDraw (order : List ℕ) (league : LeagueFacts) : Type 0 where
 -- the league of a number is there, and can have this order
 abbrev pub CanDrawIn : List LeagueFacts → ℕ → List ℕ → Type 0
 CanDrawIn leagues l order = IsSomeAnd (entry_in leagues l) (CanDraw order)
+
+-- an entry can enter a league: it is no member, the league was not drawn and has room
+pub record CanEnter (league : LeagueFacts) (e : ℕ) : Type 0 where
+  pub new : is_member league e ≡ false
+  pub open_still : is_drawn league ≡ false
+  pub room : length league.members < most_members league.kind
 
 -- a league has members who ascend, at least one and no more than its kind can have, and where it was drawn, it can have
 -- its order
@@ -30,11 +49,11 @@ pub record IsLeague (league : LeagueFacts) : Type 0 where
 abbrev pub with_number : ℕ → List ℕ → List ℕ
 with_number n numbers = filter (λ m. nat_lt m n) numbers ++ n ∷ filter (λ m. nat_lt n m) numbers
 
--- the numbers that stand in the row of an entry; none where it has no row
+-- the numbers in the row of an entry, which stands at the place of its number; none where it has no row
 abbrev pub row_of : List (List ℕ) → ℕ → List ℕ
-row_of rows e = slice_index_or rows (e - 1) []
+row_of rows e = slice_index_or rows e []
 
 -- there are not too many leagues, and the row of each entry has the leagues that it is in
 pub record AreBooked (leagues : List LeagueFacts) (rows : List (List ℕ)) : Type 0 where
   pub few : length leagues ≤ most_leagues
-  pub told : (e : ℕ) → 1 ≤ e → row_of rows e ≡ leagues_of leagues e
+  pub told : (e : ℕ) → row_of rows e ≡ leagues_of leagues e

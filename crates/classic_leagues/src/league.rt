@@ -1,9 +1,10 @@
 //! One league: who is in it, and in which order it was drawn.
-ghost use Rattle.std.specs.Prelude.{◌≡◌, ◌<◌, ◌≤◌, ◌∷◌, false, [], length, AllPairs, IfOk, IsTrue, OnErr, OnOk};
+ghost use Rattle.std.specs.Prelude.{◌≡◌, ◌<◌, ◌≤◌, ◌∷◌, false, nat_lt, [], length, AllPairs, IfOk, IfSome, IsTrue, OnErr, OnOk};
+ghost use Rattle.std.specs.Str.{bytes_eq};
 ghost use Rattle.rule_book.specs.LeagueCalls.{is_drawn, is_member, most_members, new_league, with_member, with_order};
 ghost use Rattle.rule_book.specs.LeagueRows.{place_of};
 ghost use Rattle.rule_book.specs.Ranks.{AllDiffer};
-ghost use Rattle.classic_leagues.specs.Books.{CanDraw};
+ghost use Rattle.classic_leagues.specs.Books.{CanDraw, CanEnter};
 
 use fpl_base::{Code, EntryId, Gw, ListOf, Memory, Name};
 use rule_book::LeagueKind;
@@ -29,18 +30,18 @@ pub struct League {
 
 impl Model for League {
     ghost use Rattle.rule_book.specs.Leagues.{LeagueFacts};
-    ghost use Rattle.classic_leagues.specs.Books.{IsLeague};
+    ghost use Rattle.classic_leagues.specs.Books.{IsLeague, league_of};
 
     ghost Value = { LeagueFacts };
 
-    ghost view = { λ l. record { kind = l.kind; name = l.name; code = l.code; start = l.start; creator = l.creator; members = l.members; order = l.order } };
+    ghost view = { λ l. league_of l.kind l.name l.code l.start l.creator l.members l.order };
 
-    ghost invariant = { λ l. IsLeague (record { kind = l.kind; name = l.name; code = l.code; start = l.start; creator = l.creator; members = l.members; order = l.order }) };
+    ghost invariant = { λ l. IsLeague (league_of l.kind l.name l.code l.start l.creator l.members l.order) };
 }
 
 impl League {
-    /// A league that an entry creates, which is its first member.
-    pub fn new(
+    // A league that an entry creates, which is its first member.
+    pub(crate) fn new(
         alloc: Global,
         kind: LeagueKind,
         name: Name,
@@ -114,6 +115,7 @@ impl League {
         ensures value { result.now ≡ self.now.order }
         ensures differ { AllDiffer result.now }
         ensures few { length result.now ≤ 64 }
+        ensures two { 0 < length result.now → 2 ≤ length result.now }
         ensures drawn { IsTrue (is_drawn self.now) → CanDraw result.now self.now }
     {
         self.order.as_slice()
@@ -135,8 +137,67 @@ impl League {
 
     /// The place of a member in the order, counted from 0; `None` before the draw, and where the entry is no member.
     pub fn place(&self, e: EntryId) -> Option<usize>
-        ensures { result ≡ place_of self.now.order e }
+        ensures value { result ≡ place_of self.now.order e }
+        ensures within { IfSome result (λ place. place < length self.now.order) }
     {
         self.order.as_slice().iter().position(|member| *member == e)
+    }
+
+    // Whether this code joins it.
+    pub(crate) fn has_code(&self, code: &Code) -> bool
+        ensures { result ≡ bytes_eq code.now self.now.code }
+    {
+        code.bytes() == self.code.bytes()
+    }
+
+    // Whether one more can be a member.
+    pub(crate) fn has_room(&self) -> bool
+        ensures { result ≡ nat_lt (length self.now.members) (most_members self.now.kind) }
+    {
+        self.members.as_slice().len() < most_members(self.kind)
+    }
+
+    // The members with one more, in his place.
+    pub(crate) fn joined(&self, e: EntryId) -> Result<Ids, Memory>
+        requires new { is_member self.now e ≡ false }
+        ensures { IfOk result (λ ids. ids ≡ (with_member e self.now).members) }
+    {
+        let members = self.members.as_slice();
+        let place = members.partition_point(|member| *member < e);
+        let mut ids = Vec::with_capacity(self.members.allocator(), members.len() + 1)?;
+        ids.extend_from_slice(members)?;
+        ids.insert(place, e)?;
+        Ok(Ids::of(ids))
+    }
+
+    // Keeps the members with one more. Takes no memory.
+    pub(crate) fn set_members(&mut self, e: EntryId, members: Ids)
+        requires open { CanEnter self.old e }
+        requires one_more { members ≡ (with_member e self.old).members }
+        ensures { self.new ≡ with_member e self.old }
+    {
+        let _entry = e;
+        self.members = members;
+    }
+
+    // Keeps the order in which it was drawn.
+    pub(crate) fn set_order(&mut self, order: &[EntryId]) -> Result<(), Memory>
+        requires drawn { CanDraw order.now self.old }
+        ensures ok { OnOk result (self.new ≡ with_order order.now self.old) }
+        ensures err { OnErr result (self.new ≡ self.old) }
+    {
+        let order = Vec::from_slice(self.order.allocator(), order)?;
+        self.order = Ids::of(order);
+        Ok(())
+    }
+}
+
+// So many members has a league of this kind at most.
+fn most_members(kind: LeagueKind) -> usize
+    ensures { result ≡ most_members kind }
+{
+    match kind {
+        LeagueKind::Classic => 2048,
+        LeagueKind::Head => 64,
     }
 }
