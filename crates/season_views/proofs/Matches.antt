@@ -1,6 +1,6 @@
 -- The matches of a head-to-head league by lists of points are those of its entries.
-use Rattle.std.proofs.Common.{◌≡◌, ◌<◌, ◌≤◌, ◌+◌, ◌-◌, ◌==◌, not, IfSome, IsTrue, ℕ, zero, suc, ℤ, pos, Bool, true, false, List, [], ◌∷◌, Option, Some, None, length, get_or, map, nat_lt, if◌then◌else◌, arith, refl, sym, ap, subst, ◌∙◌}
-use Rattle.std.specs.List.{find, position, range_with_len, slice_index}
+use Rattle.std.proofs.Common.{◌≡◌, ◌<◌, ◌≤◌, ◌+◌, ◌-◌, ◌==◌, not, IfSome, IsTrue, ℕ, zero, suc, ℤ, pos, Bool, true, false, List, [], ◌∷◌, Option, Some, None, length, get_or, map, nat_lt, if◌then◌else◌, arith, refl, sym, ap, ◌∙◌}
+use Rattle.std.specs.List.{find, range_with_len, slice_index}
 use Rattle.std.specs.Option.{option_map_or}
 use Rattle.std.proofs.lemmas.Bool.Decides.{nat_tests}
 use Rattle.std.proofs.lemmas.List.{get_or-map, length-map}
@@ -9,12 +9,11 @@ use Rattle.std.proofs.lemmas.List.Sorted.{length_permutation}
 use Rattle.std.proofs.lemmas.List.Quantifiers.{position-Some}
 use Rattle.rule_book.specs.HeadToHead.{head_score}
 use Rattle.rule_book.specs.LeagueCalls.{is_drawn}
-use Rattle.rule_book.specs.LeagueRows.{average_in, head_row, head_rows, match_in, matches_of, place_of, points_against}
+use Rattle.rule_book.specs.LeagueRows.{head_row, head_rows, match_in, place_of, points_against}
 use Rattle.rule_book.specs.Leagues.{LeagueFacts}
 use Rattle.rule_book.specs.Opponents.{does_meet, opponent_at, opponent_of}
 use Rattle.rule_book.specs.Pairings.{places}
 use Rattle.rule_book.specs.Totals.{gameweeks}
-use Rattle.rule_book.specs.declared.pairing.Opponent.{Opponent}
 use Rattle.rule_book.specs.declared.pairing.Opponent.TheVariants.{Place, Average}
 use Rattle.classic_leagues.specs.Books.{CanDraw}
 use Rattle.season_book.specs.Book.{EntryFacts, Facts}

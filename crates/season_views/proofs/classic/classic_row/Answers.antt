@@ -1,4 +1,4 @@
-use Rattle.std.proofs.Common.{◌≡◌, ◌≤◌, ℕ, ℤ, rules, ap, subst, ◌∙◌, w32, FitsSigned}
+use Rattle.std.proofs.Common.{◌≡◌, ◌≤◌, rules, ap, subst, ◌∙◌, w32, FitsSigned}
 use Rattle.std.proofs.lemmas.Int.{to_z-of_z}
 use Rattle.rule_book.specs.HistoryTransfers.{counted_through}
 use Rattle.rule_book.specs.PlayerFigures.{position_in}

@@ -1,4 +1,3 @@
-use Rattle.std.proofs.Common.{◌≡◌, ap, ◌∙◌}
 use Rattle.season_views.specs.Leagues.{classic_row_since}
 use Rattle.season_views.proofs.Lists.{parts_more, mapped_more}
 use Rattle.season_views.proofs.classic.classic_rows.Goals as goal

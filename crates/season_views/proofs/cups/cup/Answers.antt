@@ -1,4 +1,4 @@
-use Rattle.std.proofs.Common.{◌≡◌, ◌≤◌, ◌+◌, ◌/◌, ℕ, true, false, length, nat_le, arith, sym, ap, ◌∙◌}
+use Rattle.std.proofs.Common.{◌≡◌, ◌≤◌, ◌+◌, ◌/◌, true, false, length, nat_le, arith, sym, ap, ◌∙◌}
 use Rattle.cup_rounds.specs.Rounds.{next_winners}
 use Rattle.season_book.specs.LeagueViews.{side_in}
 use Rattle.season_views.proofs.CupRounds.{halved, is_by, locked_more, nobody_plays, not_by, open_more, winners_next}

@@ -1,4 +1,4 @@
-use Rattle.std.proofs.Common.{◌≡◌, ◌≤◌, ℕ, All, List, length, map, sym, ap, subst, ◌∙◌}
+use Rattle.std.proofs.Common.{◌≤◌, ℕ, All, length, map, sym, ap, subst, ◌∙◌}
 use Rattle.rule_book.specs.Ranks.{AllDiffer}
 use Rattle.rule_book.specs.Tables.{head_table_of}
 use Rattle.rule_book.specs.declared.tables.HeadRanked.{HeadRanked}

@@ -1,4 +1,4 @@
-use Rattle.std.proofs.Common.{◌≡◌, ◌+◌, ℕ, ℤ, [], length, slice_index_or, arith, sym, ap, ◌∙◌}
+use Rattle.std.proofs.Common.{◌≡◌, ◌+◌, [], slice_index_or, arith, ap, ◌∙◌}
 use Rattle.rule_book.specs.FigureRange.{IsWithin}
 use Rattle.season_views.specs.Leagues.{match_at}
 use Rattle.season_views.proofs.Lists.{all_more, long_more, range_more, read_within}

@@ -1,4 +1,4 @@
-use Rattle.std.proofs.Common.{◌≡◌, ◌+◌, All, length, rules, refl, sym, ap, subst, ◌∙◌}
+use Rattle.std.proofs.Common.{◌≡◌, ◌+◌, All, length, rules, refl, ap, ◌∙◌}
 use Rattle.rule_book.specs.FigureRange.{IsWithin}
 use Rattle.season_views.specs.Leagues.{nets_in}
 use Rattle.season_views.proofs.Lists.{all_more, long_more, range_more}
