@@ -15,10 +15,7 @@ pub fn rounds(b: &Bracket) -> u8
     ensures some { 1 ≤ result }
     ensures most { result ≤ 10 }
 {
-    match rounds_of(b.slots.as_slice().len()) {
-        Some(rounds) => rounds,
-        None => 1,
-    }
+    rounds_of(b.slots.as_slice().len()).unwrap()
 }
 
 /// The coin of a tie of the round after so many rounds, ties from 0: the coins of the rounds before stand in front.

@@ -1,15 +1,16 @@
 -- The rounds of a cup, one after another.
-use Rattle.std.proofs.Common.{◌≡◌, ◌≤◌, ◌<◌, ◌+◌, ◌/◌, ◌^◌, ℕ, Bool, true, false, List, [], ◌∷◌, ◌++◌, Option, Some, None, length, map, nat_le, if◌then◌else◌, arith, refl, sym, ap, ◌∙◌}
+use Rattle.std.proofs.Common.{◌≡◌, ◌≤◌, ◌<◌, ◌+◌, ◌/◌, ◌^◌, ◌==◌, ℕ, Bool, true, false, List, [], ◌∷◌, ◌++◌, Option, Some, None, length, map, nat_le, if◌then◌else◌, arith, refl, sym, ap, ◌∙◌}
 use Rattle.std.specs.List.{range_with_len}
 use Rattle.std.proofs.lemmas.Bool.Decides.{nat_tests}
 use Rattle.std.proofs.lemmas.List.FromFn.{length-map-range_with_len, map-range_with_len_more}
 use Rattle.rule_book.specs.CupRounds.{locked_winners, winners_of}
+use Rattle.rule_book.specs.Cups.{first_goes_on, goes_through}
 use Rattle.rule_book.specs.declared.cup.Bracket.{Bracket}
 use Rattle.rule_book.specs.declared.cup.Side.{Side}
 use Rattle.cup_rounds.specs.Rounds.{RoundFollows, WinnersHalve, next_winners, tie_won}
 use Rattle.season_book.specs.LeagueViews.{no_side}
 
-abbrev nobody_plays : ℕ → ℕ → Side
+abbrev pub nobody_plays : ℕ → ℕ → Side
 nobody_plays e g = no_side
 
 -- each round has half as many winners as the one before
@@ -56,3 +57,12 @@ is_by a b is = grind (arith, nat_tests, is)
 
 pub not_by : (a b : ℕ) → nat_le a b ≡ false → b < a
 not_by a b is = grind (arith, nat_tests, is)
+
+-- who goes on where neither is a bye
+pub sent_on : (first second : ℕ) (side : ℕ → Side) (coin : ℕ) (one other : Side) (goes : Bool) → (first == 0) ≡ false → (second == 0) ≡ false
+    → one ≡ side first → other ≡ side second → goes ≡ first_goes_on one other coin → (if goes then first else second) ≡ goes_through first second side coin
+sent_on first second side coin one other goes there too ones others is =
+    let on : ℕ = if first_goes_on (side first) (side second) coin then first else second in
+    ap (λ b. if b then first else second) (is ∙ ap (λ s. first_goes_on s other coin) ones ∙ ap (λ s. first_goes_on (side first) s coin) others)
+    ∙ ap (λ b. if b then first else on) (sym too)
+    ∙ ap (λ b. if b then second else (if second == 0 then first else on)) (sym there)

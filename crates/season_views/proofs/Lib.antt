@@ -5,6 +5,7 @@ mod Gameweeks
 mod Histories
 mod Lists
 mod Matches
+mod ShownLeagues
 mod Standing
 mod Sums
 mod Tables

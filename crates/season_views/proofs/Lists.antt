@@ -1,7 +1,9 @@
 -- Lists that a loop makes, one more element at a time.
-use Rattle.std.proofs.Common.{◌≡◌, ◌<◌, ◌≤◌, ◌+◌, ◌∷◌, [], ◌++◌, ℕ, List, Some, length, get_or, map, take, zip, arith, refl, sym, ap, ◌∙◌}
-use Rattle.std.specs.List.{slice_get}
-use Rattle.std.proofs.lemmas.List.{take_more, map-append, take_all}
+use Rattle.std.proofs.Common.{◌≡◌, ◌<◌, ◌≤◌, ◌+◌, ◌∷◌, [], ◌++◌, ℕ, List, All, Some, length, get_or, map, take, zip, arith, refl, sym, ap, subst, ◌∙◌}
+use Rattle.std.specs.List.{range_with_len, slice_get}
+use Rattle.std.proofs.lemmas.List.{length-append, take_more, map-append, take_all}
+use Rattle.std.proofs.lemmas.List.Elements.{All-push}
+use Rattle.std.proofs.lemmas.List.FromFn.{map-range_with_len_more}
 use Rattle.std.proofs.lemmas.Option.{slice_get_within, slice_get_read, slice_get-get_or, get_or_from_slice_get}
 use Rattle.std.proofs.lemmas.Slice.Zip.{get_or-zip, length-zip}
 
@@ -43,11 +45,28 @@ row_at xs ys i x d within paired is_x =
 pub made_whole : {X Y : Type 0} (f : X → Y) (xs : List X) (ys : List Y) (n : ℕ) → length xs ≤ n → length ys ≤ n → take n ys ≡ map f (take n xs) → ys ≡ map f xs
 made_whole f xs ys n short also made = sym (take_all n ys also) ∙ made ∙ ap (map f) (take_all n xs short)
 
--- a list of rows, with one more, and their first parts
-pub first_parts_more : {X Y : Type 0} (xs : List X) (i : ℕ) (x : X) (row : X × Y) (old new : List (X × Y)) → i < length xs → x ≡ get_or xs i x → row.0 ≡ x
-    → map (λ r. r.0) old ≡ take i xs → new ≡ old ++ row ∷ [] → map (λ r. r.0) new ≡ take (i + 1) xs
-first_parts_more xs i x row old new within is first so_far more =
-    ap (map (λ r. r.0)) more ∙ map-append (λ r. r.0) old (row ∷ [])
-    ∙ ap (λ y. map (λ r. r.0) old ++ y ∷ []) first
+-- a list of rows, with one more, and a part of each
+pub parts_more : {X R : Type 0} (part : R → X) (xs : List X) (i : ℕ) (x : X) (row : R) (old new : List R) → i < length xs → x ≡ get_or xs i x → part row ≡ x
+    → map part old ≡ take i xs → new ≡ old ++ row ∷ [] → map part new ≡ take (i + 1) xs
+parts_more part xs i x row old new within is has so_far more =
+    ap (map part) more ∙ map-append part old (row ∷ [])
+    ∙ ap (λ y. map part old ++ y ∷ []) has
     ∙ ap (λ ys. ys ++ x ∷ []) so_far
     ∙ sym (take_next xs i x (slice_get_read xs (length xs) i x refl within is))
+
+-- what a function makes of one number more
+pub range_more : {X : Type 0} (f : ℕ → X) (a n j : ℕ) (x : X) (old new : List X) → a + n ≡ j → x ≡ f j → old ≡ map f (range_with_len a n) → new ≡ old ++ x ∷ []
+    → new ≡ map f (range_with_len a (n + 1))
+range_more f a n j x old new at is so_far more =
+    more ∙ ap (λ xs. xs ++ x ∷ []) so_far ∙ ap (λ y. map f (range_with_len a n) ++ y ∷ []) is ∙ sym (map-range_with_len_more f a n j at)
+
+-- a list with one more
+pub long_more : {X : Type 0} (n : ℕ) (x : X) (old new : List X) → length old ≡ n → new ≡ old ++ x ∷ [] → length new ≡ n + 1
+long_more n x old new long more = ap length more ∙ length-append old (x ∷ []) ∙ ap (λ k. k + 1) long
+
+pub all_more : {X : Type 0} (P : X → Type 0) (x : X) (old new : List X) → All P old → P x → new ≡ old ++ x ∷ [] → All P new
+all_more P x old new all one more = subst (All P) (sym more) (All-push P old x all one)
+
+-- what was read at a place within, whatever is read past the end
+pub read_within : {X : Type 0} (xs : List X) (i : ℕ) (x d : X) → i < length xs → x ≡ get_or xs i x → x ≡ get_or xs i d
+read_within xs i x d within is = sym (get_or_from_slice_get xs i x d (slice_get_read xs (length xs) i x refl within is))

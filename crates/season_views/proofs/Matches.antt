@@ -1,19 +1,21 @@
 -- The matches of a head-to-head league by lists of points are those of its entries.
-use Rattle.std.proofs.Common.{◌≡◌, ◌<◌, ◌≤◌, ◌+◌, ◌-◌, ◌==◌, ℕ, zero, suc, ℤ, pos, Bool, true, false, List, [], ◌∷◌, Option, Some, None, length, get_or, map, nat_lt, if◌then◌else◌, arith, refl, sym, ap, subst, ◌∙◌}
-use Rattle.std.specs.List.{find, position, range_with_len, slice_index}
+use Rattle.std.proofs.Common.{◌≡◌, ◌<◌, ◌≤◌, ◌+◌, ◌-◌, ◌==◌, not, IfSome, IsTrue, ℕ, zero, suc, ℤ, pos, Bool, true, false, List, [], ◌∷◌, Option, Some, None, length, get_or, map, nat_lt, if◌then◌else◌, arith, refl, sym, ap, ◌∙◌}
+use Rattle.std.specs.List.{find, range_with_len, slice_index}
 use Rattle.std.specs.Option.{option_map_or}
 use Rattle.std.proofs.lemmas.Bool.Decides.{nat_tests}
 use Rattle.std.proofs.lemmas.List.{get_or-map, length-map}
 use Rattle.std.proofs.lemmas.List.FromFn.{get_or-map-range_with_len, length-map-range_with_len}
+use Rattle.std.proofs.lemmas.List.Sorted.{length_permutation}
 use Rattle.std.proofs.lemmas.List.Quantifiers.{position-Some}
 use Rattle.rule_book.specs.HeadToHead.{head_score}
-use Rattle.rule_book.specs.LeagueRows.{average_in, head_row, head_rows, match_in, matches_of, place_of, points_against}
+use Rattle.rule_book.specs.LeagueCalls.{is_drawn}
+use Rattle.rule_book.specs.LeagueRows.{head_row, head_rows, match_in, place_of, points_against}
 use Rattle.rule_book.specs.Leagues.{LeagueFacts}
 use Rattle.rule_book.specs.Opponents.{does_meet, opponent_at, opponent_of}
 use Rattle.rule_book.specs.Pairings.{places}
 use Rattle.rule_book.specs.Totals.{gameweeks}
-use Rattle.rule_book.specs.declared.pairing.Opponent.{Opponent}
 use Rattle.rule_book.specs.declared.pairing.Opponent.TheVariants.{Place, Average}
+use Rattle.classic_leagues.specs.Books.{CanDraw}
 use Rattle.season_book.specs.Book.{EntryFacts, Facts}
 use Rattle.season_book.specs.LeagueViews.{net_in}
 use Rattle.season_views.specs.Leagues.{head_row_at, match_at, matches_at, nets_in, points_met, rounds_since}
@@ -22,11 +24,13 @@ use Rattle.season_views.specs.Leagues.{head_row_at, match_at, matches_at, nets_i
 shifted : {X : Type 0} (f g : ℕ → X) (a b n : ℕ) → ((k : ℕ) → k < n → f (a + k) ≡ g (b + k)) → map f (range_with_len a n) ≡ map g (range_with_len b n)
 shifted f g a b zero same = refl
 shifted f g a b (suc n) same =
-    let first : f a ≡ g b = same 0 (omega arith) in
+    let left : a ≡ a + 0 = omega arith in
+    let right : b + 0 ≡ b = omega arith in
+    let first : f a ≡ g b = ap f left ∙ same 0 (omega arith) ∙ ap g right in
     let rest = shifted f g (a + 1) (b + 1) n (λ k within.
-        let e : (a + 1) + k ≡ a + (k + 1) = omega arith in
-        let d : b + (k + 1) ≡ (b + 1) + k = omega arith in
-        ap f e ∙ same (k + 1) (omega (arith, within)) ∙ ap g d) in
+    let e : (a + 1) + k ≡ a + (k + 1) = omega arith in
+    let d : b + (k + 1) ≡ (b + 1) + k = omega arith in
+    ap f e ∙ same (k + 1) (omega (arith, within)) ∙ ap g d) in
     ap (λ x. x ∷ map f (range_with_len (a + 1) n)) first ∙ ap (λ xs. g b ∷ xs) rest
 
 same_all : {X Y : Type 0} (f g : X → Y) (xs : List X) → ((x : X) → f x ≡ g x) → map f xs ≡ map g xs
@@ -38,6 +42,9 @@ equal_numbers a b is = grind (arith, nat_tests, is)
 
 within_members : (j n : ℕ) → nat_lt j n ≡ true → j < n
 within_members j n is = grind (arith, nat_tests, is)
+
+some_places : (n : ℕ) → 0 < n → (n == 0) ≡ false
+some_places n some = grind (arith, nat_tests, some)
 
 module _ (facts : Facts) (entries : List EntryFacts) (league : LeagueFacts) where
   abbrev net : ℕ → ℕ → ℤ
@@ -87,10 +94,10 @@ module _ (facts : Facts) (entries : List EntryFacts) (league : LeagueFacts) wher
       let by : ℕ → ℤ × ℤ = λ k. match_at (get_or rounds k []) k place in
       ap (λ count. map by (range_with_len 0 count)) (length-map-range_with_len nets_at league.start n)
       ∙ shifted by (match_in net league e place) 0 league.start n (λ k few.
-          let zero_more : 0 + k ≡ k = omega arith in
-          ap by zero_more
-          ∙ ap (λ nets. match_at nets k place) (get_or-map-range_with_len nets_at league.start n k (league.start + k) [] few refl)
-          ∙ match_same e place k (league.start + k) within is refl)
+      let zero_more : 0 + k ≡ k = omega arith in
+      ap by zero_more
+      ∙ ap (λ nets. match_at nets k place) (get_or-map-range_with_len nets_at league.start n k (league.start + k) [] few refl)
+      ∙ match_same e place k (league.start + k) within is refl)
 
   found_same : (e : ℕ) (o : Option ℕ) → place_of league.order e ≡ o
       → option_map_or (matches_at (rounds_since facts entries league.order league.start)) o []
@@ -106,3 +113,23 @@ module _ (facts : Facts) (entries : List EntryFacts) (league : LeagueFacts) wher
   -- the rows of the league
   pub rows_same : map (head_row_at (rounds_since facts entries league.order league.start) league) league.members ≡ head_rows net facts.calendar.locked league
   rows_same = same_all (head_row_at (rounds_since facts entries league.order league.start) league) (head_row net facts.calendar.locked league) league.members row_same
+
+drawn_by : (n : ℕ) → 0 < n → not (n == 0) ≡ true
+drawn_by n some = ap not (some_places n some)
+
+-- who has a place in an order has it within, and there are two or more
+pub place_within : (league : LeagueFacts) (order : List ℕ) (e : ℕ) (o : Option ℕ) → order ≡ league.order → o ≡ place_of league.order e → (IsTrue (is_drawn league) → CanDraw order league)
+    → IfSome o (λ at. (at < length order) × (2 ≤ length order))
+place_within league order e None is at drawn = tt
+place_within league order e (Some place) is at drawn =
+    let found = position-Some (λ member. member == e) league.order place 0 (sym at) in
+    let some : 0 < length league.order = omega (arith, found.0) in
+    let draw = (drawn (drawn_by (length league.order) some)).draw in
+    let long = length_permutation league.members order draw.1 in
+    let same : length order ≡ length league.order = ap length is in
+    (omega (arith, found.0, same), omega (arith, draw.0, long))
+
+-- the entries of a league's rows are its members
+pub firsts : (rounds : List (List ℤ)) (league : LeagueFacts) (members : List ℕ) → map (λ row. row.0) (map (head_row_at rounds league) members) ≡ members
+firsts rounds league [] = refl
+firsts rounds league (e ∷ members) = ap (λ rest. e ∷ rest) (firsts rounds league members)

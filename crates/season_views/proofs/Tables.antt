@@ -1,5 +1,5 @@
 -- The entries of a table are those of its rows.
-use Rattle.std.proofs.Common.{◌≡◌, ◌<◌, ◌≤◌, ℕ, ℤ, List, All, length, get_or, map, arith, subst}
+use Rattle.std.proofs.Common.{◌≤◌, ℕ, ℤ, List, All, map, arith, subst}
 use Rattle.std.proofs.lemmas.List.{get_or-map, length-map}
 use Rattle.std.proofs.lemmas.List.Elements.{All-map}
 use Rattle.std.proofs.lemmas.List.Sorted.{All-permutation}

@@ -126,7 +126,14 @@ pub(crate) fn classic<L: Ledger>(
     ensures { IfOk result (λ shown. OfEachBook season.now managers.now
         (λ entries. shown ≡ classic_shown season.now entries league.now)) }
 {
-    let rows = classic_rows(alloc, season, managers, league.members(), league.start(), steps)?;
+    let rows = classic_rows(
+        alloc,
+        season,
+        managers,
+        league.members(),
+        league.start(),
+        steps,
+    )?;
     let table = classic_table(alloc, &rows)?;
     Ok(ShownClassic {
         name: league.name().copy()?,

@@ -39,7 +39,11 @@ fn goes_through<L: Ledger>(
     }
     let one = side_at(season, managers, first, gameweek, steps);
     let other = side_at(season, managers, second, gameweek, steps);
-    if tie(&one, &other, coin) { first } else { second }
+    if tie(&one, &other, coin) {
+        first
+    } else {
+        second
+    }
 }
 
 // The winners of the round after so many rounds, which had these winners.
@@ -100,7 +104,15 @@ pub fn cup<L: Ledger>(
     let mut winners = bracket.slots.copy()?;
     for round in 0..rounds(bracket) {
         if is_played(season, bracket, round) {
-            winners = next_winners(alloc, season, managers, bracket, round, winners.as_slice(), steps)?;
+            winners = next_winners(
+                alloc,
+                season,
+                managers,
+                bracket,
+                round,
+                winners.as_slice(),
+                steps,
+            )?;
             shown.push(Some(winners.copy()?))?;
         } else {
             shown.push(None)?;

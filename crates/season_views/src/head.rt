@@ -130,7 +130,9 @@ fn head_rows(
     rounds: &[ListOf<i32>],
 ) -> Result<Vec<(EntryId, HeadScore)>, Memory>
     requires { AreRounds (length league.now.order) rounds.now }
-    ensures { IfOk result (λ rows. rows.items ≡ map (head_row_at rounds.now league.now) league.now.members) }
+    ensures value { IfOk result (λ rows. rows.items ≡ map (head_row_at rounds.now league.now) league.now.members) }
+    ensures entries { IfOk result (λ rows. map (λ row. row.0) rows.items ≡ league.now.members) }
+    ensures differ { AllDiffer league.now.members }
 {
     let mut rows = Vec::with_capacity(alloc, league.members().len())?;
     for member in league.members() {
@@ -192,7 +194,14 @@ pub(crate) fn head<L: Ledger>(
     ensures { IfOk result (λ shown. OfEachBook season.now managers.now
         (λ entries. shown ≡ head_shown season.now entries league.now)) }
 {
-    let rounds = rounds_since(alloc, season, managers, league.order(), league.start(), steps)?;
+    let rounds = rounds_since(
+        alloc,
+        season,
+        managers,
+        league.order(),
+        league.start(),
+        steps,
+    )?;
     let rows = head_rows(alloc, league, rounds.as_slice())?;
     let table = head_table(alloc, &rows)?;
     Ok(ShownHead {

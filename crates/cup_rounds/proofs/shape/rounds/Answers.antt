@@ -1,7 +1,8 @@
-use Rattle.std.proofs.Common.{rules, sym}
+use Rattle.std.proofs.Common.{◌≡◌, ◌∙◌, sym, ap, subst, ◌≤◌, ◌^◌, length, IfSome}
 use Rattle.cup_rounds.proofs.RoundFacts.{rounds_are}
 use Rattle.cup_rounds.proofs.shape.rounds.Goals as goal
 
-pub returns-in-Some-clause-value : goal.returns-in-Some-clause-value
-returns-in-Some-clause-value c =
-    sym (rounds_are c.args.b.now c.in-Some.rounds c.in-Some.ensures.some.0 c.in-Some.ensures.some.1 (search rules))
+pub returns-clause-value : goal.returns-clause-value
+returns-clause-value c =
+    let found = subst (λ o. IfSome o (λ r. (1 ≤ r) × (r ≤ 10) × (length c.as_slice.result.now ≡ 2 ^ r))) c.unwrap.ensures c.rounds_of.ensures.some in
+    sym (rounds_are c.args.b.now c.unwrap.result found.0 found.1 (ap length (sym c.as_slice.ensures) ∙ found.2))

@@ -1,4 +1,5 @@
-use Rattle.std.proofs.Common.{◌≡◌, ◌≤◌, ℕ, ℤ, rules, ap, subst, ◌∙◌}
+use Rattle.std.proofs.Common.{◌≡◌, ◌≤◌, rules, ap, subst, ◌∙◌, w32, FitsSigned}
+use Rattle.std.proofs.lemmas.Int.{to_z-of_z}
 use Rattle.rule_book.specs.HistoryTransfers.{counted_through}
 use Rattle.rule_book.specs.PlayerFigures.{position_in}
 use Rattle.rule_book.specs.Players.{ArePlayers}
@@ -16,5 +17,6 @@ returns-clause-value g c entries are =
     let one : 1 ≤ e = search rules in
     let total = in_books facts managers e (λ h. c.total_of-total.result ≡ total_since facts h c.args.start) lawful one c.total_of-total.ensures entries are in
     let counted = in_books facts managers e (λ h. c.counted_transfers-counted.result ≡ counted_through h facts.calendar.locked) lawful one
-        (λ h stands. c.counted_transfers-counted.ensures.history (position_in facts.players) h stands ∙ ap (counted_through h) (c.locked.ensures.value ∙ ap (λ those. those.locked) c.calendar.ensures)) entries are in
-    ap (λ z. (e, z, c.counted_transfers-counted.result)) total ∙ ap (λ n. (e, total_since facts (history_of entries e) c.args.start, n)) counted
+    (λ h stands. c.counted_transfers-counted.ensures.history (position_in facts.players) h stands ∙ ap (counted_through h) (c.locked.ensures.value ∙ ap (λ those. those.locked) c.calendar.ensures)) entries are in
+    let fits : FitsSigned w32 c.total_of-total.result = search rules in
+    ap (λ z. (e, z, c.counted_transfers-counted.result)) (to_z-of_z w32 c.total_of-total.result fits ∙ total) ∙ ap (λ n. (e, total_since facts (history_of entries e) c.args.start, n)) counted

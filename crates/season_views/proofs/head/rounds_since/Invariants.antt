@@ -1,4 +1,4 @@
-use Rattle.std.proofs.Common.{◌≡◌, ◌≤◌, All, length, map}
+use Rattle.std.proofs.Common.{◌≡◌, All, length, map}
 use Rattle.std.specs.List.{range_with_len}
 use Rattle.rule_book.specs.FigureRange.{IsWithin}
 use Rattle.season_views.specs.Entries.{OfEachBook}
