@@ -3,17 +3,21 @@ use Rattle.std.proofs.Common.{◌≡◌, ℕ, Bool, true, false, if◌then◌els
 use Rattle.std.specs.Prelude.{Result, Ok, Err, IfErr, IsOk, IsSome, is_some}
 use Rattle.std.proofs.lemmas.Bool.{false≢true}
 use Rattle.std.proofs.lemmas.Option.{none-some, same_Some}
-use Rattle.std.specs.Option.{option_map}
+use Rattle.std.specs.Option.{option_map, option_map_or}
 use Rattle.fpl_base.specs.declared.kinds.Caller.{Caller}
 use Rattle.fpl_base.specs.declared.rule.Rule.{Rule}
 use Rattle.fpl_base.specs.declared.rule.Rule.TheVariants as rule
+use Rattle.rule_book.specs.declared.cup.Bracket.{Bracket}
 use Rattle.rule_book.specs.Calendar.{deadlines_order}
+use Rattle.rule_book.specs.Leagues.{LeagueFacts}
+use Rattle.manager_book.specs.declared.manager.Manager.{Manager}
 use Rattle.season_book.specs.Book.{Book, Facts, last_number}
 use Rattle.season_book.specs.declared.command.Command.{Command}
 use Rattle.season_book.specs.declared.made.Made.{Made}
 use Rattle.season_book.specs.Commands.{are_there, begun_by, changed_by, refusal_of}
 use Rattle.season_book.specs.Doing.{IsGrant, IsGranted, IsGrantedIn, IsOutLate, IsRefused, IsShown, IsStoreless, IsWeighed, MayAnswerIn}
 use Rattle.season_book.specs.EntryCommands.{names_players}
+use Rattle.season_book.specs.LeagueCommands.{cup_broken, cup_drawn, cup_there, league_refusal, leagues_there}
 use Rattle.season_book.specs.Verdict.{Failures, IsRepeat, MayAnswer, Outcome, Verdict, accepted, begun, fresh_verdict, judged, number_refusal, pass, ruled, settled, shown_or_unknown, unless_misnumbered, unless_refused, view_answer}
 use Rattle.season_book.specs.declared.answer.Answer.{Answer}
 use Rattle.season_book.specs.declared.answer.Answer.TheVariants as answer
@@ -21,7 +25,10 @@ use Rattle.season_book.specs.declared.request.Request.{Request}
 use Rattle.season_book.specs.declared.request.Request.TheVariants as request
 use Rattle.season_book.specs.declared.request.View.{View}
 use Rattle.season_book.specs.declared.shown.Shown.{Shown}
+use Rattle.season_competitions.specs.Cups.{cup_answer_by, draw_answer}
+use Rattle.season_competitions.specs.Leagues.{league_answer_by}
 use Rattle.season_entries.specs.Deeds.{IsAnswered, deed_answer}
+use Rattle.season_entries.specs.Known.{is_issued_by, is_registered_by}
 use Rattle.season_host.specs.Accepting.{IsRefusal}
 
 -- a command is refused by a rule or an id that is not there
@@ -91,6 +98,27 @@ deed_refusal_is facts broken command (Err reply) a = by_names (names_players fac
     by_names true None e = absurd (none-some reply e)
     by_names true (Some rule) e = subst IsRefusal (same_Some (answer.Rule rule) reply e) tt
     by_names false broken e = subst IsRefusal (same_Some answer.Unknown reply e) tt
+
+-- so is a command on leagues, and the draw of a cup
+refusal_of_answer : (there : Bool) (broken : Option Rule) (reply : Answer) → (if there then option_map answer.Rule broken else Some answer.Unknown) ≡ Some reply → IsRefusal reply
+refusal_of_answer true None reply e = absurd (none-some reply e)
+refusal_of_answer true (Some rule) reply e = subst IsRefusal (same_Some (answer.Rule rule) reply e) tt
+refusal_of_answer false broken reply e = subst IsRefusal (same_Some answer.Unknown reply e) tt
+
+pub league_refusal_is : {T : Type 0} (facts : Facts) (managers : List Manager) (leagues : List LeagueFacts) (e : ℕ) (command : Command) (result : Result T Answer)
+    → IsAnswered (league_answer_by facts managers leagues e command) result → IfErr result IsRefusal
+league_refusal_is facts managers leagues e command (Ok value) a = tt
+league_refusal_is facts managers leagues e command (Err reply) a =
+    refusal_of_answer (leagues_there facts (is_issued_by managers) leagues command) (league_refusal facts (is_registered_by managers e) leagues e command) reply a
+
+pub cup_refusal_is : {T : Type 0} (facts : Facts) (managers : List Manager) (count : ℕ) (command : Command) (result : Result T Answer)
+    → IsAnswered (cup_answer_by facts managers count command) result → IfErr result IsRefusal
+cup_refusal_is facts managers count command (Ok value) a = tt
+cup_refusal_is facts managers count command (Err reply) a = by_drawn (cup_drawn command) a
+  where
+    by_drawn : (drawn : Option Bracket) → option_map_or (draw_answer facts (is_issued_by managers) (is_registered_by managers) count) drawn (Some answer.Unknown) ≡ Some reply → IsRefusal reply
+    by_drawn None e = subst IsRefusal (same_Some answer.Unknown reply e) tt
+    by_drawn (Some b) e = refusal_of_answer (cup_there facts (is_issued_by managers) b) (cup_broken facts (is_registered_by managers) count b) reply e
 
 -- a command that nothing refuses leads to the facts that it changes
 pub granted_is : (facts : Facts) (now : ℕ) (command : Command) → IsGranted facts now command → judged (Some facts) now command ≡ Ok (changed_by facts command)

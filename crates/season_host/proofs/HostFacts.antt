@@ -23,7 +23,7 @@ use Rattle.season_book.specs.declared.request.View.TheVariants as views
 use Rattle.season_book.specs.declared.shown.Shown.{Shown}
 use Rattle.season_book.specs.declared.shown.Shown.TheVariants as showns
 use Rattle.season_entries.specs.Entries.{AreEntries}
-use Rattle.season_host.specs.Accepting.{IsAccepted, kept_last}
+use Rattle.season_host.specs.Accepting.{IsAccepted, IsNew, kept_last}
 use Rattle.season_host.specs.Standing.{Follows, HostRows, Plays, Running, StandsIn, host_rows, number_at, passed, players_in}
 use Rattle.season_host.proofs.AnswerFacts.{may_answer, view_answered, view_late}
 
@@ -168,7 +168,7 @@ no_entries players others (entry ∷ entries) a = absurd a
 module _ (operator : List ℕ) (before : List (ℕ × Last)) (caller : Caller) (now number : ℕ) (command : Command) where
   -- a command that began a season was accepted
   begun_accepted : (running : Running) (after : List (ℕ × Last))
-      → judged None now command ≡ Ok running.facts → running.managers ≡ [] → after ≡ kept_last before caller number command mades.Nothing
+      → judged None now command ≡ Ok running.facts → IsNew running → after ≡ kept_last before caller number command mades.Nothing
       → IsAccepted (host_rows operator None before) (host_rows operator (Some running) after) caller now number command (Ok mades.Nothing)
   begun_accepted running after is none kept = λ book stands.
       let outcome : Outcome = record { made = mades.Nothing; book = record book { facts = Some running.facts } } in (
@@ -177,15 +177,15 @@ module _ (operator : List ℕ) (before : List (ℕ × Last)) (caller : Caller) (
         refl,
         record {
           facts = refl;
-          entries = subst (λ l. AreEntries running.facts.players l book.entries) (sym none) (no_entries [] running.facts.players book.entries stands.entries);
-          leagues = stands.leagues;
-          cups = stands.cups;
+          entries = subst (λ l. AreEntries running.facts.players l book.entries) (sym none.managers) (no_entries [] running.facts.players book.entries stands.entries);
+          leagues = stands.leagues ∙ sym none.leagues;
+          cups = stands.cups ∙ sym none.cups;
           lasts = ap (λ l. kept_last l caller number command mades.Nothing) stands.lasts ∙ sym kept;
         },
       )
 
   pub begun_here : (old : HostRows) (o : Option Running) (running : Running) (after : List (ℕ × Last)) → host_rows operator o before ≡ old → o ≡ None
-      → (judged None now command ≡ Ok running.facts) × (running.managers ≡ []) × (after ≡ kept_last before caller number command mades.Nothing)
+      → (judged None now command ≡ Ok running.facts) × IsNew running × (after ≡ kept_last before caller number command mades.Nothing)
       → IsAccepted old (host_rows operator (Some running) after) caller now number command (Ok mades.Nothing)
   begun_here old o running after view_is none begun =
       let new = host_rows operator (Some running) after in

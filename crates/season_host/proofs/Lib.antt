@@ -3,3 +3,4 @@ pub mod HostFacts
 pub mod LastFacts
 pub mod MoneyFacts
 pub mod RuledFacts
+pub mod StepFacts

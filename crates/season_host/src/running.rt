@@ -182,13 +182,7 @@ impl RunningSeason {
         ensures ruled { (operator : List ℕ) (now : ℕ) (book : Book) → Plays self.now book → IsRuled (ruled operator book caller.now now command.now) result }
         ensures refusal { IfErr result IsRefusal }
     {
-        judge_league(
-            &self.season,
-            &self.managers,
-            &self.leagues,
-            caller,
-            command,
-        )
+        judge_league(&self.season, &self.managers, &self.leagues, caller, command)
     }
 
     // The same of the draw of a cup.
@@ -262,6 +256,8 @@ impl RunningSeason {
         ensures done { (now : ℕ) (caller : Caller) → OnOk result (IsDone caller now command.now self.old self.new) }
         ensures err { OnErr result (self.new ≡ self.old) }
     {
+        // The law that the members of leagues are entries, for the prover.
+        members_stay();
         match command {
             Command::Key { key, name } => match do_key(&mut self.managers, key, name) {
                 Ok(_) => Ok(()),
@@ -279,9 +275,10 @@ impl RunningSeason {
         ensures done { (now : ℕ) → OnOk result (IsDone caller.now now command.now self.old self.new) }
         ensures err { OnErr result (self.new ≡ self.old) }
     {
-        // The laws on which entries are there, and when their managers act, for the prover.
+        // The laws on which entries are there, when their managers act, and who is in leagues, for the prover.
         entries_are_issued();
         early_is_in_time();
+        members_stay();
         match caller {
             Caller::Entry(entry) => do_deed(&self.season, &mut self.managers, *entry, command),
             Caller::Operator => Ok(()),

@@ -1,8 +1,9 @@
-use Rattle.std.proofs.Common.{◌∙◌, Some, refl, subst, sym}
+use Rattle.std.proofs.Common.{◌∙◌, Some, length, refl, subst, sym}
 use Rattle.season_host.specs.Accepting.{HasRoom, IsDone}
 use Rattle.season_host.specs.Standing.{Running}
 use Rattle.season_book.specs.EntryViews.{gameweek_seen}
 use Rattle.season_host.proofs.RuledFacts.{key_done, profile_stays, same_many}
+use Rattle.season_host.proofs.StepFacts.{not_fewer}
 use Rattle.season_host.proofs.running.RunningSeason.add_entry.Goals as goal
 use Rattle.season_host.proofs.running.RunningSeason.add_entry.Goals.{in-Ok, in-Err}
 
@@ -15,6 +16,8 @@ pub invariant_of-self : goal.invariant_of-self
 invariant_of-self c = record {
   profile = profile_stays c.do_key.result c.self.inside.managers c.do_key.new.managers _ c.do_key.ensures.rows c.do_key.ensures.err ∙ c.self.invariant.profile;
   early = c.do_key.ensures.later (Some (gameweek_seen c.self.inside.season.calendar)) c.self.invariant.early;
+  members = (c.members_stay.ensures c.self.inside.season c.self.inside.managers.managers c.self.inside.leagues).entries (length c.do_key.new.managers.managers)
+      (not_fewer c.do_key.result c.self.inside.managers c.do_key.new.managers _ c.do_key.ensures.rows c.do_key.ensures.err) c.self.invariant.members;
 }
 
 pub returns-after-do_key-clause-done : goal.returns-after-do_key-clause-done

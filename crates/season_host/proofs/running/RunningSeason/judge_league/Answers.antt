@@ -10,3 +10,7 @@ returns-clause-ruled c = λ operator now book plays.
     let running : Running = record { facts = c.self.inside.season; managers = c.self.inside.managers.managers; leagues = c.self.inside.leagues; cups = c.self.inside.cups } in
     let here : Plays running book = subst (λ r. Plays r book) (sym c.self.view_is) plays in
     league_ruled operator book c.args.caller.now now c.args.command.now running here c.judge_league.result c.requires c.judge_league.ensures.books
+
+pub returns-clause-refusal : goal.returns-clause-refusal
+returns-clause-refusal c =
+    league_refusal_is c.self.inside.season c.self.inside.managers.managers c.self.inside.leagues (caller_number c.args.caller.now) c.args.command.now c.judge_league.result c.judge_league.ensures.rows

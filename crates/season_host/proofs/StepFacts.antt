@@ -1,0 +1,40 @@
+-- What keeps a running season in step.
+use Rattle.std.proofs.Common.{◌≡◌, ◌≤◌, ◌++◌, ◌∷◌, [], ℕ, suc, List, Option, Some, None, length, map, arith, refl, sym, ap, ◌∙◌, subst}
+use Rattle.std.specs.Prelude.{Result, Ok, Err, OnOk, OnErr}
+use Rattle.std.proofs.lemmas.Option.{none-some}
+use Rattle.fpl_base.specs.declared.rule.Rule.{Rule}
+use Rattle.fpl_base.specs.declared.rule.Rule.TheVariants as rule
+use Rattle.rule_book.specs.EntryCalls.{in_next}
+use Rattle.manager_book.specs.declared.manager.Manager.{Manager}
+use Rattle.manager_book.specs.Managers.{Managers}
+
+-- where a deed is not refused there is a next gameweek
+pub record Open (next : Option ℕ) : Type 0 where
+  pub gameweek : ℕ
+  pub is : next ≡ Some gameweek
+
+pub open_then : (next : Option ℕ) (judged : ℕ → Option Rule) → in_next next judged ≡ None → Open next
+open_then None judged is = absurd (none-some rule.SeasonOver (sym is))
+open_then (Some g) judged is = record { gameweek = g; is = refl }
+
+-- there are as many as there are keys
+long_map : {X Y : Type 0} (f : X → Y) (xs : List X) → length (map f xs) ≡ length xs
+long_map f [] = refl
+long_map f (x ∷ xs) = ap suc (long_map f xs)
+
+pub as_many : {X Y : Type 0} (f : X → Y) (xs ys : List X) → map f ys ≡ map f xs → length ys ≡ length xs
+as_many f xs ys same = sym (long_map f ys) ∙ ap length same ∙ long_map f xs
+
+longer : {X : Type 0} (xs : List X) (x : X) → length xs ≤ length (xs ++ x ∷ [])
+longer [] x = omega arith
+longer (y ∷ xs) x = let behind = longer xs x in omega (arith, behind)
+
+pub not_fewer : {T E : Type 0} (result : Result T E) (old new : Managers) (m : Manager) → OnOk result (new ≡ record old { managers = old.managers ++ m ∷ [] }) → OnErr result (new ≡ old)
+    → length old.managers ≤ length new.managers
+not_fewer (Ok value) old new m ok err = rw ok (longer old.managers m)
+not_fewer (Err error) old new m ok err = rw err (omega arith)
+
+-- what holds of both that a call may leave holds of what it leaves
+pub either : {T E X : Type 0} (P : X → Type 0) {old new after : X} (result : Result T E) → OnOk result (new ≡ after) → OnErr result (new ≡ old) → P after → P old → P new
+either P (Ok value) ok err done same = subst P (sym ok) done
+either P (Err error) ok err done same = subst P (sym err) same
