@@ -1,6 +1,6 @@
 -- From a host's rows to the books that they stand for, and back.
 use Rattle.std.proofs.Common.{◌≡◌, ◌∷◌, [], ℕ, List, Option, Some, None, refl, sym, ap, subst, ◌∙◌}
-use Rattle.std.specs.Prelude.{Result, Ok, Err, IsOk}
+use Rattle.std.specs.Prelude.{Result, Ok, Err, IfOk, IsOk}
 use Rattle.std.specs.Option.{option_map, option_map_or}
 use Rattle.fpl_base.specs.declared.kinds.Caller.{Caller}
 use Rattle.fpl_base.specs.declared.rule.Rule.TheVariants as rule
@@ -49,6 +49,17 @@ gameweek_shown book caller e g facts reply is same =
     subst (λ o. IsShown (option_map_or (seen_in book caller (views.EntryGameweek e g)) o (answer.Rule rule.NoSeason)) reply) (sym is)
     (subst (λ r. IsShown (seen_in book caller (views.EntryGameweek e g) facts) r) (sym same)
     (shows (option_map showns.EntryGameweek (entry_shown facts book.entries e g))))
+
+-- a view that is shown in the season is the answer of the book
+pub seen_answered : (book : Book) (caller : Caller) (view : View) (facts : Facts) (reply : Answer) → book.facts ≡ Some facts
+    → IsShown (seen_in book caller view facts) reply → IsShown (view_answer book caller view) reply
+seen_answered book caller view facts reply is shown =
+    subst (λ o. IsShown (option_map_or (seen_in book caller view) o (answer.Rule rule.NoSeason)) reply) (sym is) shown
+
+-- what follows of a value that a call gave
+pub if_ok : {T E : Type 0} (P Q : T → Type 0) (result : Result T E) → ((value : T) → P value → Q value) → IfOk result P → IfOk result Q
+if_ok P Q (Ok value) follows p = follows value p
+if_ok P Q (Err error) follows p = tt
 
 -- Moments.
 

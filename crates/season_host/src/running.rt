@@ -354,7 +354,8 @@ impl RunningSeason {
 
     /// The table of a league over the locked gameweeks. It is computed from the rows of its members and the facts.
     pub fn league<L: Ledger>(&self, alloc: Global, number: u32, steps: &mut Steps<L>) -> Answer
-        ensures { (caller : Caller) (book : Book) → Plays self.now book → IsShown (seen_in book caller (view.League number) self.now.facts) result }
+        ensures seen { (caller : Caller) (book : Book) → Plays self.now book → IsShown (seen_in book caller (view.League number) self.now.facts) result }
+        ensures storeless { IsStoreless result }
     {
         let Some(id) = LeagueId::new(number) else {
             return Answer::Unknown;
@@ -367,7 +368,8 @@ impl RunningSeason {
 
     /// The winners of the rounds of a cup, as far as they are locked. They are computed likewise.
     pub fn cup<L: Ledger>(&self, alloc: Global, number: u32, steps: &mut Steps<L>) -> Answer
-        ensures { (caller : Caller) (book : Book) → Plays self.now book → IsShown (seen_in book caller (view.Cup number) self.now.facts) result }
+        ensures seen { (caller : Caller) (book : Book) → Plays self.now book → IsShown (seen_in book caller (view.Cup number) self.now.facts) result }
+        ensures storeless { IsStoreless result }
     {
         let Some(id) = CupId::new(number) else {
             return Answer::Unknown;
@@ -384,7 +386,8 @@ impl RunningSeason {
 
 // What is shown, or want of memory.
 fn answer_of(shown: Result<Shown, Memory>) -> Answer
-    ensures { (due : Shown) → IfOk shown (λ s. s ≡ due) → IsShown (answer.Shown due) result }
+    ensures shown { (due : Shown) → IfOk shown (λ s. s ≡ due) → IsShown (answer.Shown due) result }
+    ensures storeless { IsStoreless result }
 {
     match shown {
         Ok(shown) => Answer::Shown(shown),
