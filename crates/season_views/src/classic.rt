@@ -1,8 +1,8 @@
 // The table of a classic league, and the names in it.
-ghost use Rattle.std.specs.Prelude.{◌≡◌, ◌≤◌, ℕ, List, All, IfOk, length, map};
+ghost use Rattle.std.specs.Prelude.{◌≡◌, ◌≤◌, ℕ, All, IfOk, length, map};
 ghost use Rattle.rule_book.specs.Ranks.{AllDiffer};
 ghost use Rattle.rule_book.specs.Tables.{classic_table_of};
-ghost use Rattle.season_book.specs.LeagueViews.{classic_shown, history_of, ranked_shown};
+ghost use Rattle.season_book.specs.LeagueViews.{classic_shown, ranked_shown};
 ghost use Rattle.season_views.specs.Entries.{OfEachBook, OfEachHistory, OfEachNames, total_since};
 ghost use Rattle.season_views.specs.Leagues.{AreIssued, classic_row_since};
 
@@ -43,7 +43,8 @@ fn classic_row<L: Ledger>(
     steps: &mut Steps<L>,
 ) -> (EntryId, i32, u32)
     requires { managers.now.profile ≡ season.now.profile }
-    ensures value { OfEachBook season.now managers.now (λ entries. result ≡ classic_row_since season.now entries start entry) }
+    ensures value { OfEachBook season.now managers.now
+        (λ entries. result ≡ classic_row_since season.now entries start entry) }
     ensures entry { result.0 ≡ entry }
 {
     // That the ids of players rise, for the prover.

@@ -1,8 +1,7 @@
 // What is shown of a cup.
 ghost use Rattle.std.specs.Prelude.{◌≡◌, ◌≤◌, ◌<◌, ◌+◌, ◌*◌, ◌/◌, ◌^◌, IfOk, IsTrue, length, nat_le};
 ghost use Rattle.rule_book.specs.Cups.{goes_through};
-ghost use Rattle.rule_book.specs.FigureRange.{IsWithin};
-ghost use Rattle.cup_rounds.specs.Rounds.{next_winners, tie_won};
+ghost use Rattle.cup_rounds.specs.Rounds.{next_winners};
 ghost use Rattle.cup_rounds.specs.Shapes.{HasShape};
 ghost use Rattle.season_book.specs.LeagueViews.{cup_shown, side_in};
 ghost use Rattle.season_views.specs.Entries.{OfEachBook};

@@ -1,7 +1,6 @@
 // The matches and the table of a head-to-head league.
 ghost use Rattle.std.specs.Prelude.{◌≡◌, ◌≤◌, ◌<◌, ℕ, All, IfOk, IfSome, length, map};
 ghost use Rattle.rule_book.specs.FigureRange.{IsWithin};
-ghost use Rattle.rule_book.specs.LeagueRows.{place_of};
 ghost use Rattle.rule_book.specs.Ranks.{AllDiffer};
 ghost use Rattle.rule_book.specs.Tables.{head_table_of};
 ghost use Rattle.season_book.specs.LeagueViews.{head_ranked_shown, head_shown};
@@ -172,7 +171,8 @@ fn head_named(
     table: &[HeadRanked],
 ) -> Result<ListOf<ShownHeadRanked>, Memory>
     requires { All (λ row. row.entry ≤ length managers.now.managers) table.now }
-    ensures { IfOk result (λ shown. OfEachNames managers.now (λ entries. shown ≡ map (head_ranked_shown entries) table.now)) }
+    ensures { IfOk result (λ shown. OfEachNames managers.now
+        (λ entries. shown ≡ map (head_ranked_shown entries) table.now)) }
 {
     let mut shown = ListOf::with_room(alloc, table.len())?;
     for row in table {
