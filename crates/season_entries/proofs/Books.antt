@@ -1,5 +1,5 @@
 -- Rows refuse as the books for which they stand.
-use Rattle.std.proofs.Common.{◌≡◌, ◌-◌, ℕ, zero, suc, Bool, true, false, List, [], ◌∷◌, Option, Some, None, Result, if◌then◌else◌, get_or, slice_get, ◌==◌, refl, sym, ap, ◌∙◌, subst}
+use Rattle.std.proofs.Common.{◌≡◌, ◌-◌, ℕ, zero, suc, Bool, true, false, List, [], ◌∷◌, Option, Some, None, Result, if◌then◌else◌, get_or, slice_get, ◌==◌, refl, subst}
 use Rattle.fpl_base.specs.declared.rule.Rule.{Rule}
 use Rattle.rule_book.specs.declared.player.Player.{Player}
 use Rattle.rule_book.specs.Calendar.{next_gameweek}

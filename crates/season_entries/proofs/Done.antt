@@ -1,13 +1,11 @@
 -- A command that was done: the rows are in time, and stand for what the history goes on to.
-use Rattle.std.proofs.Common.{◌≡◌, ◌≤◌, ◌++◌, ◌∷◌, [], ℕ, Bool, true, false, List, Option, Some, None, Result, Ok, Err, OnOk, arith, refl, sym, ap, ◌∙◌, subst, cond, map, nat_eq}
+use Rattle.std.proofs.Common.{◌≡◌, ◌++◌, ◌∷◌, [], ℕ, Bool, true, false, List, Option, Some, None, Result, Ok, Err, OnOk, arith, refl, sym, ap, ◌∙◌, subst, cond, map, nat_eq}
 use Rattle.std.specs.Option.{option_map_or}
 use Rattle.fpl_base.specs.declared.kinds.Chip.{Chip}
-use Rattle.fpl_base.specs.declared.kinds.Position.{Position}
 use Rattle.fpl_base.specs.declared.rule.Rule.{Rule}
 use Rattle.rule_book.specs.declared.player.Player.{Player}
 use Rattle.rule_book.specs.declared.transfers.Sale.{Sale}
 use Rattle.rule_book.specs.declared.transfers.Swap.{Swap}
-use Rattle.rule_book.specs.Batch.{HavePositions}
 use Rattle.rule_book.specs.Calendar.{next_gameweek}
 use Rattle.rule_book.specs.EntryCalls.{batch_deeds, in_next}
 use Rattle.rule_book.specs.History.{Event, in_gameweek}
@@ -18,12 +16,11 @@ use Rattle.rule_book.specs.Refusals.{IsJudged}
 use Rattle.season_ledger.specs.declared.row.Row.{Row}
 use Rattle.season_ledger.specs.declared.row.Standing.{Standing}
 use Rattle.season_ledger.specs.Rows.{AllUpTo, put_chip, put_chip_on, put_row, standing_at}
-use Rattle.season_ledger.specs.Stands.{StandsFor}
 use Rattle.manager_book.specs.Calls.{Moves}
 use Rattle.manager_book.specs.HistoryLaws.{RefuseAlike, RowsAlwaysRefuseAlike}
 use Rattle.manager_book.specs.Managers.{IsSameBut, Managers, season_of}
 use Rattle.season_book.specs.Book.{Facts}
-use Rattle.season_book.specs.EntryCommands.{deeds_in, history_after}
+use Rattle.season_book.specs.EntryCommands.{deeds_in}
 use Rattle.season_book.specs.declared.command.Command.{Command}
 use Rattle.season_entries.specs.Deeds.{IsDeedDone, IsInTime, StandWherever, rows_refusal, rows_refused_in}
 use Rattle.season_entries.proofs.Placing.{have_positions}

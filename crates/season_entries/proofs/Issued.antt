@@ -1,10 +1,9 @@
 -- Entries are there where managers stand for them.
-use Rattle.std.proofs.Common.{◌≡◌, ◌<◌, ◌≤◌, ◌-◌, ℕ, zero, suc, Bool, true, false, List, [], ◌∷◌, Option, Some, None, ◌==◌, if◌then◌else◌, length, get_or, slice_get, slice_index_or, arith, refl, sym, ap, ◌∙◌, subst}
+use Rattle.std.proofs.Common.{◌≡◌, ◌<◌, ◌≤◌, ◌-◌, ℕ, zero, suc, false, List, [], ◌∷◌, Some, None, ◌==◌, if◌then◌else◌, length, slice_get, slice_index_or, arith, refl, ap, ◌∙◌}
 use Rattle.std.proofs.lemmas.Bool.Decides.{nat_tests}
 use Rattle.rule_book.specs.declared.player.Player.{Player}
-use Rattle.rule_book.specs.Entries.{entry_in}
 use Rattle.manager_book.specs.declared.manager.Manager.{Manager}
-use Rattle.manager_book.specs.Managers.{manager_in, nobody}
+use Rattle.manager_book.specs.Managers.{nobody}
 use Rattle.season_book.specs.Book.{EntryFacts}
 use Rattle.season_entries.specs.Entries.{AreEntries, IsEntry}
 use Rattle.season_entries.specs.EntryLaws.{EntriesAreIssued}

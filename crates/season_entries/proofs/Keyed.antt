@@ -1,25 +1,23 @@
 -- The keys of managers and those of the entries for which they stand.
-use Rattle.std.proofs.Common.{◌≡◌, ◌<◌, ◌≤◌, ◌+◌, ◌++◌, ◌∷◌, [], ℕ, zero, suc, Bool, true, false, not, ◌||◌, cond, nat_lt, List, Option, Some, None, is_some, length, map, arith, refl, sym, ap, ◌∙◌, subst}
+use Rattle.std.proofs.Common.{◌≡◌, ◌+◌, ◌++◌, ◌∷◌, [], ℕ, suc, Bool, true, false, not, ◌||◌, cond, nat_lt, List, Option, Some, None, is_some, length, refl, sym, ap, ◌∙◌}
 use Rattle.std.specs.List.{position_from}
 use Rattle.std.specs.Option.{option_map}
 use Rattle.std.specs.Str.{bytes_eq}
 use Rattle.std.proofs.lemmas.Cmp.{nat_list_eq_equiv}
 use Rattle.std.proofs.lemmas.Iterator.Adapters.{position_from-zero}
-use Rattle.fpl_base.specs.declared.kinds.Caller.{Caller}
 use Rattle.fpl_base.specs.declared.kinds.Caller.TheVariants.{Operator, Entry}
 use Rattle.fpl_base.specs.declared.rule.Rule.{Rule}
 use Rattle.fpl_base.specs.declared.rule.Rule.TheVariants as rules
 use Rattle.rule_book.specs.declared.player.Player.{Player}
 use Rattle.rule_book.specs.Entries.{most_entries}
 use Rattle.rule_book.specs.Refusals.{first_broken, unless}
-use Rattle.season_ledger.specs.Stands.{StandsFor}
 use Rattle.manager_book.specs.declared.manager.Manager.{Manager}
 use Rattle.manager_book.specs.Managers.{Managers, entry_with, issue_refusal, number_from}
 use Rattle.season_book.specs.Book.{EntryFacts}
 use Rattle.season_book.specs.Hosts as hosts
 use Rattle.season_book.specs.Verdict.{key_refusal}
-use Rattle.season_entries.specs.Deeds.{AreInTime, IsInTime}
-use Rattle.season_entries.specs.Entries.{AreEntries, IsEntry}
+use Rattle.season_entries.specs.Deeds.{AreInTime}
+use Rattle.season_entries.specs.Entries.{AreEntries}
 use Rattle.season_entries.specs.EntryLaws.{OwnersAreAlike}
 use Rattle.season_entries.specs.Keys.{StandForBooksWith, key_broken, keys_of, new_entry, new_manager}
 use Rattle.season_entries.proofs.Times.{nothing_in_time}

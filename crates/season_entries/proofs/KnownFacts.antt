@@ -1,10 +1,9 @@
 -- Entries are issued and registered as the managers who stand for them say.
-use Rattle.std.proofs.Common.{◌≡◌, ◌<◌, ◌≤◌, ◌-◌, ℕ, zero, suc, Bool, true, false, not, ◌&&◌, ◌==◌, nat_lt, nat_le, List, [], ◌∷◌, Option, Some, None, is_some, if◌then◌else◌, length, slice_get, get_or, arith, refl, sym, ap, ◌∙◌, subst}
+use Rattle.std.proofs.Common.{◌≡◌, ◌-◌, ℕ, zero, suc, Bool, true, false, not, ◌&&◌, ◌==◌, nat_lt, nat_le, List, [], ◌∷◌, Option, Some, None, is_some, if◌then◌else◌, length, slice_get, get_or, arith, refl, ap, ◌∙◌}
 use Rattle.std.specs.List.{list_all}
 use Rattle.std.specs.Option.{option_map_or}
 use Rattle.std.proofs.lemmas.Bool.Decides.{nat_tests}
 use Rattle.rule_book.specs.declared.player.Player.{Player}
-use Rattle.rule_book.specs.Entries.{entry_in}
 use Rattle.rule_book.specs.HistoryRules.{FirstTold, is_started}
 use Rattle.rule_book.specs.History.{Event}
 use Rattle.rule_book.specs.PlayerFigures.{position_in}
@@ -12,12 +11,12 @@ use Rattle.rule_book.specs.Players.{ArePlayers}
 use Rattle.season_ledger.specs.Rows.{first_in}
 use Rattle.season_ledger.specs.Stands.{RowsAlwaysTell}
 use Rattle.manager_book.specs.declared.manager.Manager.{Manager}
-use Rattle.manager_book.specs.Managers.{manager_in, nobody}
-use Rattle.season_book.specs.Book.{EntryFacts, Facts}
+use Rattle.manager_book.specs.Managers.{nobody}
+use Rattle.season_book.specs.Book.{EntryFacts}
 use Rattle.season_book.specs.LeagueCommands.{is_issued, is_registered}
 use Rattle.season_entries.specs.Entries.{AreEntries, IsEntry}
 use Rattle.season_entries.proofs.Placing.{have_positions}
-use Rattle.season_entries.specs.Known.{AreKnown, EntriesAreKnown, is_issued_by, is_registered_by}
+use Rattle.season_entries.specs.Known.{EntriesAreKnown, is_issued_by, is_registered_by}
 
 -- at a place, from 0
 

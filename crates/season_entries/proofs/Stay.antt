@@ -1,5 +1,5 @@
 -- Changes of the facts leave the entries.
-use Rattle.std.proofs.Common.{◌≡◌, ◌≢◌, ◌<◌, ◌≤◌, ◌+◌, ◌-◌, ◌++◌, ◌∷◌, [], ◌⊎◌, ℕ, zero, suc, Bool, true, false, cond, List, Option, Some, None, is_some, length, map, max, min, filter, set, get_or, arith, refl, sym, ap, ◌∙◌, subst, inl, inr, ⊎_elim, nat_eq, nat_lt, nat_le, if◌then◌else◌}
+use Rattle.std.proofs.Common.{◌≡◌, ◌≢◌, ◌<◌, ◌≤◌, ◌+◌, ◌-◌, ◌++◌, ◌∷◌, [], ℕ, zero, suc, Bool, true, false, cond, List, Option, Some, None, is_some, length, max, min, filter, set, arith, refl, sym, subst, inl, inr, ⊎_elim, nat_eq, nat_lt, nat_le, if◌then◌else◌}
 use Rattle.std.specs.List.{All, AllByRecursion as Each}
 use Rattle.std.proofs.lemmas.Bool.Decides.{nat_tests}
 use Rattle.std.proofs.lemmas.Bool.{cases_eq, cases_lt}
@@ -10,20 +10,17 @@ use Rattle.fpl_base.specs.declared.kinds.Position.{Position}
 use Rattle.fpl_base.specs.declared.rule.Rule.TheVariants as rules
 use Rattle.rule_book.specs.declared.player.Player.{Player}
 use Rattle.rule_book.specs.Batch.{HavePositions}
-use Rattle.rule_book.specs.Calendar.{CalendarFacts, next_gameweek, passed_deadlines}
+use Rattle.rule_book.specs.Calendar.{CalendarFacts, passed_deadlines}
 use Rattle.rule_book.specs.Players.{most_players, player_of, player_refusal, price_refusal, with_change, with_player}
 use Rattle.season_ledger.specs.declared.row.Row.{Row}
 use Rattle.season_ledger.specs.Rows.{AllUpTo}
 use Rattle.manager_book.specs.declared.manager.Manager.{Manager}
-use Rattle.season_book.specs.Book.{EntryFacts, Facts}
-use Rattle.season_book.specs.Commands.{changed_by}
-use Rattle.season_book.specs.Doing.{IsGranted}
-use Rattle.season_book.specs.declared.command.Command.{Command}
+use Rattle.season_book.specs.Book.{EntryFacts}
 use Rattle.season_book.specs.declared.command.Command.TheVariants as command
 use Rattle.season_book.specs.EntryViews.{gameweek_seen}
 use Rattle.season_entries.specs.Deeds.{AreInTime}
-use Rattle.season_entries.specs.Entries.{AreEntries, IsEntry}
-use Rattle.season_entries.specs.EntryLaws.{AreEarly, EarlyIsInTime, EntriesStay, FactsLeaveEntries, InTimeIsEarly, MomentsLeaveEntries}
+use Rattle.season_entries.specs.Entries.{AreEntries}
+use Rattle.season_entries.specs.EntryLaws.{EarlyIsInTime, FactsLeaveEntries, InTimeIsEarly, MomentsLeaveEntries}
 
 -- all, in both words
 all_each : {A : Type 0} (P : A → Type 0) (xs : List A) → All P xs → Each P xs

@@ -1,7 +1,6 @@
 -- What changes of a season leave of its entries, and whose keys are.
 use Rattle.std.specs.Prelude.{◌≡◌, ◌≤◌, ◌<◌, ℕ, List, Some, None, length}
 use Rattle.std.specs.Option.{option_map}
-use Rattle.fpl_base.specs.declared.kinds.Caller.{Caller}
 use Rattle.fpl_base.specs.declared.kinds.Caller.TheVariants.{Entry}
 use Rattle.rule_book.specs.declared.player.Player.{Player}
 use Rattle.rule_book.specs.Calendar.{next_gameweek}

@@ -1,5 +1,5 @@
 -- New entries by the keys that managers have.
-use Rattle.std.specs.Prelude.{◌≡◌, ◌++◌, ℕ, List, [], ◌∷◌, length, map, not, Option, Result, is_some, nat_lt}
+use Rattle.std.specs.Prelude.{◌++◌, ℕ, List, [], ◌∷◌, length, map, not, Option, Result, is_some, nat_lt}
 use Rattle.fpl_base.specs.declared.rule.Rule.{Rule}
 use Rattle.fpl_base.specs.declared.rule.Rule.TheVariants as rule
 use Rattle.rule_book.specs.declared.player.Player.{Player}

@@ -2,7 +2,6 @@
 use Rattle.std.specs.Prelude.{◌≡◌, ℕ, Bool, not, ◌&&◌, ◌==◌, List, is_some, length, nat_le}
 use Rattle.std.specs.List.{list_all}
 use Rattle.rule_book.specs.Players.{ArePlayers}
-use Rattle.rule_book.specs.CupCalls.{entrants}
 use Rattle.season_ledger.specs.Rows.{first_in}
 use Rattle.manager_book.specs.declared.manager.Manager.{Manager}
 use Rattle.manager_book.specs.Managers.{manager_in}

@@ -1,5 +1,4 @@
 use Rattle.std.proofs.Common.{◌≤◌, arith, length, rules}
-use Rattle.rule_book.specs.declared.cup.Bracket.{Bracket}
 use Rattle.rule_book.specs.Cups.{IsCup}
 use Rattle.cup_rounds.proofs.RoundCases.{no_less}
 use Rattle.cup_rounds.proofs.draw.can_be_played.Goals as goal

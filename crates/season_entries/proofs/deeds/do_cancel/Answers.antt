@@ -1,9 +1,8 @@
-use Rattle.std.proofs.Common.{◌≡◌, ◌++◌, ◌∷◌, [], ℕ, length, List, Option, Some, None, ap, sym, ◌∙◌, subst}
+use Rattle.std.proofs.Common.{◌≡◌, None, ap, ◌∙◌}
 use Rattle.rule_book.specs.Calendar.{next_gameweek}
 use Rattle.rule_book.specs.EntryCalls.{in_next}
 use Rattle.manager_book.specs.Calls.{cancel_broken}
 use Rattle.fpl_base.specs.declared.kinds.Chip.TheVariants.{None as NoChip}
-use Rattle.season_ledger.specs.Rows.{used_by}
 use Rattle.manager_book.specs.Managers.{season_of}
 use Rattle.season_book.specs.declared.command.Command.TheVariants as command
 use Rattle.season_entries.proofs.Done.{deed_done, unrefused, up_to_chip}

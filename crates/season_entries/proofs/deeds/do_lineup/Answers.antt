@@ -1,4 +1,4 @@
-use Rattle.std.proofs.Common.{◌≡◌, ◌++◌, ◌∷◌, [], ℕ, length, List, Option, Some, ap, sym, ◌∙◌, subst}
+use Rattle.std.proofs.Common.{◌≡◌, ap, ◌∙◌}
 use Rattle.rule_book.specs.Calendar.{next_gameweek}
 use Rattle.season_ledger.specs.Rows.{used_by}
 use Rattle.manager_book.specs.Managers.{season_of}

@@ -1,10 +1,9 @@
-use Rattle.std.proofs.Common.{◌≡◌, ◌++◌, ◌∷◌, [], ℕ, List, Option, Some, ap, sym, ◌∙◌, subst}
-use Rattle.fpl_base.specs.declared.kinds.Position.{Position}
+use Rattle.std.proofs.Common.{◌≡◌, ◌++◌, List, ap, sym, ◌∙◌, subst}
 use Rattle.rule_book.specs.declared.player.Player.{Player}
 use Rattle.rule_book.specs.Batch.{HavePositions}
 use Rattle.rule_book.specs.Calendar.{next_gameweek}
-use Rattle.rule_book.specs.EntryCalls.{picks_from, slot_of, squad_deeds}
-use Rattle.rule_book.specs.History.{Event, in_gameweek}
+use Rattle.rule_book.specs.EntryCalls.{squad_deeds}
+use Rattle.rule_book.specs.History.{in_gameweek}
 use Rattle.season_ledger.specs.Stands.{StandsFor}
 use Rattle.manager_book.specs.Managers.{season_of}
 use Rattle.season_book.specs.declared.command.Command.TheVariants as command

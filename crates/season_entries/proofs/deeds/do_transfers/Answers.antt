@@ -1,7 +1,6 @@
-use Rattle.std.proofs.Common.{◌≡◌, ◌+◌, ◌++◌, ◌∷◌, [], ℕ, length, List, Option, Some, ap, sym, ◌∙◌, subst}
+use Rattle.std.proofs.Common.{◌≡◌, ◌+◌, ◌++◌, length, List, ap, sym, ◌∙◌, subst}
 use Rattle.rule_book.specs.Calendar.{next_gameweek}
-use Rattle.std.proofs.Common.{map, rules}
-use Rattle.fpl_base.specs.declared.kinds.Position.{Position}
+use Rattle.std.proofs.Common.{map}
 use Rattle.rule_book.specs.declared.player.Player.{Player}
 use Rattle.rule_book.specs.Batch.{HavePositions}
 use Rattle.rule_book.specs.EntryCalls.{batch_deeds}

@@ -1,4 +1,4 @@
-use Rattle.std.proofs.Common.{◌≡◌, ap, ◌∙◌}
+use Rattle.std.proofs.Common.{ap, ◌∙◌}
 use Rattle.rule_book.specs.Calendar.{next_gameweek}
 use Rattle.season_entries.proofs.Times.{in_time_at}
 use Rattle.season_entries.proofs.judge.judge_named.Goals as goal

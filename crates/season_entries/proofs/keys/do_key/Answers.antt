@@ -1,4 +1,4 @@
-use Rattle.std.proofs.Common.{◌≡◌, ◌++◌, ◌∷◌, [], List, ap, sym, subst, rules}
+use Rattle.std.proofs.Common.{◌≡◌, ◌++◌, ◌∷◌, [], List, sym, subst, rules}
 use Rattle.manager_book.specs.declared.manager.Manager.{Manager}
 use Rattle.season_entries.specs.Deeds.{AreInTime}
 use Rattle.season_entries.specs.Keys.{StandForBooksWith, new_manager}

@@ -1,6 +1,4 @@
-use Rattle.std.proofs.Common.{◌≡◌, true, false, None, Some, sym, ◌∙◌, rules}
-use Rattle.std.specs.Str.{bytes_eq}
-use Rattle.manager_book.specs.Managers.{issue_refusal}
+use Rattle.std.proofs.Common.{rules}
 use Rattle.season_entries.proofs.Keyed.{free_key, own_key, still_broken}
 use Rattle.season_entries.proofs.keys.judge_by_keys.Goals as goal
 

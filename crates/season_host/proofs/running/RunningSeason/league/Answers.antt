@@ -7,7 +7,6 @@ use Rattle.season_book.specs.Book.{EntryFacts}
 use Rattle.season_book.specs.Doing.{IsShown}
 use Rattle.season_book.specs.LeagueViews.{league_shown}
 use Rattle.season_book.specs.Verdict.{shown_or_unknown}
-use Rattle.season_book.specs.declared.answer.Answer.TheVariants as answer
 use Rattle.season_book.specs.declared.shown.Shown.{Shown}
 use Rattle.season_entries.specs.Entries.{AreEntries}
 use Rattle.season_host.specs.Standing.{Plays, Running}
