@@ -59,3 +59,27 @@ def begin(profile=1):
 def begin_with_squad(profile=1):
     begin(profile)
     do(FIRST, "/squad", players=SQUAD, captain=10, vice=5)
+
+
+def manager(entry):
+    """The key of an entry's manager."""
+    return f"manager{entry:02}"
+
+
+def enter(*entries):
+    """The operator makes these entries, the first of which is the next one."""
+    for entry in entries:
+        do(OPERATOR, "/keys", key=manager(entry), name=f"Entry {entry}")
+
+
+def register(entry, captain, vice, players=SQUAD):
+    do(manager(entry), "/squad", players=players, captain=captain, vice=vice)
+
+
+def league(entry, kind, start, code="code1", name="League"):
+    """The entry's manager makes a league."""
+    do(manager(entry), "/leagues", kind=kind, name=name, code=code, start=start)
+
+
+def join(entry, league, code="code1"):
+    do(manager(entry), f"/leagues/{league}/join", code=code)
