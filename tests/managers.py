@@ -1,4 +1,4 @@
-"""What the input.py of the cases of managers share: requests, and a small season with the squad of a first manager.
+"""What the input.py of the cases of managers, leagues and cups share: requests, and a small season with a first squad.
 
 Eighteen players, P1 to P18, cost 50 each. P1 to P15 are a squad by slot, three of each of clubs 1 to 5:
 P1 and P12 are goalkeepers, P2 to P4, P14 and P15 defenders, P5 to P9 midfielders, P10, P11 and P13 forwards. The others
