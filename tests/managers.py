@@ -1,4 +1,4 @@
-"""What the input.py of the cases of managers share: requests, and a small season with the squad of a first manager.
+"""What the input.py of the cases of managers, leagues and cups share: requests, and a small season with a first squad.
 
 Eighteen players, P1 to P18, cost 50 each. P1 to P15 are a squad by slot, three of each of clubs 1 to 5:
 P1 and P12 are goalkeepers, P2 to P4, P14 and P15 defenders, P5 to P9 midfielders, P10, P11 and P13 forwards. The others
@@ -59,3 +59,27 @@ def begin(profile=1):
 def begin_with_squad(profile=1):
     begin(profile)
     do(FIRST, "/squad", players=SQUAD, captain=10, vice=5)
+
+
+def manager(entry):
+    """The key of an entry's manager."""
+    return f"manager{entry:02}"
+
+
+def enter(*entries):
+    """The operator makes these entries, the first of which is the next one."""
+    for entry in entries:
+        do(OPERATOR, "/keys", key=manager(entry), name=f"Entry {entry}")
+
+
+def register(entry, captain, vice, players=SQUAD):
+    do(manager(entry), "/squad", players=players, captain=captain, vice=vice)
+
+
+def league(entry, kind, start, code="code1", name="League"):
+    """The entry's manager makes a league."""
+    do(manager(entry), "/leagues", kind=kind, name=name, code=code, start=start)
+
+
+def join(entry, league, code="code1"):
+    do(manager(entry), f"/leagues/{league}/join", code=code)

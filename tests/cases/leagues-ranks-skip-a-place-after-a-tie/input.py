@@ -1,0 +1,31 @@
+# A classic table before its start, after one gameweek, and with a member whose first gameweek is open.
+from managers import OPERATOR, ask, begin, do, enter, join, league, line, manager, register
+
+begin()
+enter(2, 3, 4, 5)
+for entry in (1, 2, 3):
+    register(entry, captain=5, vice=10)
+register(4, captain=10, vice=5)
+do(manager(3), "/transfers", swaps=[{"out": 9, "in": 17}])
+league(1, "classic", start=3)
+join(2, 1)
+join(4, 1)
+join(3, 1)
+lines = [line(player, goals=int(player == 10)) for player in range(1, 19)]
+do(OPERATOR, "/fixtures/1/sheet", lines=lines, finished=False)
+ask("/entries/4/gameweeks/1", OPERATOR)
+do(manager(2), "/transfers", swaps=[{"out": 9, "in": 17}, {"out": 2, "in": 16}])
+do(manager(4), "/chip", chip="wildcard")
+do(manager(4), "/transfers", swaps=[{"out": 9, "in": 17}, {"out": 2, "in": 16}])
+ask("/leagues/1", OPERATOR)
+ask("/leagues/1", OPERATOR)
+ask("/entries/2/gameweeks/2", OPERATOR)
+do(OPERATOR, "/fixtures/3/sheet", lines=[line(player) for player in range(1, 19)], finished=False)
+ask("/leagues/1", OPERATOR)
+do(OPERATOR, "/fixtures/4/sheet", lines=[line(player) for player in range(1, 19) if player != 10], finished=False)
+register(5, captain=10, vice=5)
+ask("/leagues/1", manager(5))
+join(5, 1)
+do(manager(1), "/transfers", swaps=[{"out": 9, "in": 17}])
+ask("/leagues/1", manager(5))
+ask("/leagues/1", manager(5))
