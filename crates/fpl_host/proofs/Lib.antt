@@ -1,4 +1,5 @@
 pub mod DeskLemmas
+pub mod IsolationFacts
 pub mod KeptLemmas
 pub mod OnceFacts
 pub mod PipeLemmas

@@ -7,3 +7,4 @@ pub mod Pipe
 pub mod Replying
 pub mod Run
 pub mod Words
+pub mod Isolation
