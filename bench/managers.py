@@ -48,6 +48,11 @@ class Stream:
         self.ask("POST", target, key, f'{{"number":{self.numbers[key]}{"," if members else ""}{members}}}')
 
     def make(self):
+        self.begin()
+        self.play(self.gameweeks)
+
+    def begin(self):
+        """The season, with entries that have a squad."""
         deadlines = ",".join(str(100_000 * g) for g in range(1, self.gameweeks + 1))
         clubs = ",".join(f'{{"id":{c},"name":"Club {c}"}}' for c in range(1, 21))
         self.post("/season", "operator1", f'"deadlines":[{deadlines}],"split":{self.gameweeks // 2},"clubs":[{clubs}]')
@@ -62,7 +67,10 @@ class Stream:
             self.post("/keys", "operator1", f'"key":"{self.key(entry)}","name":"Entry {entry}"')
             self.squads[entry] = self.squad()
             self.post("/squad", self.key(entry), self.order(entry))
-        for gameweek in range(1, self.gameweeks + 1):
+
+    def play(self, gameweeks):
+        """What entries do in so many gameweeks, of which the last stays open."""
+        for gameweek in range(1, gameweeks + 1):
             self.now = 100_000 * gameweek - 500
             for f in range(10 * (gameweek - 2), 10 * (gameweek - 1)) if gameweek > 1 else ():
                 self.sheet(f)
