@@ -1,6 +1,6 @@
 -- Records in the order of their keys, with one more or one less.
-use Rattle.std.proofs.Common.{◌≡◌, ◌≤◌, ◌<◌, ◌+◌, inl, inr, ℕ, suc, Bool, true, false, IsTrue, List, [], ◌∷◌, ◌++◌, take, drop, reverse, length, Some, None, refl, subst, sym, ap, ◌∙◌, slice_index_or, slice_set, if◌then◌else◌, arith, add-one}
-use Rattle.std.specs.List.{All, AllPairs, AllWithin, HoldsAt, insert}
+use Rattle.std.proofs.Common.{◌≡◌, ◌<◌, ◌+◌, inl, inr, ℕ, Bool, true, false, IsTrue, List, [], ◌∷◌, ◌++◌, take, drop, reverse, length, Some, None, refl, subst, sym, ap, ◌∙◌, slice_index_or, slice_set, if◌then◌else◌, arith, add-one}
+use Rattle.std.specs.List.{All, HoldsAt, insert}
 use Rattle.std.specs.List.Sorted.{IsPartitionedBy}
 use Rattle.std.proofs.lemmas.Bool.{cases_eq}
 use Rattle.std.proofs.lemmas.List.{take-append-drop, reverse-append, reverse-reverse}

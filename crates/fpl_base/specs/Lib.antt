@@ -7,3 +7,4 @@ pub mod Plans
 pub mod Rows
 pub mod RuleNumbers
 pub mod Texts
+pub mod Shelves

@@ -139,9 +139,9 @@ impl FaultyKeeper {
 }
 
 impl Keeper for FaultyKeeper {
-    ghost use Rattle.std.specs.Prelude.{⊤, ◌≡◌, ◌↔◌, IsTrue, Err};
+    ghost use Rattle.std.specs.Prelude.{⊤, ◌≡◌, ◌⊎◌, ◌↔◌, IsTrue, OnOk, OnErr, Err, false};
     ghost use Rattle.std.proofs.Common.{sym, ◌∙◌};
-    ghost use Rattle.fpl_base.specs.Keeping.{map_of};
+    ghost use Rattle.fpl_base.specs.Keeping.{Map, map_of, KeysRise, HasKeeperCause, applied};
     ghost use Rattle.fpl_base.specs.Plans.{after_call, fails_next};
     ghost use Rattle.fpl_base.specs.declared.outside.KeeperFault.TheVariants as fault;
 
@@ -157,14 +157,38 @@ impl Keeper for FaultyKeeper {
 
     ghost one_map = { λ _ _ _ p q. p ∙ sym q };
 
-    fn load(&mut self, alloc: Global) -> Result<Vec<(RecordKey, Bytes)>, KeeperFault> {
+    fn load(&mut self, alloc: Global) -> Result<Vec<(RecordKey, Bytes)>, KeeperFault>
+        ensures rise { IfOk result (λ pairs. KeysRise pairs.items) }
+        ensures gave { IfOk result (λ pairs. ⊤ → (m : Map) → m ≡ map_of self.old.records → m ≡ map_of pairs.items) }
+        ensures alone { OnOk result (⊤ → (m : Map) → m ≡ map_of self.old.records → (x : Map) → x ≡ map_of self.new.records → x ≡ m) }
+        ensures done { OnOk result (⊤ → (m : Map) → m ≡ map_of self.old.records → m ≡ map_of self.new.records) }
+        ensures kept { OnErr result (⊤ → ⊤ → (m : Map) → m ≡ map_of self.old.records → m ≡ map_of self.new.records) }
+        ensures stops { ⊤ → (m : Map) → m ≡ map_of self.old.records → (x : Map) → x ≡ map_of self.new.records → x ≡ map_of self.old.records }
+        ensures told { ⊤ → ⊤ }
+        ensures cause { HasKeeperCause self.old.plan.faults self.new.plan.faults result }
+        ensures plan { self.new.plan ≡ after_call self.old.plan }
+        ensures fails { (result ≡ Err fault.Failed) ↔ IsTrue (fails_next self.old.plan) }
+        ensures stores { self.new.stores ≡ self.old.stores }
+    {
         if self.plan.next_fails() {
             return Err(KeeperFault::Failed);
         }
         self.keeper.load(alloc)
     }
 
-    fn commit(&mut self, alloc: Global, ops: &[Op]) -> Result<(), KeeperFault> {
+    fn commit(&mut self, alloc: Global, ops: &[Op]) -> Result<(), KeeperFault>
+        ensures done { OnOk result (⊤ → (m : Map) → m ≡ map_of self.old.records → applied m ops.now ≡ map_of self.new.records) }
+        ensures alone { OnOk result (⊤ → (m : Map) → m ≡ map_of self.old.records → (x : Map) → x ≡ map_of self.new.records → x ≡ applied m ops.now) }
+        ensures failed { OnErr result (⊤ → ⊤ → (m : Map) → m ≡ map_of self.old.records → (m ≡ map_of self.new.records) ⊎ (applied m ops.now ≡ map_of self.new.records)) }
+        ensures kept { result ≡ Err fault.Memory → ⊤ → ⊤ → (m : Map) → m ≡ map_of self.old.records → m ≡ map_of self.new.records }
+        ensures stops { ⊤ → (m : Map) → m ≡ map_of self.old.records → (x : Map) → x ≡ map_of self.new.records → (x ≡ map_of self.old.records) ⊎ (x ≡ applied m ops.now) }
+        ensures told { ⊤ → ⊤ }
+        ensures cause { HasKeeperCause self.old.plan.faults self.new.plan.faults result }
+        ensures plan { self.new.plan ≡ after_call self.old.plan }
+        ensures fails { (result ≡ Err fault.Failed) ↔ IsTrue (fails_next self.old.plan) }
+        ensures unstored { IsTrue (fails_next self.old.plan) → self.old.stores ≡ false → self.new.records ≡ self.old.records }
+        ensures stores { self.new.stores ≡ self.old.stores }
+    {
         if self.plan.next_fails() {
             if self.stores {
                 let _ = self.keeper.commit(alloc, ops);

@@ -25,7 +25,7 @@ pub use kinds::{Caller, Chip, Position, Profile};
 pub use list::ListOf;
 pub use memory::{Memory, Refused};
 pub use number::read_number;
-pub use outside::{Clock, Doors, Failed, Keeper, KeeperFault, Shelf, Sink, Source};
+pub use outside::{Clock, Doors, Failed, Keeper, KeeperFault, Shelf, ShelfFault, Sink, Source};
 pub use real::{Reading, SystemClock, Writing};
 pub use records::{Bytes, Op, RecordKey};
 pub use rule::Rule;

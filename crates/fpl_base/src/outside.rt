@@ -1,10 +1,11 @@
 // What is outside of the program: each by what it tells, if it tells it, and by a count of its faults.
-ghost use Rattle.std.specs.Prelude.{◌≡◌, ◌<◌, ◌⊎◌, ℕ, List, Option, length, IfSome, IfOk, OnOk, OnErr, Err};
+ghost use Rattle.std.specs.Prelude.{◌≡◌, ◌<◌, ◌≤◌, ◌⊎◌, ℕ, List, Option, length, IfSome, IfOk, OnOk, OnErr, Err};
 ghost use Rattle.std.specs.Io.{ReadsAtMost};
 ghost use Rattle.std.specs.Io.KnownBytes.{Appends, ReadConsumes};
 ghost use Rattle.fpl_base.specs.Causes.{HasCause, AppendsFront};
 ghost use Rattle.fpl_base.specs.Doors.{Ended, Opens, GivesBack};
 ghost use Rattle.fpl_base.specs.Keeping.{Map, applied, map_of, KeysRise, HasKeeperCause};
+ghost use Rattle.fpl_base.specs.Shelves.{HasShelfCause};
 ghost use Rattle.fpl_base.specs.Moments.{Moments, Tells};
 
 use crate::{Bytes, Memory, Moment, Op, RecordKey};
@@ -150,8 +151,42 @@ pub trait Doors {
         ensures faults { faults self.new ≡ faults self.old };
 }
 
+/// Why a shelf gave no file.
+#[derive(Clone, Copy, Debug, PartialEq, Eq)]
+pub enum ShelfFault {
+    /// It failed, which its count of faults shows.
+    Failed,
+    /// The file has more than 4,194,304 bytes.
+    Long,
+    /// Memory ran out.
+    Memory,
+}
+
+impl From<Memory> for ShelfFault {
+    ghost use Rattle.fpl_base.specs.declared.outside.ShelfFault.TheVariants as fault;
+
+    ghost from_gives = { λ _ gives. gives ≡ fault.Memory };
+
+    fn from(_: Memory) -> Self {
+        ShelfFault::Memory
+    }
+}
+
 /// What holds files.
 pub trait Shelf {
+    ghost use Rattle.fpl_base.specs.declared.outside.ShelfFault.TheVariants as fault;
+
+    /// The bytes of each file by its name, if it tells them: none where no file has the name.
+    ghost files: { Self → Option (List ℕ → List ℕ) };
+
     /// How often it failed, up to the last value of a `u64`.
     ghost faults: { Self → ℕ };
+
+    /// The bytes of the file of a name. It takes memory.
+    fn read(&mut self, alloc: Global, name: &str) -> Result<Bytes, ShelfFault>
+        ensures gave { IfOk result (λ bytes. IfSome (files self.old) (λ bytes_of. bytes ≡ bytes_of name.now)) }
+        ensures short { IfOk result (λ bytes. length bytes ≤ 4194304) }
+        ensures long { result ≡ Err fault.Long → IfSome (files self.old) (λ bytes_of. 4194304 < length (bytes_of name.now)) }
+        ensures kept { files self.new ≡ files self.old }
+        ensures cause { HasShelfCause (faults self.old) (faults self.new) result };
 }

@@ -1,4 +1,4 @@
-use Rattle.std.proofs.Common.{rules, arith, ◌≡◌, ◌∙◌, ap, sym}
+use Rattle.std.proofs.Common.{rules, arith, ◌∙◌, ap, sym}
 use Rattle.fpl_base.specs.Keeping.{applied_one, map_of}
 use Rattle.fpl_base.proofs.RowLemmas.{next_is}
 use Rattle.fpl_base.proofs.kept.apply_backwards.Goals as goal

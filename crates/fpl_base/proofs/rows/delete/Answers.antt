@@ -1,4 +1,4 @@
-use Rattle.std.proofs.Common.{rules, arith, ◌≡◌, ◌∙◌, ap, sym, subst, refl, length, take, drop, ◌++◌, ◌+◌}
+use Rattle.std.proofs.Common.{◌∙◌, ap, sym, subst, refl}
 use Rattle.fpl_base.specs.Keeping.{map_of, KeysRise}
 use Rattle.fpl_base.proofs.RowLemmas.{removed_is, removed_rises, absent_is}
 use Rattle.fpl_base.proofs.rows.delete.Goals as goal

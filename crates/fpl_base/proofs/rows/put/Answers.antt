@@ -1,5 +1,5 @@
-use Rattle.std.proofs.Common.{rules, arith, ◌≡◌, ◌∙◌, ap, sym, subst, cond, refl, length}
-use Rattle.std.specs.Prelude.{IsOk, vec_len}
+use Rattle.std.proofs.Common.{◌∙◌, ap, sym, subst, cond, refl}
+use Rattle.std.specs.Prelude.{IsOk}
 use Rattle.std.specs.List.{insert}
 use Rattle.fpl_base.specs.Keeping.{map_of, KeysRise}
 use Rattle.fpl_base.proofs.RowLemmas.{replaced_is, replaced_rises, inserted_is, inserted_rises}

@@ -1,4 +1,4 @@
-use Rattle.std.proofs.Common.{◌≡◌, ◌∙◌, ap, sym, inr}
+use Rattle.std.proofs.Common.{◌∙◌, ap, sym, inr}
 use Rattle.fpl_base.specs.Keeping.{applied, map_of}
 use Rattle.fpl_base.proofs.RowLemmas.{stored_is}
 use Rattle.fpl_base.proofs.kept.MemoryKeeperKeeper.commit.Goals as goal
