@@ -7,7 +7,9 @@ mod fields;
 mod item;
 mod laws;
 mod lists;
+mod read_fields;
 mod slot;
+mod unread;
 mod writing;
 
 pub use item::Item;
