@@ -8,6 +8,7 @@ mod item;
 mod laws;
 mod lists;
 mod read_fields;
+mod reading;
 mod slot;
 mod unread;
 mod writing;
