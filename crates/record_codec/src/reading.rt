@@ -8,6 +8,7 @@ use crate::unread::Unread;
 use std::marker::Model;
 
 // The bytes that are not read yet. After an error it is not said which these are.
+#[derive(Drop)]
 pub struct Reading<'a> {
     rest: &'a [u8],
 }
