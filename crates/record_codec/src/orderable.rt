@@ -2,7 +2,6 @@
 ghost use Rattle.std.specs.Prelude.{◌≡◌, ◌==◌, ◌&&◌, nat_le, length};
 ghost use Rattle.std.specs.List.{list_any, list_all};
 ghost use Rattle.record_codec.specs.Commands.{club_ids, differ, is_between, is_command};
-ghost use Rattle.season_book.specs.declared.command.Command.TheVariants as command;
 
 use fpl_base::{Chip, ClubId, Name};
 use season_book::Command;
@@ -37,7 +36,8 @@ pub fn is_orderable(command: &Command) -> bool
 
 // Whether a season can begin with so many deadlines, this split and these clubs.
 fn begins(deadlines: usize, split: u8, clubs: &[(ClubId, Name)]) -> bool
-    ensures { result ≡ (is_between 1 38 deadlines && nat_le split deadlines && is_between 1 20 (length clubs.now) && differ (club_ids clubs.now)) }
+    ensures { result ≡ (is_between 1 38 deadlines && nat_le split deadlines
+        && is_between 1 20 (length clubs.now) && differ (club_ids clubs.now)) }
 {
     is_long(deadlines, 1, 38)
         && split as usize <= deadlines

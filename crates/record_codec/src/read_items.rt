@@ -285,7 +285,7 @@ fn one_that_can_be(item: Item) -> Result<Item, Unread>
     }
 }
 
-fn can_be(item: &Item) -> bool
+pub fn can_be(item: &Item) -> bool
     ensures { result ≡ is_item item.now }
 {
     match *item {

@@ -1,6 +1,5 @@
 use Rattle.std.proofs.Common.{◌≡◌, ◌-◌}
-use Rattle.record_codec.specs.Reading.{byte_at}
-use Rattle.record_codec.specs.Reading.{many_at}
+use Rattle.record_codec.specs.Reading.{byte_at, many_at}
 use Rattle.record_codec.proofs.Loops.{with_front}
 use Rattle.record_codec.proofs.reading.Reading.coins.Given as goal
 

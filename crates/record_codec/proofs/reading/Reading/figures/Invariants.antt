@@ -1,6 +1,5 @@
 use Rattle.std.specs.Int.{w16}
-use Rattle.record_codec.specs.Reading.{number_at}
-use Rattle.record_codec.specs.Reading.{many_at}
+use Rattle.record_codec.specs.Reading.{number_at, many_at}
 use Rattle.record_codec.proofs.Loops.{Fills}
 use Rattle.record_codec.proofs.reading.Reading.figures.Given as goal
 

@@ -1,5 +1,5 @@
-use Rattle.record_codec.specs.CommandReading.{moment_at}
 use Rattle.std.proofs.lemmas.Result.{err_from_is_err_and}
+use Rattle.record_codec.specs.CommandReading.{moment_at}
 use Rattle.record_codec.specs.Reading.{many_at}
 use Rattle.record_codec.proofs.Loops.{goes_on, ends, is_done}
 use Rattle.record_codec.proofs.reading.Reading.moments.Goals as goal

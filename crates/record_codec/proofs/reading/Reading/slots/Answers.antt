@@ -1,7 +1,6 @@
-use Rattle.std.specs.Int.{w32}
-use Rattle.record_codec.specs.Reading.{number_at}
 use Rattle.std.proofs.lemmas.Result.{err_from_is_err_and}
-use Rattle.record_codec.specs.Reading.{many_at}
+use Rattle.std.specs.Int.{w32}
+use Rattle.record_codec.specs.Reading.{number_at, many_at}
 use Rattle.record_codec.proofs.Loops.{goes_on, ends, is_done}
 use Rattle.record_codec.proofs.reading.Reading.slots.Goals as goal
 

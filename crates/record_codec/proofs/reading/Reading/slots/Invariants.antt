@@ -1,7 +1,6 @@
 use Rattle.std.proofs.Common.{◌≡◌, ◌-◌}
 use Rattle.std.specs.Int.{w32}
-use Rattle.record_codec.specs.Reading.{number_at}
-use Rattle.record_codec.specs.Reading.{many_at}
+use Rattle.record_codec.specs.Reading.{number_at, many_at}
 use Rattle.record_codec.proofs.Loops.{with_front}
 use Rattle.record_codec.proofs.reading.Reading.slots.Given as goal
 

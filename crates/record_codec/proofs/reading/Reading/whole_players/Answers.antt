@@ -1,5 +1,5 @@
-use Rattle.record_codec.specs.CommandReading.{player_at}
 use Rattle.std.proofs.lemmas.Result.{err_from_is_err_and}
+use Rattle.record_codec.specs.CommandReading.{player_at}
 use Rattle.record_codec.specs.Reading.{many_at}
 use Rattle.record_codec.proofs.Loops.{fills_on, fills_ends, is_filled}
 use Rattle.record_codec.proofs.reading.Reading.whole_players.Goals as goal
