@@ -1,9 +1,9 @@
 -- The numbers of entries by their keys, as entries come and change.
-use Rattle.std.proofs.Common.{◌≡◌, ◌≢◌, ◌<◌, ◌≤◌, ◌+◌, ◌-◌, ◌∷◌, [], ◌++◌, ℕ, zero, suc, Bool, true, false, cond, List, Option, Some, None, length, map, set, get_or, arith, refl, sym, ap, ◌∙◌, subst, nat_eq, length-append}
+use Rattle.std.proofs.Common.{◌≡◌, ◌<◌, ◌≤◌, ◌+◌, ◌∷◌, [], ◌++◌, ℕ, zero, suc, Bool, true, false, cond, List, Option, Some, None, length, set, get_or, arith, refl, sym, ap, ◌∙◌, nat_eq, length-append}
 use Rattle.std.specs.Prelude.{Vec}
 use Rattle.std.specs.Str.{bytes_eq}
 use Rattle.std.specs.Map.{lookup}
-use Rattle.std.specs.BTreeMap.{BTreeMap, insert_entry, get_by}
+use Rattle.std.specs.BTreeMap.{BTreeMap, insert_entry}
 use Rattle.std.specs.Ordering.{is_eq, nat_cmp, match_ordering}
 use Rattle.std.specs.Cmp.Lexicographic.{slice_cmp}
 use Rattle.std.specs.declared.alloc.Global.{Global}
@@ -13,9 +13,10 @@ use Rattle.std.proofs.lemmas.Map.Lookups.{exact_bytes}
 use Rattle.std.proofs.lemmas.Map.Text.{is_eq-slice_cmp}
 use Rattle.std.proofs.lemmas.Bool.Decides.{nat_tests}
 use Rattle.std.proofs.lemmas.List.{length-set}
+use Rattle.rule_book.specs.declared.transfers.Sale.{Sale}
 use Rattle.season_ledger.specs.declared.row.Row.{Row}
 use Rattle.manager_book.specs.declared.manager.Manager.{Manager}
-use Rattle.manager_book.specs.Managers.{number_from, nobody}
+use Rattle.manager_book.specs.Managers.{number_from}
 use Rattle.manager_book.specs.Indexed.{IsIndexed}
 
 -- numbers count from n on
@@ -101,16 +102,16 @@ number-insert (e ∷ es) k v key = by_order (by_items k e.0) refl (number-insert
         turn false b p r = refl
 
 -- the numbers go on with the managers
-pub indexed_set : (numbers : BTreeMap (Vec ℕ Global) ℕ) (ms : List Manager) (i : ℕ) (m : Manager) (s : List Row) → IsIndexed numbers ms → i < length ms → m ≡ get_or ms i m → IsIndexed numbers (set ms i (record { key = m.key; name = m.name; season = s }))
-indexed_set numbers ms i m s x lt e = record {
-  few = (let n : length (set ms i (record { key = m.key; name = m.name; season = s })) ≡ length ms = length-set ms i _ in let f : length ms ≤ 2048 = x.few in omega arith);
-  told = λ key. (x.told key ∙ sym (number-set-at 1 ms i m s key e));
+pub indexed_set : (numbers : BTreeMap (Vec ℕ Global) ℕ) (ms : List Manager) (i : ℕ) (m : Manager) (s : List Row) (t : List (ℕ × Sale)) → IsIndexed numbers ms → i < length ms → m ≡ get_or ms i m → IsIndexed numbers (set ms i (record { key = m.key; name = m.name; season = s; sales = t }))
+indexed_set numbers ms i m s t x lt e = record {
+  few = (let n : length (set ms i (record { key = m.key; name = m.name; season = s; sales = t })) ≡ length ms = length-set ms i _ in let f : length ms ≤ 2048 = x.few in omega arith);
+  told = λ key. (x.told key ∙ sym (number-set-at 1 ms i m s t key e));
 }
   where
-    number-set-at : (n : ℕ) (l : List Manager) (j : ℕ) (m : Manager) (s : List Row) (key : List ℕ) → m ≡ get_or l j m → number_from n (set l j (record { key = m.key; name = m.name; season = s })) key ≡ number_from n l key
-    number-set-at n [] j m s key e = refl
-    number-set-at n (y ∷ l) zero m s key e = ap (λ (z : Manager). cond (bytes_eq key z.key) (Some n) (number_from (n + 1) l key)) e
-    number-set-at n (y ∷ l) (suc j) m s key e = ap (λ o. cond (bytes_eq key y.key) (Some n) o) (number-set-at (n + 1) l j m s key e)
+    number-set-at : (n : ℕ) (l : List Manager) (j : ℕ) (m : Manager) (s : List Row) (t : List (ℕ × Sale)) (key : List ℕ) → m ≡ get_or l j m → number_from n (set l j (record { key = m.key; name = m.name; season = s; sales = t })) key ≡ number_from n l key
+    number-set-at n [] j m s t key e = refl
+    number-set-at n (y ∷ l) zero m s t key e = ap (λ (z : Manager). cond (bytes_eq key z.key) (Some n) (number_from (n + 1) l key)) e
+    number-set-at n (y ∷ l) (suc j) m s t key e = ap (λ o. cond (bytes_eq key y.key) (Some n) o) (number-set-at (n + 1) l j m s t key e)
 
 pub indexed_add : (old new : BTreeMap (Vec ℕ Global) ℕ) (ms : List Manager) (m : Manager) (k : Vec ℕ Global) (v : ℕ) → IsIndexed old ms → length ms < 2048 → number_from 1 ms m.key ≡ None → k.items ≡ m.key → v ≡ length ms + 1
     → new.entries ≡ insert_entry by_items old.entries k v → IsIndexed new (ms ++ m ∷ [])

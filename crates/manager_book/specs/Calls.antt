@@ -1,5 +1,5 @@
 -- What refuses a manager's calls, by the rows that his entry has.
-use Rattle.std.specs.Prelude.{◌≡◌, ◌≢◌, ◌≤◌, AllPairs, ◌+◌, ℕ, Bool, false, ◌==◌, List, length, Option, Some, None, is_some}
+use Rattle.std.specs.Prelude.{◌≡◌, ◌≢◌, ◌≤◌, AllPairs, ◌+◌, ℕ, Bool, false, ◌==◌, List, length, map, Option, Some, None, is_some}
 use Rattle.std.specs.List.{AllByRecursion as Each}
 use Rattle.std.specs.Option.{option_map_or}
 use Rattle.fpl_base.specs.declared.kinds.Chip.{Chip}
@@ -56,6 +56,10 @@ play_broken rows split chip g = play_refusal (is_registered rows) (is_first rows
 
 abbrev pub cancel_broken : List Row → ℕ → Option Rule
 cancel_broken rows g = cancel_refusal (is_registered rows) (chip_by rows g)
+
+-- the sales of a batch, each with its gameweek
+abbrev pub with_gameweek : ℕ → List Sale → List (ℕ × Sale)
+with_gameweek g sales = map {B = ℕ × Sale} (λ s. (g, s)) sales
 
 -- a team in another order: its own picks, each once
 pub record IsLined (order : List ℕ) (c v : ℕ) (t u : Team) : Type 0 where

@@ -5,6 +5,7 @@ use Rattle.std.specs.Str.{bytes_eq}
 use Rattle.fpl_base.specs.declared.kinds.Profile.{Profile}
 use Rattle.fpl_base.specs.declared.rule.Rule.{Rule}
 use Rattle.fpl_base.specs.declared.rule.Rule.TheVariants as rule
+use Rattle.rule_book.specs.declared.transfers.Sale.{Sale}
 use Rattle.rule_book.specs.Entries.{most_entries}
 use Rattle.rule_book.specs.Refusals.{first_broken, unless}
 use Rattle.season_ledger.specs.declared.row.Row.{Row}
@@ -17,7 +18,7 @@ pub record Managers : Type 0 where
 
 -- what there is of an entry that was not issued
 abbrev pub nobody : Manager
-nobody = record { key = []; name = []; season = [] }
+nobody = record { key = []; name = []; season = []; sales = [] }
 
 -- the manager of an entry
 abbrev pub manager_in : List Manager → ℕ → Manager
@@ -26,6 +27,10 @@ manager_in managers e = slice_index_or managers (e - 1) nobody
 -- the rows of an entry: none where it was not issued
 abbrev pub season_of : Managers → ℕ → List Row
 season_of book e = (manager_in book.managers e).season
+
+-- the transfers of an entry in the order of making, each with its gameweek: none where it was not issued
+abbrev pub sales_of : Managers → ℕ → List (ℕ × Sale)
+sales_of book e = (manager_in book.managers e).sales
 
 -- the key and the name of an entry
 abbrev pub key_of : Managers → ℕ → Option (List ℕ)
@@ -48,6 +53,7 @@ pub record IsSameBut (e : ℕ) (old new : Managers) : Type 0 where
   pub profile : new.profile ≡ old.profile
   pub keys : map {B = List ℕ × List ℕ} (λ m. (m.key, m.name)) new.managers ≡ map {B = List ℕ × List ℕ} (λ m. (m.key, m.name)) old.managers
   pub others : (d : ℕ) → 1 ≤ d → d ≢ e → season_of new d ≡ season_of old d
+  pub sales : (d : ℕ) → 1 ≤ d → d ≢ e → sales_of new d ≡ sales_of old d
 
 -- why a new entry is refused: there is no room, or an entry has its key
 abbrev pub issue_refusal : Managers → List ℕ → Option Rule

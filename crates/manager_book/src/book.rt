@@ -14,11 +14,12 @@ ghost use Rattle.rule_book.specs.Refusals.{IsJudged, IsJudgedOrOut};
 ghost use Rattle.season_ledger.specs.Rows.{AllUpTo, put_chip, used_by, first_in, free_in, cost_by, counted_by, rows_of_records};
 ghost use Rattle.season_ledger.specs.Stands.{StandsFor};
 ghost use Rattle.rule_book.specs.EntryCalls.{in_next, slot_of, picks_from};
-ghost use Rattle.manager_book.specs.Calls.{team_at, register_broken, transfer_broken, Moves, LinesUp, Registers, lineup_broken, play_broken, cancel_broken};
-ghost use Rattle.manager_book.specs.Managers.{Managers, IsSameBut, season_of, key_of, name_of, entry_with, issue_refusal};
+ghost use Rattle.manager_book.specs.Calls.{team_at, register_broken, transfer_broken, Moves, LinesUp, Registers, lineup_broken, play_broken, cancel_broken, with_gameweek};
+ghost use Rattle.manager_book.specs.Managers.{Managers, IsSameBut, season_of, sales_of, key_of, name_of, entry_with, issue_refusal};
 
 use crate::batch::transfer;
 use crate::chips::{cancel, play};
+use crate::entry_sales::EntrySales;
 use crate::lineup::line_up;
 use crate::manager::Manager;
 use crate::register::register;
@@ -196,6 +197,17 @@ impl ManagerBook {
         }
     }
 
+    /// All transfers of an entry in the order of making, each with its gameweek; none where it was not issued. It takes no
+    /// memory.
+    pub fn sales(&self, e: EntryId) -> &[(Gw, Sale)]
+        ensures { result.now ≡ sales_of self.now e }
+    {
+        match self.manager(e) {
+            Some(manager) => manager.sales.as_slice(),
+            None => &[],
+        }
+    }
+
     /// Whether nothing was done for an entry in a later gameweek. A call with `next` needs it.
     pub fn is_up_to(&self, e: EntryId, g: Gw) -> bool
         ensures { IsTrue result ↔ AllUpTo g (season_of self.now e) }
@@ -282,6 +294,7 @@ impl ManagerBook {
         ensures rows { (g : ℕ) → next ≡ Some g → OnOk result (Registers g players.now squad.now (slot_of squad.now captain) (slot_of squad.now vice) (season_of self.old e) (season_of self.new e)) }
         ensures judged { IsJudgedOrOut (in_next next (λ _. register_broken (season_of self.old e) players.now squad.now (slot_of squad.now captain) (slot_of squad.now vice))) result }
         ensures history { (position : ℕ → Position) (h : List Event) (g : ℕ) → HavePositions position players.now → StandsFor position (season_of self.old e) h → next ≡ Some g → OnOk result (StandsFor position (season_of self.new e) (h ++ in_gameweek g (First (holdings (picks_from players.now squad.now)) (slot_of squad.now captain) (slot_of squad.now vice) ∷ []))) }
+        ensures sales { sales_of self.new e ≡ sales_of self.old e }
         ensures others { IsSameBut e self.old self.new }
         ensures err { OnErr result (self.new ≡ self.old) }
     {
@@ -292,7 +305,8 @@ impl ManagerBook {
         register(&mut manager.season, g, players, squad, captain, vice)
     }
 
-    /// Makes a batch of 1 to 15 transfers. It answers how many transfers the gameweek had before, and the sales.
+    /// Makes a batch of 1 to 15 transfers. It answers how many transfers the gameweek had before, and the sales, which stand
+    /// behind the entry's others from then on.
     ///
     /// The first of these that holds refuses it: `SeasonOver`; `NotRegistered`; `TransferLimit`, the gameweek would have
     /// more than 20 transfers, or more than 1,000 in the first gameweek and under a wildcard or a free hit; then what
@@ -313,6 +327,7 @@ impl ManagerBook {
         ensures before { (g : ℕ) → next ≡ Some g → IfOk result (λ done. done.0 ≡ used_by (season_of self.old e) g) }
         ensures moves { (g : ℕ) → next ≡ Some g → IfOk result (λ done. Moves g players.now swaps.now done.1 (season_of self.old e) (season_of self.new e)) }
         ensures history { (position : ℕ → Position) (h : List Event) (g : ℕ) → HavePositions position players.now → StandsFor position (season_of self.old e) h → next ≡ Some g → IfOk result (λ done. StandsFor position (season_of self.new e) (h ++ in_gameweek g (map Swapped done.1))) }
+        ensures sales { (g : ℕ) → next ≡ Some g → IfOk result (λ done. sales_of self.new e ≡ sales_of self.old e ++ with_gameweek g done.1) }
         ensures others { IsSameBut e self.old self.new }
         ensures err { OnErr result (self.new ≡ self.old) }
     {
@@ -320,7 +335,7 @@ impl ManagerBook {
             return Err(Refused::Rule(Rule::SeasonOver));
         };
         let manager = &mut self.managers[e.get() as usize - 1];
-        transfer(&mut manager.season, g, players, swaps)
+        transfer(&mut manager.season, &mut manager.sales, g, players, swaps)
     }
 
     /// Puts an entry's fifteen into another order, with other armbands.
@@ -341,6 +356,7 @@ impl ManagerBook {
         ensures rows { (g : ℕ) → next ≡ Some g → OnOk result (LinesUp g order.now (slot_of order.now captain) (slot_of order.now vice) (season_of self.old e) (season_of self.new e)) }
         ensures judged { IsJudgedOrOut (in_next next (lineup_broken (season_of self.old e) order.now (slot_of order.now captain) (slot_of order.now vice))) result }
         ensures history { (position : ℕ → Position) (h : List Event) (g : ℕ) → StandsFor position (season_of self.old e) h → next ≡ Some g → OnOk result (StandsFor position (season_of self.new e) (h ++ in_gameweek g (Lineup order.now (slot_of order.now captain) (slot_of order.now vice) ∷ []))) }
+        ensures sales { sales_of self.new e ≡ sales_of self.old e }
         ensures others { IsSameBut e self.old self.new }
         ensures err { OnErr result (self.new ≡ self.old) }
     {
@@ -369,6 +385,7 @@ impl ManagerBook {
         ensures rows { (g : ℕ) → next ≡ Some g → OnOk result (season_of self.new e ≡ put_chip (season_of self.old e) g chip) }
         ensures judged { IsJudgedOrOut (in_next next (play_broken (season_of self.old e) split chip)) result }
         ensures history { (position : ℕ → Position) (h : List Event) (g : ℕ) → StandsFor position (season_of self.old e) h → next ≡ Some g → OnOk result (StandsFor position (season_of self.new e) (h ++ in_gameweek g (Play chip ∷ []))) }
+        ensures sales { sales_of self.new e ≡ sales_of self.old e }
         ensures others { IsSameBut e self.old self.new }
         ensures err { OnErr result (self.new ≡ self.old) }
     {
@@ -389,6 +406,7 @@ impl ManagerBook {
         ensures rows { (g : ℕ) → next ≡ Some g → OnOk result (season_of self.new e ≡ put_chip (season_of self.old e) g NoChip) }
         ensures judged { IsJudged (in_next next (cancel_broken (season_of self.old e))) result }
         ensures history { (position : ℕ → Position) (h : List Event) (g : ℕ) → StandsFor position (season_of self.old e) h → next ≡ Some g → OnOk result (StandsFor position (season_of self.new e) (h ++ in_gameweek g (Cancel ∷ []))) }
+        ensures sales { sales_of self.new e ≡ sales_of self.old e }
         ensures others { IsSameBut e self.old self.new }
         ensures err { OnErr result (self.new ≡ self.old) }
     {
@@ -400,15 +418,20 @@ impl ManagerBook {
     }
 
     // Adds an entry behind the others.
-    fn add(&mut self, key: Key, name: Name, season: Entry) -> Result<(), Memory>
+    fn add(&mut self, key: Key, name: Name, season: Entry, sales: EntrySales) -> Result<(), Memory>
         requires room { length self.old.managers < 2048 }
         requires fresh { entry_with self.old key ≡ None }
-        ensures ok { OnOk result (self.new ≡ record { profile = self.old.profile; managers = self.old.managers ++ record { key = key; name = name; season = season } ∷ [] }) }
+        ensures ok { OnOk result (self.new ≡ record { profile = self.old.profile; managers = self.old.managers ++ record { key = key; name = name; season = season; sales = sales } ∷ [] }) }
         ensures err { OnErr result (self.new ≡ self.old) }
     {
         let number = self.managers.len() as u32 + 1;
         let bytes = copied(self.alloc, key.bytes())?;
-        let manager = Manager { key, name, season };
+        let manager = Manager {
+            key,
+            name,
+            season,
+            sales,
+        };
         if self.managers.push(manager).is_err() {
             return Err(Memory);
         }
@@ -423,7 +446,7 @@ impl ManagerBook {
     pub fn issue(&mut self, key: Key, name: Name) -> Result<EntryId, Refused>
         ensures judged { IsJudgedOrOut (issue_refusal self.old key) result }
         ensures id { IfOk result (λ e. e ≡ length self.old.managers + 1) }
-        ensures ok { OnOk result (self.new ≡ record { profile = self.old.profile; managers = self.old.managers ++ record { key = key; name = name; season = [] } ∷ [] }) }
+        ensures ok { OnOk result (self.new ≡ record { profile = self.old.profile; managers = self.old.managers ++ record { key = key; name = name; season = []; sales = [] } ∷ [] }) }
         ensures err { OnErr result (self.new ≡ self.old) }
     {
         self.judge_issue(&key)?;
@@ -431,7 +454,8 @@ impl ManagerBook {
             return Err(Refused::Rule(Rule::EntriesFull));
         };
         let season = Entry::new(self.alloc);
-        match self.add(key, name, season) {
+        let sales = EntrySales::new(self.alloc);
+        match self.add(key, name, season, sales) {
             Ok(()) => Ok(e),
             Err(_) => Err(Refused::Memory),
         }
@@ -450,12 +474,13 @@ impl ManagerBook {
         requires room { length self.old.managers < 2048 }
         requires fresh { entry_with self.old key ≡ None }
         requires records { AreEntryRecords first teams.now sales.now }
-        ensures ok { OnOk result (self.new ≡ record { profile = self.old.profile; managers = self.old.managers ++ record { key = key; name = name; season = rows_of_records teams.now sales.now } ∷ [] }) }
+        ensures ok { OnOk result (self.new ≡ record { profile = self.old.profile; managers = self.old.managers ++ record { key = key; name = name; season = rows_of_records teams.now sales.now; sales = sales.now } ∷ [] }) }
         ensures history { (position : ℕ → Position) (h : List Event) → IsHistory h → HasRecords position h teams.now sales.now → OnOk result (StandsFor position (rows_of_records teams.now sales.now) h) }
         ensures err { OnErr result (self.new ≡ self.old) }
     {
         let _first = first;
         let season = Entry::restore(self.alloc, teams, sales)?;
-        self.add(key, name, season)
+        let kept = EntrySales::of(self.alloc, sales)?;
+        self.add(key, name, season, kept)
     }
 }

@@ -4,6 +4,7 @@
 mod batch;
 mod book;
 mod chips;
+mod entry_sales;
 mod judges;
 mod laws;
 mod lineup;

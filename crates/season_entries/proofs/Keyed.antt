@@ -102,7 +102,7 @@ pub books_with : (key name : List ℕ) (managers : List Manager) → StandForBoo
 books_with key name managers players entries a = walk managers entries a
   where
     walk : (ms : List Manager) (es : List EntryFacts) → AreEntries players ms es → AreEntries players (ms ++ new_manager key name ∷ []) (es ++ new_entry key name ∷ [])
-    walk [] [] a = (record { key = refl; name = refl; history = λ position have. record { rise = tt; history = tt; told = λ g. refl } }, tt)
+    walk [] [] a = (record { key = refl; name = refl; history = λ position have. record { rise = tt; history = tt; told = λ g. refl }; sales = λ g. refl }, tt)
     walk [] (x ∷ es) a = absurd a
     walk (m ∷ ms) [] a = absurd a
     walk (m ∷ ms) (x ∷ es) a = (a.0, walk ms es a.1)

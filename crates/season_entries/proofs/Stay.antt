@@ -82,7 +82,7 @@ entries_stay old new [] [] back a = tt
 entries_stay old new [] (x ∷ entries) back a = absurd a
 entries_stay old new (m ∷ managers) [] back a = absurd a
 entries_stay old new (m ∷ managers) (x ∷ entries) back a =
-    (record { key = a.0.key; name = a.0.name; history = λ position have. a.0.history position (back position have) }, entries_stay old new managers entries back a.1)
+    (record { key = a.0.key; name = a.0.name; history = λ position have. a.0.history position (back position have); sales = a.0.sales }, entries_stay old new managers entries back a.1)
 
 -- the next gameweek stays, or a later one comes
 rows_stay : (g k : ℕ) (rows : List Row) → g ≤ k → AllUpTo g rows → AllUpTo k rows

@@ -14,14 +14,14 @@ use Rattle.season_ledger.specs.Rows.{AllUpTo}
 use Rattle.season_ledger.specs.Stands.{StandsFor}
 use Rattle.manager_book.specs.declared.manager.Manager.{Manager}
 use Rattle.manager_book.specs.Calls.{cancel_broken, order_broken, play_broken, squad_broken, transfer_broken}
-use Rattle.manager_book.specs.Managers.{IsSameBut, Managers, season_of}
+use Rattle.manager_book.specs.Managers.{IsSameBut, Managers, sales_of, season_of}
 use Rattle.season_book.specs.Book.{EntryFacts, Facts, histories_with}
 use Rattle.season_book.specs.EntryCommands.{deed_refusal, history_after, names_players}
 use Rattle.season_book.specs.declared.answer.Answer.{Answer}
 use Rattle.season_book.specs.declared.answer.Answer.TheVariants as answer
 use Rattle.season_book.specs.declared.command.Command.{Command}
 use Rattle.season_book.specs.declared.command.Command.TheVariants as command
-use Rattle.season_entries.specs.Entries.{AreEntries}
+use Rattle.season_entries.specs.Entries.{AreEntries, AreSold}
 
 -- What refuses a command.
 
@@ -75,12 +75,14 @@ abbrev pub StandWherever : List Player → List Row → List Event → Type 0
 StandWherever players rows h = (position : ℕ → Position) → HavePositions position players → StandsFor position rows h
 
 -- a command of entry e was done: other entries stay, as keys and names do, nothing was done later than the next gameweek,
--- and the rows stand for what the history goes on to
+-- and rows and sales stand for what the history goes on to
 pub record IsDeedDone (facts : Facts) (e : ℕ) (command : Command) (old new : Managers) : Type 0 where
   pub same : IsSameBut e old new
   pub later : IsInTime (next_gameweek facts.calendar) (season_of old e) → IsInTime (next_gameweek facts.calendar) (season_of new e)
   pub goes_on : (h : List Event) → StandWherever facts.players (season_of old e) h
       → StandWherever facts.players (season_of new e) (history_after facts h command)
+  pub sold : (h : List Event) → StandWherever facts.players (season_of old e) h
+      → AreSold (sales_of old e) h → AreSold (sales_of new e) (history_after facts h command)
 
 -- the managers stand for each book for which they stood, with the history of entry e behind the command
 abbrev pub StandForBooksAfter : Facts → ℕ → Command → List Manager → List Manager → Type 0

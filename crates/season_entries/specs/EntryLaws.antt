@@ -5,6 +5,9 @@ use Rattle.fpl_base.specs.declared.kinds.Caller.TheVariants.{Entry}
 use Rattle.rule_book.specs.declared.player.Player.{Player}
 use Rattle.rule_book.specs.Calendar.{next_gameweek}
 use Rattle.rule_book.specs.Entries.{entry_in}
+use Rattle.rule_book.specs.EntryRecords.{sales_in}
+use Rattle.rule_book.specs.Players.{ArePlayers}
+use Rattle.season_ledger.specs.Rows.{used_by}
 use Rattle.manager_book.specs.declared.manager.Manager.{Manager}
 use Rattle.manager_book.specs.Managers.{Managers, entry_with, manager_in}
 use Rattle.season_book.specs.Book.{EntryFacts, Facts}
@@ -56,6 +59,11 @@ OwnersAreAlike = (players : List Player) (managers : Managers) (entries : List E
 abbrev pub ManagersOwnTheirKeys : Type 0
 ManagersOwnTheirKeys = (managers : Managers) (bytes : List ℕ)
     → hosts.entry_with (keys_of managers.managers) bytes ≡ option_map Entry (entry_with managers bytes)
+
+-- of a manager who stands for an entry, each gameweek's row has as many transfers as his sales have
+abbrev pub RowsCountSales : Type 0
+RowsCountSales = (players : List Player) (manager : Manager) (entry : EntryFacts) (g : ℕ) → ArePlayers players
+    → IsEntry players manager entry → used_by manager.season g ≡ length (sales_in manager.sales g)
 
 -- an entry of a book is there exactly where a manager stands for it
 pub record IsIssued (players : List Player) (managers : List Manager) (entries : List EntryFacts) (e : ℕ) : Type 0 where

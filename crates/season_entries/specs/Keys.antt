@@ -30,7 +30,7 @@ IsKeyJudgedByBooks operator managers key judged = (players : List Player) (entri
 
 -- a new manager, who did nothing yet, and the entry for which he stands
 abbrev pub new_manager : List ℕ → List ℕ → Manager
-new_manager key name = record { key = key; name = name; season = [] }
+new_manager key name = record { key = key; name = name; season = []; sales = [] }
 
 abbrev pub new_entry : List ℕ → List ℕ → EntryFacts
 new_entry key name = record { key = key; name = name; history = [] }

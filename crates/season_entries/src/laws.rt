@@ -1,5 +1,5 @@
 // What follows from the definitions alone.
-ghost use Rattle.season_entries.specs.EntryLaws.{EarlyIsInTime, EntriesAreIssued, FactsLeaveEntries, InTimeIsEarly, ManagersOwnTheirKeys, MomentsLeaveEntries, OwnersAreAlike};
+ghost use Rattle.season_entries.specs.EntryLaws.{EarlyIsInTime, EntriesAreIssued, FactsLeaveEntries, InTimeIsEarly, ManagersOwnTheirKeys, MomentsLeaveEntries, OwnersAreAlike, RowsCountSales};
 ghost use Rattle.season_entries.specs.Known.{EntriesAreKnown};
 
 use season_ledger::rows_tell;
@@ -36,6 +36,14 @@ pub fn entries_are_issued()
 /// command of leagues and cups ask the managers.
 pub fn entries_are_known()
     ensures { EntriesAreKnown }
+{
+    // The law that rows always tell, for the prover.
+    rows_tell();
+}
+
+/// A law: of a manager who stands for an entry, each gameweek's row has as many transfers as his sales have.
+pub fn rows_count_sales()
+    ensures { RowsCountSales }
 {
     // The law that rows always tell, for the prover.
     rows_tell();

@@ -12,5 +12,5 @@ pub use judge::judge_deed;
 pub use keys::{do_key, judge_key};
 pub use laws::{
     early_is_in_time, entries_are_issued, entries_are_known, facts_leave_entries,
-    moments_leave_entries, owners_are_alike,
+    moments_leave_entries, owners_are_alike, rows_count_sales,
 };

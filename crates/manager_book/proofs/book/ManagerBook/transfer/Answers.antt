@@ -1,6 +1,4 @@
-use Rattle.std.proofs.Common.{◌≡◌, ◌<◌, ◌≤◌, ◌+◌, ◌-◌, List, [], ℕ, Option, Some, None, length, set, get_or, arith, rules, sym, subst, ap, ◌∙◌, refl}
-use Rattle.season_ledger.specs.declared.row.Row.{Row}
-use Rattle.manager_book.specs.declared.manager.Manager.{Manager}
+use Rattle.std.proofs.Common.{◌≡◌, ◌<◌, ◌≤◌, ◌-◌, length, set, arith, rules, subst, ap}
 use Rattle.manager_book.specs.Managers.{Managers, IsSameBut}
 use Rattle.manager_book.proofs.Keys.{indexed_set}
 use Rattle.manager_book.proofs.Changed.{same_but}
@@ -11,11 +9,11 @@ invariant_of-self c =
     let n : length c.args.self.now.managers ≡ length c.self.inside.managers.items = search rules in
     let i : c.args.e ≤ length c.args.self.now.managers = search rules in
     let lt : c.get.result - 1 < length c.self.inside.managers.items = omega arith in
-    indexed_set c.self.inside.numbers c.self.inside.managers.items (c.get.result - 1) c.index_mut-manager.result.now c.transfer.new.season c.self.invariant lt (search rules)
+    indexed_set c.self.inside.numbers c.self.inside.managers.items (c.get.result - 1) c.index_mut-manager.result.now c.transfer.new.season c.transfer.new.kept c.self.invariant lt (search rules)
 
 pub returns-clause-others : goal.returns-clause-others
 returns-clause-others c =
     let le : 1 ≤ c.args.e = omega arith in
     let q : c.get.result - 1 ≡ c.args.e - 1 = ap (λ x. x - 1) c.get.ensures.value in
-    subst (λ (old : Managers). IsSameBut c.args.e old (record { profile = c.self.inside.profile; managers = set c.self.inside.managers.items (c.get.result - 1) (record { key = c.index_mut-manager.result.now.key; name = c.index_mut-manager.result.now.name; season = c.transfer.new.season }) })) c.self.view_is
-    (same_but c.args.e (c.get.result - 1) c.self.inside.profile c.self.inside.managers.items c.index_mut-manager.result.now c.transfer.new.season le q (search rules))
+    subst (λ (old : Managers). IsSameBut c.args.e old (record { profile = c.self.inside.profile; managers = set c.self.inside.managers.items (c.get.result - 1) (record { key = c.index_mut-manager.result.now.key; name = c.index_mut-manager.result.now.name; season = c.transfer.new.season; sales = c.transfer.new.kept }) })) c.self.view_is
+    (same_but c.args.e (c.get.result - 1) c.self.inside.profile c.self.inside.managers.items c.index_mut-manager.result.now c.transfer.new.season c.transfer.new.kept le q (search rules))
