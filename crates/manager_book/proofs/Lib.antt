@@ -6,3 +6,4 @@ pub mod Keys
 pub mod Absent
 pub mod Changed
 pub mod Alike
+pub mod Restored

@@ -1,9 +1,11 @@
-ghost use Rattle.std.specs.Prelude.{◌≡◌, ◌≢◌, ◌<◌, ◌↔◌, IsTrue, IsSome, All};
+ghost use Rattle.std.specs.Prelude.{◌≡◌, ◌≢◌, ◌<◌, ◌↔◌, ◌++◌, [], ◌∷◌, map, IsTrue, IsSome, IfSome, All};
 ghost use Rattle.fpl_base.specs.declared.kinds.Chip.TheVariants.{None as NoChip};
+ghost use Rattle.fpl_base.specs.declared.kinds.Position.TheVariants.{Midfielder};
+ghost use Rattle.rule_book.specs.declared.team.Pick.{Pick};
 ghost use Rattle.rule_book.specs.Batch.{AreIncomersThere};
 ghost use Rattle.rule_book.specs.Players.{player_of};
 
-use crate::{ManagerBook, Swap};
+use crate::{ManagerBook, Pick, Sale, Swap, Team};
 use fpl_base::{
     Chip, ClubId, EntryId, Gw, Key, Name, PlayerId, Position, Profile, Refused, Steps, Tenths,
 };
@@ -293,5 +295,124 @@ fn a_season(rt: HostRuntime) -> Result<(), &'static str> {
     ] {
         assert_eq!(rt; money(&book, e, g), Some(wanted));
     }
+    Ok(())
+}
+
+fn pick(player: u32, bought: u32) -> Option<Pick>
+    ensures { IfSome result (λ k. k ≡ record { player = player; position = Midfielder; bought = bought }) }
+{
+    Some(Pick {
+        player: PlayerId::new(player)?,
+        position: Position::Midfielder,
+        bought: Tenths::new(bought)?,
+    })
+}
+
+// These fifteen, each bought for 50.
+fn picks(players: &[u32; 15]) -> Option<[Pick; 15]>
+    ensures { IfSome result (λ ks. ks ≡ map {B = Pick} (λ p. record { player = p; position = Midfielder; bought = 50 }) players.now) }
+{
+    let mut picks = [pick(players[0], 50)?; 15];
+    for i in 0..15usize {
+        let Some(pick) = pick(players[i], 50) else {
+            return None;
+        };
+        picks[i] = pick;
+    }
+    Some(picks)
+}
+
+// A team of them.
+fn team(players: &[u32; 15], bank: u32) -> Option<Team>
+    ensures { IfSome result (λ t. t ≡ record { picks = map {B = Pick} (λ p. record { player = p; position = Midfielder; bought = 50 }) players.now; captain = 1; vice = 2; bank = bank; chip = NoChip }) }
+{
+    let picks = picks(players)?;
+    let bank = Tenths::new(bank)?;
+    Some(Team {
+        picks,
+        captain: 1,
+        vice: 2,
+        bank,
+        chip: Chip::None,
+    })
+}
+
+// Player 15 goes for 52 in gameweek 2, and player 16 comes for 60.
+fn sale() -> Option<Sale>
+    ensures { IfSome result (λ s. s ≡ record { out = 15; into = 16; sold = 52; bought = 60 }) }
+{
+    Some(Sale {
+        out: PlayerId::new(15)?,
+        into: PlayerId::new(16)?,
+        sold: Tenths::new(52)?,
+        bought: Tenths::new(60)?,
+    })
+}
+
+// The team of gameweek 2, in which player 16 has the place of player 15.
+fn second() -> Option<Team>
+    ensures { IfSome result (λ t. t ≡ record { picks = map {B = Pick} (λ p. record { player = p; position = Midfielder; bought = 50 }) (1 ∷ 2 ∷ 3 ∷ 4 ∷ 5 ∷ 6 ∷ 7 ∷ 8 ∷ 9 ∷ 10 ∷ 11 ∷ 12 ∷ 13 ∷ 14 ∷ []) ++ record { player = 16; position = Midfielder; bought = 60 } ∷ []; captain = 1; vice = 2; bank = 242; chip = NoChip }) }
+{
+    let mut team = team(&[1, 2, 3, 4, 5, 6, 7, 8, 9, 10, 11, 12, 13, 14, 15], 242)?;
+    team.picks[14] = pick(16, 60)?;
+    Some(team)
+}
+
+// An entry by its records: players 1 to 15 for 750 in gameweek 1, and then that transfer.
+fn restored(alloc: Global, book: &mut ManagerBook) -> Option<()> {
+    let key = Key::new(alloc, b"entrykey").ok()??;
+    let name = Name::new(alloc, b"Ann").ok()??;
+    let one = Gw::new(1)?;
+    let two = Gw::new(2)?;
+    let before = team(&[1, 2, 3, 4, 5, 6, 7, 8, 9, 10, 11, 12, 13, 14, 15], 250)?;
+    let after = second()?;
+    let sold = sale()?;
+    if book.entries() >= 2048 || book.entry_of(&key).is_some() {
+        return None;
+    }
+    let teams = [(one, before), (two, after)];
+    book.restore(key, name, Some(one), &teams, &[(two, sold)])
+        .ok()
+}
+
+fn team_in<L: Ledger>(book: &ManagerBook, e: EntryId, g: Gw, blank: Blank) -> Option<Team>
+    requires name { blank.name ≡ L.name }
+    requires parts { blank.parts ≡ L.parts }
+    requires some { 0 < blank.parts }
+{
+    let mut steps: Steps<L> = Steps::open(blank);
+    book.team_at(e, g, &mut steps)
+}
+
+// The last player of a gameweek's team and its bank, the free transfers, and how many sales there are.
+fn told(book: &ManagerBook, e: EntryId, g: u8) -> Option<(u32, u32, u8, usize)> {
+    let gameweek = Gw::new(g)?;
+    let team = team_in::<Brand>(book, e, gameweek, Blank::new(1))?;
+    let (free, _, _) = read_all(book, e, gameweek);
+    Some((
+        team.picks[14].player.get(),
+        team.bank.get(),
+        free,
+        book.sales(e).len(),
+    ))
+}
+
+#[test]
+fn an_entry_is_restored(rt: HostRuntime) -> Result<(), &'static str> {
+    let mut book = ManagerBook::new(rt.alloc(), Profile::A);
+    restored(rt.alloc(), &mut book).ok_or("an entry")?;
+    let e = EntryId::new(1).ok_or("a number")?;
+    for (g, wanted) in [
+        (1, (15, 250, 0, 1)),
+        (2, (16, 242, 1, 1)),
+        (3, (16, 242, 1, 1)),
+        (4, (16, 242, 2, 1)),
+    ] {
+        assert_eq!(rt; told(&book, e, g), Some(wanted));
+    }
+    assert_eq!(rt;
+        book.sales(e).first().map(|made| (made.0.get(), made.1)),
+        sale().map(|sale| (2, sale))
+    );
     Ok(())
 }
