@@ -1,103 +1,97 @@
--- One change after another, and the whole transaction.
-use Rattle.std.proofs.Common.{◌≡◌, ◌≢◌, ◌⊎◌, inl, inr, ℕ, ◌+◌, ◌<◌, ◌≤◌, ℤ, List, [], ◌∷◌, ◌++◌, take, length, get_or, fold, Bool, true, false, cond, ◌&&◌, IsTrue, Option, Some, None, Ok, Err, Result, OnOk, OnErr, IfErr, refl, sym, ap, subst, ◌∙◌, arith, true≢false}
-use Rattle.std.proofs.lemmas.Bool.{and_parts, and_from, cases_Bool, eqb-true, eq-eqb}
+-- One step after another inside a transaction, and the whole of it.
+use Rattle.std.proofs.Common.{◌≡◌, ◌⊎◌, inl, inr, ℕ, ◌+◌, ◌<◌, List, take, length, get_or, true, false, IsTrue, Ok, Err, Result, OnOk, IfOk, OnErr, refl, sym, ap, subst, ◌∙◌, arith, true≢false}
 use Rattle.std.proofs.lemmas.List.Sums.{fold_more}
-use Rattle.sqlite_value.specs.declared.value.Value.{Value}
 use Rattle.sqlite_value.specs.Order.{Row}
 use Rattle.sqlite_trees.specs.Tree.{Trees}
-use Rattle.sqlite_trees.proofs.TreeLemmas.{not_true}
 use Rattle.sqlite_trees.specs.declared.store.Store as store
-use Rattle.sqlite_rules.specs.Lists.{Has}
 use Rattle.sqlite.specs.declared.error.Error.{Error}
 use Rattle.sqlite.specs.Effect.{Database}
-use Rattle.sqlite.specs.State.{State, HasCleanDisk, Shows, IsUnchanged, IsRolledBack, Executes, ExecutesInside, Survives}
+use Rattle.sqlite.specs.State.{State, HasCleanDisk, IsUnchanged, IsRolledBack, KeepsCommit, Executes, ExecutesInside, Survives}
 use Rattle.sqlite.specs.Held.{Held, state}
 use Rattle.sqlite.specs.Steps.{FailsToCommit}
 use Rattle.sqlite.proofs.StateLemmas.{survives_then, survives_weaker}
 use Rattle.sqlite.proofs.Callers.{survives_begin}
 use Rattle.fpl_base.specs.declared.records.RecordKey.{RecordKey as Key}
 use Rattle.fpl_base.specs.declared.records.Op.{Op}
-use Rattle.season_keeper.specs.Rows.{key_row, put_row_of, row_of, AreRecords, Stores, IsKept, Deleted}
-use Rattle.season_keeper.specs.Rows.{Put as IsPut}
-use Rattle.fpl_base.specs.Keeping.{Map, is_same_key, applied_one, applied}
-use Rattle.season_keeper.specs.Holding.{Holds, Keeps}
-use Rattle.season_keeper.proofs.Texts.{upsert_text, delete_text}
-use Rattle.season_keeper.proofs.Deleting.{deletes}
-use Rattle.season_keeper.proofs.Putting.{upserts}
+use Rattle.fpl_base.specs.declared.records.Op.TheVariants as op
+use Rattle.fpl_base.specs.Keeping.{Map, applied_one, applied}
+use Rattle.season_keeper.specs.Rows.{record_values, line_values}
+use Rattle.season_keeper.specs.Holding.{Keeps, Inside}
+use Rattle.season_keeper.proofs.Texts.{put_record, put_line, delete_record, delete_line}
+use Rattle.season_keeper.proofs.Forms.{record_form, line_form}
+use Rattle.season_keeper.proofs.Moving.{at_of, key_of_kind}
+use Rattle.season_keeper.proofs.Changing.{puts_record, puts_line, deletes_record, deletes_line}
 
-pub key_same : (k m : Key) → is_same_key k m ≡ true → m ≡ k
-key_same k m h =
-    let one = and_parts _ _ h in
-    let two = and_parts _ _ one.1 in
-    let three = and_parts _ _ two.1 in
-    let kind = sym (eqb-true k.kind m.kind one.0) in
-    let a = sym (eqb-true k.a m.a two.0) in
-    let b = sym (eqb-true k.b m.b three.0) in
-    let c = sym (eqb-true k.c m.c three.1) in
-    λ i. record { kind = kind i; a = a i; b = b i; c = c i }
+-- ---- the four statements of a change
 
-same_itself : (k : Key) → is_same_key k k ≡ true
-same_itself k = and_from _ _ (eq-eqb k.kind k.kind refl) (and_from _ _ (eq-eqb k.a k.a refl) (and_from _ _ (eq-eqb k.b k.b refl) (eq-eqb k.c k.c refl)))
+module _ (old new : State) (count : ℕ) (k : Key) (m : Map) (keeps : Keeps old.now m) where
+  pub put_line_step : (body : List ℕ) → k.kind ≡ 5 → Executes put_line (line_values (at_of k) body) old new (Ok count) → Keeps new.now (applied_one m (op.Put k body))
+  put_line_step body five h = subst (λ q. Keeps new.now (applied_one m (op.Put q body))) (sym (key_of_kind k five)) (puts_line old new count m keeps (at_of k) body h)
 
-apart_from : (k m : Key) → is_same_key k m ≡ false → m ≢ k
-apart_from k m h same = true≢false (sym (subst (λ q. is_same_key k q ≡ true) (sym same) (same_itself k)) ∙ h)
+  pub put_record_step : (body : List ℕ) → (k.kind ≡ 5 → ⊥) → Executes put_record (record_values k body) old new (Ok count) → Keeps new.now (applied_one m (op.Put k body))
+  put_record_step body other h = puts_record old new count m keeps k body other h
 
-abbrev body_of : Row → List ℕ
-body_of r = Rattle.sqlite_value.specs.Order.bytes (Rattle.sqlite_value.specs.Order.column r 5)
+  pub delete_line_step : k.kind ≡ 5 → Executes delete_line ((line_form false).key_row (at_of k)) old new (Ok count) → Keeps new.now (applied_one m (op.Delete k))
+  delete_line_step five h = subst (λ q. Keeps new.now (applied_one m (op.Delete q))) (sym (key_of_kind k five)) (deletes_line old new count m keeps (at_of k) h)
 
-same_body : (i j : ℤ) (k : Key) (x y : List ℕ) → row_of i k x ≡ row_of j k y → x ≡ y
-same_body i j k x y h = ap body_of h
+  pub delete_record_step : (k.kind ≡ 5 → ⊥) → Executes delete_record ((record_form false).key_row k) old new (Ok count) → Keeps new.now (applied_one m (op.Delete k))
+  delete_record_step other h = deletes_record old new count m keeps k other h
 
-pub holds_put : (old new : List Row) (m : Map) (k : Key) (body : List ℕ) → AreRecords new → IsPut old new k body → Holds old m → Holds new (λ other. cond (is_same_key k other) (Some body) (m other))
-holds_put old new m k body sound put holds = record {
-  sound = λ other more h. elim (cases_Bool (is_same_key k other)) [
-    | inl hit ↦ let is = key_same k other hit in
-        rw hit (ap Some (sym (same_body _ _ k more body (sound.keys _ _ k more body (subst (λ q. Has new (row_of h.0 q more)) is h.1) put.there.1))))
-    | inr miss ↦ rw miss (holds.sound other more (put.others other more (apart_from k other miss) h))
-  ];
-  complete = λ other more h. elim (cases_Bool (is_same_key k other)) [
-    | inl hit ↦ let is = key_same k other hit in
-        let body_is : Some body ≡ Some more = rw hit at h in
-        let same : body ≡ more = cc in
-        subst (λ q. Stores new q more) (sym is) (subst (Stores new k) same put.there)
-    | inr miss ↦ put.kept other more (apart_from k other miss) (holds.complete other more (rw miss at h))
-  ];
+-- ---- steps
+
+-- a statement inside a transaction
+pub statement_inside : (old new : State) (sql : List ℕ) (params : Row) (r : Result ℕ Error) (made : Database → Type 0) → ExecutesInside 0 sql params old new r → ((count : ℕ) → Executes sql params old new (Ok count) → made new.now)
+    → OnOk r (Inside old new made)
+statement_inside old new sql params (Ok count) made ran step = record { was_open = λ _. ran.1.was_open; mode = ran.1.mode; committed = ran.1.committed_is; makes = step count ran.0 }
+statement_inside old new sql params (Err e) made ran step = tt
+
+-- one statement and the next
+pub two_inside : (old mid new : State) (sql other : List ℕ) (params more : Row) (count : ℕ) (r : Result ℕ Error) (made : Database → Type 0) → ExecutesInside 0 sql params old mid (Ok count)
+    → ExecutesInside 0 other more mid new r → ((last : ℕ) → Executes sql params old mid (Ok count) → Executes other more mid new (Ok last) → made new.now) → OnOk r (Inside old new made)
+two_inside old mid new sql other params more count (Ok last) made one two step = record {
+  was_open = λ _. one.1.was_open;
+  mode = two.1.mode;
+  committed = two.1.committed_is ∙ one.1.committed_is;
+  makes = step last one.0 two.0;
 }
+two_inside old mid new sql other params more count (Err e) made one two step = tt
 
-pub holds_deleted : (old new : List Row) (m : Map) (k : Key) → Deleted old new k → Holds old m → Holds new (λ other. cond (is_same_key k other) None (m other))
-holds_deleted old new m k gone holds = record {
-  sound = λ other more h. elim (cases_Bool (is_same_key k other)) [
-    | inl hit ↦ absurd ((gone.gone other more h).0 (key_same k other hit))
-    | inr miss ↦ rw miss (holds.sound other more (gone.gone other more h).1)
-  ];
-  complete = λ other more h. elim (cases_Bool (is_same_key k other)) [
-    | inl hit ↦ absurd (let e = rw hit at h in cc)
-    | inr miss ↦ gone.kept other more (apart_from k other miss) (holds.complete other more (rw miss at h))
-  ];
-}
+-- one step and the next
+pub inside_then : (old mid new : State) (one two both : Database → Type 0) → Inside old mid one → Inside mid new two → (one mid.now → two new.now → both new.now) → Inside old new both
+inside_then old mid new one two both p q join =
+    record { was_open = λ open_. p.was_open (q.was_open open_); mode = q.mode; committed = q.committed ∙ p.committed; makes = join p.makes q.makes }
 
-pub put_step : (old new : State) (count : ℕ) (m : Map) (k : Key) (body : List ℕ) → Keeps old.now m → Executes upsert_text (put_row_of k body) old new (Ok count)
-    → Keeps new.now (λ other. cond (is_same_key k other) (Some body) (m other))
-put_step old new count m k body keeps h =
-    let it = upserts old new k body (Ok count) keeps.kept h in record { kept = it.0; holds = holds_put _ _ m k body it.0.rows it.1 keeps.holds }
+-- a statement that failed has changed nothing, or its transaction is undone
+pub run_failed : (mid new : State) (sql : List ℕ) (params : Row) (e : Error) → ExecutesInside 0 sql params mid new (Err e) → IsUnchanged mid new ⊎ IsRolledBack mid new
+run_failed mid new sql params e (inl ran) = ran.1
+run_failed mid new sql params e (inr escaped) = inl escaped.2
 
-pub delete_step : (old new : State) (count : ℕ) (m : Map) (k : Key) → Keeps old.now m → Executes delete_text (key_row k) old new (Ok count)
-    → Keeps new.now (λ other. cond (is_same_key k other) None (m other))
-delete_step old new count m k keeps h =
-    let it = deletes old new k (Ok count) keeps.kept h in record { kept = it.0; holds = holds_deleted _ _ m k it.1 keeps.holds }
+-- so it has committed nothing
+pub still_kept : (mid new : State) → IsUnchanged mid new ⊎ IsRolledBack mid new → KeepsCommit mid new
+still_kept mid new (inl same) = record { was_open = λ _. same.0.was_open; committed = λ _. same.0.committed_is }
+still_kept mid new (inr back) = record { was_open = back.was_open; committed = λ open_. (back.undone open_).1 }
+
+pub inside_kept : (old mid new : State) (made : Database → Type 0) → Inside old mid made → KeepsCommit mid new → KeepsCommit old new
+inside_kept old mid new made it kept = record { was_open = λ open_. it.was_open (kept.was_open open_); committed = λ open_. kept.committed open_ ∙ it.committed }
+
+pub inside_commit : (old new : State) (made : Database → Type 0) → Inside old new made → KeepsCommit old new
+inside_commit old new made it = record { was_open = it.was_open; committed = λ _. it.committed }
 
 -- ---- the transaction
 
--- a change is made, and nothing is committed
-pub record Inside (old now : State) (made : Database → Type 0) : Type 0 where
-  pub was_open : IsTrue now.is_open → IsTrue old.is_open
-  pub mode : IsTrue now.in_transaction
-  pub committed : now.committed ≡ old.committed
-  pub keeps : made now.now
-
--- the changes are made to each map that the table held
+-- the changes are made to each map that the tables kept
 abbrev pub Applied : Database → List Op → Database → Type 0
 Applied before ops db = (m : Map) → Keeps before m → Keeps db (applied m ops)
+
+-- a transaction begins as the connection was
+module _ {S : Type 0} (g : store.Ghosts S) (conn begun new : Held S) (is : begun ≡ record conn { in_transaction = true }) where
+  pub begun_inside : (made : Database → Database → Type 0) → (IsTrue (state g begun).in_transaction → Inside (state g begun) (state g new) (made (state g begun).now)) → Inside (state g conn) (state g new) (made (state g conn).now)
+  begun_inside made step =
+      let it = subst (λ (h : Held S). Inside (state g h) (state g new) (made (state g h).now)) is (step (ap (λ (h : Held S). h.in_transaction) is)) in
+      record { was_open = it.was_open; mode = it.mode; committed = it.committed; makes = it.makes }
+
+  pub begun_survives : Survives (state g begun) (state g new) (λ _. ⊥) → Survives (state g (record conn { in_transaction = true })) (state g new) (λ _. ⊥)
+  begun_survives survives = subst (λ (h : Held S). Survives (state g h) (state g new) (λ _. ⊥)) is survives
 
 pub survives_same : (s : State) → Survives s s (λ _. ⊥)
 survives_same s = record { clean = omega arith; shield = λ h. h; counts = omega arith; limit = refl; closes = λ _ open_. inl open_; crash = λ _ db h. inl h }
@@ -105,39 +99,27 @@ survives_same s = record { clean = omega arith; shield = λ h. h; counts = omega
 pub survives_both : (a b c : State) → Survives a b (λ _. ⊥) → Survives b c (λ _. ⊥) → Survives a c (λ _. ⊥)
 survives_both a b c p q = survives_then a b c _ _ (λ _. ⊥) (λ _ db none. none) (λ _ db none. none) p q
 
-pub inside_more : (old mid new : State) (sql : List ℕ) (params : Row) (count : ℕ) (ops : List Op) (i : ℕ) (op : Op) → i < length ops → op ≡ get_or ops i op → Inside old mid (Applied old.now (take i ops))
-    → ExecutesInside 0 sql params mid new (Ok count) → ((m : Map) → Keeps mid.now m → Keeps new.now (applied_one m op)) → Inside old new (Applied old.now (take (i + 1) ops))
-inside_more old mid new sql params count ops i op low is it ran step = record {
-  was_open = λ open_. it.was_open ran.1.was_open;
-  mode = ran.1.mode;
-  committed = ran.1.committed_is ∙ it.committed;
-  keeps = λ m keeps. subst (Keeps new.now) (ap (applied_one (applied m (take i ops))) is ∙ sym (fold_more applied_one m ops i op low)) (step (applied m (take i ops)) (it.keeps m keeps));
-}
-
--- a statement that failed has changed nothing, or its transaction is undone
-pub run_failed : (mid new : State) (sql : List ℕ) (params : Row) (e : Error) → ExecutesInside 0 sql params mid new (Err e) → IsUnchanged mid new ⊎ IsRolledBack mid new
-run_failed mid new sql params e (inl ran) = ran.1
-run_failed mid new sql params e (inr escaped) = inl escaped.2
-
--- it has committed nothing
-pub still_kept : (mid new : State) → IsUnchanged mid new ⊎ IsRolledBack mid new → IsTrue new.is_open → (new.committed ≡ mid.committed) × IsTrue mid.is_open
-still_kept mid new (inl same) open_ = (same.0.committed_is, same.0.was_open)
-still_kept mid new (inr back) open_ = ((back.undone open_).1, back.was_open open_)
-
-pub still_committed : (mid new : State) (sql : List ℕ) (params : Row) (e : Error) → ExecutesInside 0 sql params mid new (Err e) → IsTrue new.is_open → (new.committed ≡ mid.committed) × IsTrue mid.is_open
-still_committed mid new sql params e ran open_ = still_kept mid new (run_failed mid new sql params e ran) open_
+pub applied_more : (old mid new : State) (ops : List Op) (i : ℕ) (op : Op) → i < length ops → op ≡ get_or ops i op → Inside old mid (Applied old.now (take i ops))
+    → Inside mid new (λ db. (m : Map) → Keeps mid.now m → Keeps db (applied_one m op)) → Inside old new (Applied old.now (take (i + 1) ops))
+applied_more old mid new ops i op low is it step =
+    inside_then old mid new _ _ _ it step
+    (λ before after m keeps. subst (Keeps new.now) (ap (applied_one (applied m (take i ops))) is ∙ sym (fold_more applied_one m ops i op low)) (after (applied m (take i ops)) (before m keeps)))
 
 -- it was given up
-pub given_up_after : (old mid failed new : State) (made : Database → Type 0) → (IsTrue old.is_open → old.now ≡ old.committed) → Inside old mid made
-    → IsUnchanged mid failed ⊎ IsRolledBack mid failed → IsRolledBack failed new → IsTrue new.is_open → (new.now ≡ old.now) × (new.committed ≡ old.committed)
-given_up_after old mid failed new made settled it ran back open_ =
-    let kept = still_kept mid failed ran (back.was_open open_) in
-    let same : failed.committed ≡ old.committed = kept.0 ∙ it.committed in
-    ((back.undone open_).0 ∙ same ∙ sym (settled (it.was_open kept.1)), (back.undone open_).1 ∙ same)
+pub given_up : (old mid failed new : State) (made : Database → Type 0) → (IsTrue old.is_open → old.now ≡ old.committed) → Inside old mid made → KeepsCommit mid failed → IsRolledBack failed new → IsTrue new.is_open
+    → (new.now ≡ old.now) × (new.committed ≡ old.committed)
+given_up old mid failed new made settled it kept back open_ =
+    let still = back.was_open open_ in
+    let same : failed.committed ≡ old.committed = kept.committed still ∙ it.committed in
+    ((back.undone open_).0 ∙ same ∙ sym (settled (it.was_open (kept.was_open still))), (back.undone open_).1 ∙ same)
 
-pub given_up : (old mid failed new : State) (sql : List ℕ) (params : Row) (e : Error) (made : Database → Type 0) → (IsTrue old.is_open → old.now ≡ old.committed) → Inside old mid made
-    → ExecutesInside 0 sql params mid failed (Err e) → IsRolledBack failed new → IsTrue new.is_open → (new.now ≡ old.now) × (new.committed ≡ old.committed)
-given_up old mid failed new sql params e made settled it ran back open_ = given_up_after old mid failed new made settled it (run_failed mid failed sql params e ran) back open_
+pub on_ok : {T E : Type 0} {P Q : Type 0} (r : Result T E) → (P → Q) → OnOk r P → OnOk r Q
+on_ok (Ok x) f p = f p
+on_ok (Err e) f p = tt
+
+pub ok_both : {T E : Type 0} {A : Type 0} {P Q : T → Type 0} (r : Result T E) → OnOk r A → IfOk r P → ((x : T) → A → P x → Q x) → IfOk r Q
+ok_both (Ok x) a p f = f x a p
+ok_both (Err e) a p f = tt
 
 pub on_err : {T E : Type 0} {P : Type 0} (r : Result T E) → P → OnErr r P
 on_err (Ok x) p = tt
@@ -167,7 +149,7 @@ pub commit_crash : {S : Type 0} (g : store.Ghosts S) (old mid new : Held S) (mad
 commit_crash g old mid new made before last inside =
     let P = Leaves made in
     survives_begin g old (state g new) P (survives_then (state g (record old { in_transaction = true })) (state g mid) (state g new) _ _ P (λ _ db none. absurd none)
-    (λ clean db is. ((state g mid).now, is, (inside (omega (arith, last.clean))).keeps)) before last)
+    (λ clean db is. ((state g mid).now, is, (inside (omega (arith, last.clean))).makes)) before last)
 
 pub commit_was_open : (mid new : State) (e : Error) → IsTrue mid.in_transaction → FailsToCommit mid new e → IsTrue new.is_open → IsTrue mid.is_open
 commit_was_open mid new e mode (inl failed) open_ = failed.3.was_open open_

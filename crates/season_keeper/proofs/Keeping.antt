@@ -1,59 +1,103 @@
 -- What a stop may leave of a keeper.
-use Rattle.std.proofs.Common.{◌≡◌, ◌⊎◌, Bool, true, false, true≢false, inl, inr, List, IsTrue, sym, subst, ap, ◌∙◌, refl}
+use Rattle.std.proofs.Common.{◌≡◌, ◌⊎◌, inl, inr, Bool, true, false, List, [], ◌∷◌, map, filter, length, if◌then◌else◌, ◌==◌, refl, sym, ap, ap₂, subst, ◌∙◌}
+use Rattle.std.specs.List.{AllZip}
+use Rattle.sqlite_value.specs.declared.value.Value.{Value}
+use Rattle.sqlite_value.specs.declared.value.Value.TheVariants.{Text}
+use Rattle.sqlite_value.specs.Order.{Row, column, bytes}
 use Rattle.sqlite_trees.specs.Tree.{Trees}
+use Rattle.sqlite_trees.specs.Objects.{catalog_tree}
+use Rattle.sqlite_schema.specs.declared.schema.Table.{Table}
+use Rattle.sqlite_catalog.specs.Listing.{is_table_row, IsTableRow, IsSound}
 use Rattle.sqlite.specs.Effect.{Database}
 use Rattle.sqlite.specs.State.{State, HasCleanDisk, Survives}
 use Rattle.fpl_base.specs.declared.records.Op.{Op}
 use Rattle.fpl_base.specs.Keeping.{Map, applied}
-use Rattle.season_keeper.specs.Holding.{Holds, Keeps, IsBare, IsUnmade, Finds, holds_one, not_both, MayLeave, MayPass}
-use Rattle.season_keeper.proofs.Loading.{Found}
+use Rattle.season_keeper.specs.Table.{Tables, neither, record_alone, line_alone, record_first, line_first, schema_of, records_in, lines_in}
+use Rattle.season_keeper.specs.Holding.{Store, Tells, Keeps, Finds, Moved, MayLeave, holds_one, tells_one, keeps_tells}
+use Rattle.season_keeper.proofs.Changing.{holds_as}
 use Rattle.season_keeper.proofs.Batches.{Leaves, Applied}
 
-pub stops_of : (old new : State) (ops : List Op) (m : Map) → Survives old new (Leaves (Applied old.now ops)) → HasCleanDisk new → Keeps old.now m → (x : Map) → MayLeave new x → MayLeave old x ⊎ (x ≡ applied m ops)
-stops_of old new ops m s clean keeps x left = elim (s.crash clean left.0.trees left.1) [
-  | inl before ↦ inl (left.0, before, left.2)
-  | inr after ↦ inr (holds_one (left.0.trees 0) x (applied m ops) left.2.holds (subst (λ (t : Trees). Holds (t 0) (applied m ops)) (sym after.1) (after.2 m keeps).holds))
-]
+-- ---- the trees tell which tables are there
+
+abbrev names_in : List Row → List Value
+names_in objects = map (λ (r : Row). column r 2) (filter is_table_row objects)
+
+abbrev names_of : List Table → List Value
+names_of tables = map (λ (t : Table). Text t.name) tables
+
+zip_names : (rows : List Row) (tables : List Table) → AllZip IsTableRow rows tables → map (λ (r : Row). column r 2) rows ≡ names_of tables
+zip_names [] [] all = refl
+zip_names [] (t ∷ tables) all = absurd all
+zip_names (r ∷ rows) [] all = absurd all
+zip_names (r ∷ rows) (t ∷ tables) all = ap₂ ◌∷◌ all.0.described.name_is (zip_names rows tables all.1)
+
+-- the tables of these names
+abbrev by_names : List Value → Tables
+by_names [] = neither
+by_names (one ∷ []) = if length (bytes one) == 6 then record_alone else line_alone
+by_names (one ∷ other ∷ more) = if length (bytes one) == 6 then record_first else line_first
+
+names_tell : (t : Tables) → by_names (names_of (schema_of t).tables) ≡ t
+names_tell neither = refl
+names_tell record_alone = refl
+names_tell line_alone = refl
+names_tell record_first = refl
+names_tell line_first = refl
+
+told_by : (db : Database) (store : Store db) → by_names (names_in (db.trees catalog_tree)) ≡ store.tables
+told_by db store =
+    let sound : IsSound (schema_of store.tables) db.trees = subst (λ s. IsSound s db.trees) store.schema store.sound in
+    ap by_names (zip_names _ _ sound.lists.listed.tables) ∙ names_tell store.tables
+
+same_tables : (db other : Database) (p : Store db) (q : Store other) → db.trees ≡ other.trees → p.tables ≡ q.tables
+same_tables db other p q same = sym (told_by db p) ∙ ap (λ (t : Trees). by_names (names_in (t catalog_tree))) same ∙ told_by other q
+
+-- so trees tell one map at most
+pub trees_one : (db other : Database) (m n : Map) → db.trees ≡ other.trees → Tells db m → Tells other n → m ≡ n
+trees_one db other m n same p q =
+    let tables = same_tables db other p.store q.store same in
+    let records : records_in q.store.tables other.trees ≡ records_in p.store.tables db.trees = sym (ap₂ records_in tables same) in
+    let lines : lines_in q.store.tables other.trees ≡ lines_in p.store.tables db.trees = sym (ap₂ lines_in tables same) in
+    holds_one _ _ m n p.holds (holds_as records lines q.holds)
+
+-- ---- what a call leaves
+
+-- the move keeps each map that the tables told
+pub moved_tells : (before after : Database) (m : Map) → Moved before after → Tells before m → Keeps after m
+moved_tells before after m moved tells =
+    let it = moved tells.store in
+    record {
+      store = it.store;
+      both = it.both;
+      moved = it.moved;
+      holds = record { sound = λ k body h. tells.holds.sound k body (it.back k body h); complete = λ k body h. it.forth k body (tells.holds.complete k body h) };
+    }
+
+pub keeps_finds : (db : Database) (ready : Bool) (m : Map) → Keeps db m → Finds db ready m
+keeps_finds db true m keeps = keeps
+keeps_finds db false m keeps = keeps_tells db m keeps
+
+-- where the reading gave one map, it is the one that was told
+pub gave_keeps : (old new : Database) (m n : Map) → Tells old m → Tells old n × Keeps new n → Keeps new m
+gave_keeps old new m n tells gave = subst (Keeps new) (tells_one old n m gave.0 tells) gave.1
 
 -- while the store is open, a stop leaves what was committed alone
 pub alone_of : (s : State) (m : Map) → ((db : Trees) → s.may_leave db → db ≡ s.committed.trees) → s.committed ≡ s.now → Keeps s.now m → (x : Map) → MayLeave s x → x ≡ m
 alone_of s m settled same keeps x left =
-    let trees : left.0.trees ≡ s.now.trees = settled left.0.trees left.1 ∙ ap (λ (d : Database). d.trees) same in
-    holds_one (left.0.trees 0) x m left.2.holds (subst (λ (t : Trees). Holds (t 0) m) (sym trees) keeps.holds)
+    let trees : left.0.trees ≡ s.now.trees = settled left.0.trees left.1 ∙ ap (λ (d : Database). d.trees) same in trees_one left.0 s.now x m trees left.2 (keeps_tells s.now m keeps)
 
-pub finds_any : (db : Database) (ready : Bool) (m : Map) → Finds db ready m → Finds db false m
-finds_any db true m found = inl found
-finds_any db false m found = found
-
--- what is found at rest may be left
-found_passes : (s : State) (ready : Bool) (m : Map) → IsTrue s.is_open → s.in_transaction ≡ false → s.may_leave s.now.trees → Finds s.now ready m → MayPass s ready m
-found_passes s true m open_ rest left keeps = inl (s.now, left, keeps)
-found_passes s false m open_ rest left (inl keeps) = inl (s.now, left, keeps)
-found_passes s false m open_ rest left (inr bare) = inr (record { open_ = open_; autocommit = rest; unread = refl; bare = bare })
-
--- a reading leaves what could be left before it
-pub reading_stops : (old new : State) (ready : Bool) (m : Map) → Survives old new (Leaves (Found old.now)) → HasCleanDisk new → IsTrue old.is_open → old.in_transaction ≡ false → old.may_leave old.now.trees → Finds old.now ready m
-    → (x : Map) → MayLeave new x → MayPass old ready x
-reading_stops old new ready m s clean open_ rest settled found x left = elim (s.crash clean left.0.trees left.1) [
+-- a batch leaves what could be left before it, or itself
+pub stops_of : (old new : State) (ops : List Op) (m : Map) → Survives old new (Leaves (Applied old.now ops)) → HasCleanDisk new → Keeps old.now m → (x : Map) → MayLeave new x → MayLeave old x ⊎ (x ≡ applied m ops)
+stops_of old new ops m s clean keeps x left = elim (s.crash clean left.0.trees left.1) [
   | inl before ↦ inl (left.0, before, left.2)
-  | inr after ↦
-      let is : x ≡ m = holds_one (left.0.trees 0) x m left.2.holds (subst (λ (t : Trees). Holds (t 0) m) (sym after.1) (after.2 m (finds_any old.now ready m found)).holds) in
-      subst (MayPass old ready) (sym is) (found_passes old ready m open_ rest settled found)
+  | inr after ↦ inr (trees_one left.0 after.0 x (applied m ops) after.1 left.2 (keeps_tells after.0 (applied m ops) (after.2 m keeps)))
 ]
 
--- where no table is made, no table was there
-pub unmade_passes : (old new : State) (ready : Bool) (m : Map) → IsTrue old.is_open → old.in_transaction ≡ false → old.may_leave old.now.trees → Finds old.now ready m → (IsTrue new.is_open → (ready : Bool) (m : Map) → Finds old.now ready m → Finds new.now ready m)
-    → (x : Map) → IsUnmade new ready x → MayPass old ready x
-unmade_passes old new true m open_ rest settled found kept x it = absurd (true≢false it.unread)
-unmade_passes old new false m open_ rest settled (inl keeps) kept x it = absurd (not_both new.now (kept it.open_ true m keeps).kept.schema it.bare.schema)
-unmade_passes old new false m open_ rest settled (inr bare) kept x it =
-    subst (MayPass old false) (bare.map ∙ sym it.bare.map) (inr (record { open_ = open_; autocommit = rest; unread = refl; bare = bare }))
-
--- a keeper that has read leaves what is in the table alone
-pub read_passes : (s : State) (ready : Bool) (x : Map) → ready ≡ true → MayPass s ready x → MayLeave s x
-read_passes s ready x read (inl left) = left
-read_passes s ready x read (inr unmade) = absurd (true≢false (sym read ∙ unmade.unread))
-
-pub weaker : {A : Type 0} (s : State) (ready : Bool) (x : Map) → MayLeave s x ⊎ A → MayPass s ready x ⊎ A
-weaker s ready x (inl left) = inl (inl left)
-weaker s ready x (inr other) = inr other
+-- a reading leaves what could be left before it
+pub reading_stops : (old new : State) (m : Map) → Survives old new (Leaves (Moved old.now)) → HasCleanDisk new → old.may_leave old.now.trees → Tells old.now m → (x : Map) → MayLeave new x → MayLeave old x
+reading_stops old new m s clean settled tells x left = elim (s.crash clean left.0.trees left.1) [
+  | inl before ↦ (left.0, before, left.2)
+  | inr after ↦
+      let is : x ≡ m = trees_one left.0 after.0 x m after.1 left.2 (keeps_tells after.0 m (moved_tells old.now after.0 m after.2 tells)) in
+      subst (MayLeave old) (sym is) (old.now, settled, tells)
+]

@@ -1,10 +1,15 @@
 pub mod Texts
 pub mod Lists
+pub mod Forms
 pub mod Deleting
 pub mod Putting
+pub mod Upserting
 pub mod Making
+pub mod TwoTables
+pub mod Moving
 pub mod Reading
+pub mod Changing
 pub mod Batches
 pub mod Loading
-pub mod Keeping
 pub mod Pairing
+pub mod Keeping

@@ -1,54 +1,45 @@
--- What the making of the table does.
-use Rattle.std.proofs.Common.{◌≡◌, inl, inr, ℕ, List, [], ◌∷◌, Bool, false, true≢false, None, Some, Ok, Err, Result, OnOk, refl, sym, ap, subst, ◌∙◌}
-use Rattle.sqlite_value.specs.Order.{Row}
+-- What the making of a table does.
+use Rattle.std.proofs.Common.{◌≡◌, ℕ, List, [], false, None, Ok, sym, ap, subst, ◌∙◌}
+use Rattle.sqlite_trees.specs.Tree.{Trees}
+use Rattle.sqlite_schema.specs.declared.schema.Schema.{Schema}
+use Rattle.sqlite_schema.specs.declared.schema.Table.{Table}
 use Rattle.sqlite_schema.specs.declared.command.Command.TheVariants.{CreateTable, Nothing}
-use Rattle.sqlite_catalog.specs.Change.{created, next_tree}
-use Rattle.sqlite.specs.declared.error.Error.{Error}
+use Rattle.sqlite_resolve.specs.Compile.{table_defined_by}
+use Rattle.sqlite_catalog.specs.Change.{created, next_tree, KeepsRows}
 use Rattle.sqlite.specs.Does.{Tally, lacks_sequence}
-use Rattle.sqlite.specs.Effect.{Database}
-use Rattle.sqlite.specs.Listing.{understood}
+use Rattle.sqlite.specs.Effect.{Database, IsDatabase}
 use Rattle.sqlite.specs.State.{State, Writes, Executes, IsUnchanged}
 use Rattle.sqlite.proofs.Callers.{runs_as}
-use Rattle.season_keeper.specs.Table.{record_table, record_schema, no_schema}
-use Rattle.std.specs.Prelude.{is_some}
-use Rattle.fpl_base.specs.Keeping.{Map, no_records}
-use Rattle.season_keeper.specs.Holding.{Holds, Keeps, Finds, IsBare}
-use Rattle.season_keeper.specs.Rows.{AreRecords, IsKept}
-use Rattle.season_keeper.proofs.Texts.{create_text, create_is, create_plain, table_is, created_is, nothing_is, nothing_plain}
+use Rattle.season_keeper.specs.Table.{Tables, schema_of}
+use Rattle.season_keeper.proofs.Texts.{Means, Makes}
 use Rattle.season_keeper.proofs.Deleting.{went, same_value}
 
-no_rows : AreRecords []
-no_rows = record { each = λ r h. absurd h; ids = λ r s h g e. absurd h; keys = λ i j k x y h g. absurd h }
+-- the table is there, without rows, and the others have their rows
+pub record Made (before after : Tables) (old new : Database) : Type 0 where
+  pub schema : new.schema ≡ schema_of after
+  pub sound : IsDatabase new
+  pub empty : new.trees (next_tree (schema_of before)) ≡ []
+  pub others : KeepsRows (schema_of before).tables old.trees new.trees
 
-pub creates : (old new : State) (r : Result ℕ Error) → old.now.schema ≡ no_schema → Executes create_text [] old new r → OnOk r (IsKept new.now × (new.now.trees 0 ≡ []))
-creates old new (Err e) has h = tt
-creates old new (Ok count) has h =
-    let w = subst (λ t. Writes old new None CreateTable t [] count) create_is.1 (runs_as create_text [] old new no_schema has CreateTable create_is.0 create_plain count h) in
+pub creates : (before after : Tables) (table : Table) (sql : List ℕ) → Makes before sql → table_defined_by sql ≡ Ok table → created (schema_of before) table ≡ schema_of after → lacks_sequence (schema_of after) ≡ false
+    → (old new : State) (count : ℕ) → old.now.schema ≡ schema_of before → Executes sql [] old new (Ok count) → Made before after old.now new.now
+creates before after table sql makes defined made unneeded old new count has h =
+    let w = subst (λ t. Writes old new None CreateTable t [] count) makes.whole (runs_as sql [] old new (schema_of before) has CreateTable makes.means.command_is makes.means.plain count h) in
     let all = went w.changed in
     let first = went all.1 in
-    let made = first.1 in
-    let both : Ok made.table ≡ Ok record_table = sym made.defined ∙ table_is in
-    let same : made.table ≡ record_table = cc in
-    let schema : first.0.schema ≡ record_schema = made.is ∙ ap (λ s. created s made.table) has ∙ ap (created no_schema) same ∙ created_is in
-    let plain : lacks_sequence first.0.schema ≡ false = ap lacks_sequence schema in
+    let is = first.1 in
+    let same : is.table ≡ table = same_value (sym is.defined ∙ defined) in
+    let schema : first.0.schema ≡ schema_of after = is.is ∙ ap (λ s. created s is.table) has ∙ ap (created (schema_of before)) same ∙ made in
+    let plain : lacks_sequence first.0.schema ≡ false = ap lacks_sequence schema ∙ unneeded in
     let now : new.now ≡ first.0 = ap (λ (p : Tally × Database). p.1) (same_value all.2) ∙ same_value (rw plain at first.2) in
-    let empty : new.now.trees 0 ≡ [] = ap (λ (d : Database). d.trees 0) now ∙ subst (λ s. first.0.trees (next_tree s) ≡ []) has made.empty in
-    (record { schema = ap (λ (d : Database). d.schema) now ∙ schema; rows = subst AreRecords (sym empty) no_rows }, empty)
+    let trees : new.now.trees ≡ first.0.trees = ap (λ (d : Database). d.trees) now in
+    record {
+      schema = ap (λ (d : Database). d.schema) now ∙ schema;
+      sound = w.sound;
+      empty = ap (λ (t : Trees). t (next_tree (schema_of before))) trees ∙ subst (λ s. first.0.trees (next_tree s) ≡ []) has is.empty;
+      others = subst (λ t. KeepsRows (schema_of before).tables old.now.trees t) (sym trees) (subst (λ (s : Schema). KeepsRows s.tables old.now.trees first.0.trees) has is.others);
+    }
 
 -- the table is there
-pub finds : (old new : State) (r : Result ℕ Error) → old.now.schema ≡ record_schema → Executes create_text [] old new r → OnOk r (IsUnchanged old new)
-finds old new (Err e) has h = tt
-finds old new (Ok count) has h = (runs_as create_text [] old new record_schema has Nothing nothing_is nothing_plain count h).0
-
-none_some : {X : Type 0} {x : X} → None ≡ Some x → ⊥
-none_some h = true≢false (sym (ap is_some h))
-
-none_held : Holds [] no_records
-none_held = record { sound = λ k body h. absurd h.1; complete = λ k body h. absurd (none_some h) }
-
--- the table is there afterwards, and holds the map that was held
-pub makes : (old new : State) (count : ℕ) (m : Map) → Finds old.now false m → Executes create_text [] old new (Ok count) → Keeps new.now m
-makes old new count m (inl keeps) h = subst (λ db. Keeps db m) (sym (finds old new (Ok count) keeps.kept.schema h).0.now_is) keeps
-makes old new count m (inr bare) h =
-    let it = creates old new (Ok count) bare.schema h in
-    record { kept = it.0; holds = subst (Holds (new.now.trees 0)) (sym bare.map) (subst (λ rows. Holds rows no_records) (sym it.1) none_held) }
+pub rests : (tables : Tables) (sql : List ℕ) → Means (schema_of tables) sql Nothing → (old new : State) (count : ℕ) → old.now.schema ≡ schema_of tables → Executes sql [] old new (Ok count) → IsUnchanged old new
+rests tables sql means old new count has h = (runs_as sql [] old new (schema_of tables) has Nothing means.command_is means.plain count h).0

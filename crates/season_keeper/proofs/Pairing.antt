@@ -1,10 +1,10 @@
 -- The pairs that rows show.
-use Rattle.std.proofs.Common.{◌≡◌, ◌⊎◌, inl, inr, ℕ, ◌+◌, ◌<◌, ◌-◌, pos, Bool, true, false, IsTrue, Some, None, arith, if◌then◌else◌, List, [], ◌∷◌, ◌++◌, take, length, get_or, refl, sym, ap, ◌∙◌, subst}
+use Rattle.std.proofs.Common.{◌≡◌, inl, inr, ℕ, ◌+◌, ◌<◌, ◌-◌, pos, Bool, true, false, IsTrue, Some, None, arith, if◌then◌else◌, List, [], ◌∷◌, ◌++◌, take, length, get_or, refl, sym, ap, ◌∙◌, subst}
 use Rattle.std.specs.Prelude.{Option, Result, Ok, Err, IfOk, IfSome}
 use Rattle.std.specs.List.{AllZip}
 use Rattle.std.proofs.lemmas.List.{take_more}
 use Rattle.sqlite_value.specs.declared.value.Value.TheVariants.{Int, Blob}
-use Rattle.sqlite_value.specs.Order.{Row, column}
+use Rattle.sqlite_value.specs.Order.{Row}
 use Rattle.sqlite_catalog.proofs.ListFacts.{zip_push}
 use Rattle.sqlite_rules.specs.Lists.{Has}
 use Rattle.fpl_base.specs.declared.records.RecordKey.{RecordKey as Key}
@@ -12,11 +12,12 @@ use Rattle.std.specs.List.{All}
 use Rattle.std.proofs.lemmas.List.{get_or_default}
 use Rattle.std.proofs.lemmas.List.Elements.{All-head, All-tail}
 use Rattle.std.proofs.lemmas.Bool.{cases_eq}
-use Rattle.fpl_base.specs.Keeping.{KeysRise, map_of, precedes, is_same_key}
+use Rattle.sqlite.specs.Effect.{Database}
+use Rattle.fpl_base.specs.Keeping.{Map, KeysRise, map_of, precedes, is_same_key}
 use Rattle.fpl_base.proofs.Around.{AllPairs-head, AllPairs-tail}
 use Rattle.fpl_base.proofs.KeyLemmas.{precedes_trans, precedes_not_back, same_key, same_key_self}
-use Rattle.season_keeper.specs.Holding.{Holds}
-use Rattle.season_keeper.specs.Rows.{row_of, put_row_of, Stores, IsReading, Shows, ShowEach}
+use Rattle.season_keeper.specs.Holding.{Store, Holds, Tells, Keeps, Moves, records_of, lines_of}
+use Rattle.season_keeper.specs.Rows.{record_values, Stored, IsReading, Shows, ShowEach}
 
 pub show_more : (rows : List Row) (i : ℕ) (row : Row) (all new : List (Key × List ℕ)) (one : Key × List ℕ) → i < length rows → row ≡ get_or rows i row → new ≡ all ++ one ∷ []
     → ShowEach (take i rows) all → Shows row one → ShowEach (take (i + 1) rows) new
@@ -28,7 +29,7 @@ int_same : (m n : ℕ) → Int (pos m) ≡ Int (pos n) → m ≡ n
 int_same m n h = cc
 
 -- what the row shows is what the table has
-shown_is : (k : Key) (body : List ℕ) (p : Key × List ℕ) → Shows (put_row_of k body) p → (k ≡ p.0) × (body ≡ p.1)
+shown_is : (k : Key) (body : List ℕ) (p : Key × List ℕ) → Shows (record_values k body) p → (k ≡ p.0) × (body ≡ p.1)
 shown_is k body p s =
     let kind = int_same k.kind p.0.kind s.kind in
     let a = int_same k.a p.0.a s.a in
@@ -51,17 +52,17 @@ zip_has R (a ∷ xs) (b ∷ ys) x all (inl same) = (b, inl refl, subst (λ q. R 
 zip_has R (a ∷ xs) (b ∷ ys) x all (inr more) = let it = zip_has R xs ys x all.1 more in (it.0, inr it.1, it.2)
 
 -- the pairs are those of the table, and no other
-pub pairs_sound : (table rows : List Row) (pairs : List (Key × List ℕ)) → IsReading table rows → ShowEach rows pairs → (p : Key × List ℕ) → Has pairs p → Stores table p.0 p.1
-pairs_sound table rows pairs reading each p h =
+pub pairs_sound : (records lines rows : List Row) (pairs : List (Key × List ℕ)) → IsReading records lines rows → ShowEach rows pairs → (p : Key × List ℕ) → Has pairs p → Stored records lines p.0 p.1
+pairs_sound records lines rows pairs reading each p h =
     let row = has_zip Shows rows pairs p each h in
     let it = reading.sound row.0 row.1 in
     let same = shown_is it.0 it.1 p (subst (λ r. Shows r p) it.3 row.2) in
-    subst (λ k. Stores table k p.1) same.0 (subst (Stores table it.0) same.1 it.2)
+    subst (λ k. Stored records lines k p.1) same.0 (subst (Stored records lines it.0) same.1 it.2)
 
-pub pairs_complete : (table rows : List Row) (pairs : List (Key × List ℕ)) → IsReading table rows → ShowEach rows pairs → (k : Key) (body : List ℕ) → Stores table k body
+pub pairs_complete : (records lines rows : List Row) (pairs : List (Key × List ℕ)) → IsReading records lines rows → ShowEach rows pairs → (k : Key) (body : List ℕ) → Stored records lines k body
     → (p : Key × List ℕ) × Has pairs p × (k ≡ p.0) × (body ≡ p.1)
-pairs_complete table rows pairs reading each k body h =
-    let p = zip_has Shows rows pairs (put_row_of k body) each (reading.complete k body h) in
+pairs_complete records lines rows pairs reading each k body h =
+    let p = zip_has Shows rows pairs (record_values k body) each (reading.complete k body h) in
     let same = shown_is k body p.0 p.2 in (p.0, p.1, same.0, same.1)
 
 abbrev Rises : (Key × List ℕ) → (Key × List ℕ) → Type 0
@@ -99,15 +100,22 @@ has_map (q ∷ more) k body h = go (is_same_key q.0 k) refl h (has_map more k bo
     go false e f rest = let it = rest f in (it.0, inr it.1, it.2, it.3)
 
 -- the pairs of a reading are the map that the table holds
-pub reading_holds : (table rows : List Row) (pairs : List (Key × List ℕ)) → IsReading table rows → ShowEach rows pairs → KeysRise pairs → Holds table (map_of pairs)
-reading_holds table rows pairs reading each rise = record {
+pub reading_holds : (records lines rows : List Row) (pairs : List (Key × List ℕ)) → IsReading records lines rows → ShowEach rows pairs → KeysRise pairs → Holds records lines (map_of pairs)
+reading_holds records lines rows pairs reading each rise = record {
   sound = λ k body stores.
-      let it = pairs_complete table rows pairs reading each k body stores in
+      let it = pairs_complete records lines rows pairs reading each k body stores in
       ap (map_of pairs) it.2 ∙ (map_has pairs it.0 rise it.1 ∙ ap Some (sym it.3));
   complete = λ k body h.
       let it = has_map pairs k body h in
-      subst (λ b. Stores table k b) it.3 (subst (λ q. Stores table q it.0.1) it.2 (pairs_sound table rows pairs reading each it.0 it.1));
+      subst (λ b. Stored records lines k b) it.3 (subst (λ q. Stored records lines q it.0.1) it.2 (pairs_sound records lines rows pairs reading each it.0 it.1));
 }
+
+-- what was moved keeps the map that the tables told
+pub moved_keeps : (before after : Database) (was : Store before) (m : Map) (it : Moves before after was) → Holds (records_of it.store) (lines_of it.store) m → Tells before m × Keeps after m
+moved_keeps before after was m it holds = (
+  record { store = was; apart = it.apart; holds = record { sound = λ k body h. holds.sound k body (it.forth k body h); complete = λ k body h. it.back k body (holds.complete k body h) } },
+  record { store = it.store; both = it.both; moved = it.moved; holds = holds },
+)
 
 pub both_ok : {T E : Type 0} {P Q R : T → Type 0} (r : Result (Option T) E) → ((x : T) → P x → Q x → R x) → IfOk r (λ f. IfSome f P) → IfOk r (λ f. IfSome f Q) → IfOk r (λ f. IfSome f R)
 both_ok (Ok (Some x)) f p q = f x p q

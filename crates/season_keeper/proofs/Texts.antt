@@ -1,170 +1,275 @@
 -- What the texts of the keeper mean.
-use Rattle.std.proofs.Common.{◌≡◌, ◌⊎◌, inl, inr, ℕ, pos, negsuc, List, [], ◌∷◌, map, codes, Bool, true, false, Some, None, Ok, Err, Result, refl}
-use Rattle.sqlite_value.specs.declared.value.Value.TheVariants.{Null, Int, Text, Blob}
+use Rattle.std.proofs.Common.{◌≡◌, ℕ, pos, negsuc, List, [], ◌∷◌, codes, Bool, true, false, Some, None, Ok, refl}
+use Rattle.sqlite_value.specs.declared.value.Value.TheVariants.{Null, Int}
 use Rattle.sqlite_value.specs.declared.keys.Key.{Key}
+use Rattle.sqlite_value.specs.declared.keys.Collation.{Collation}
 use Rattle.sqlite_value.specs.declared.keys.Collation.TheVariants.{Binary}
-use Rattle.sqlite_sql.specs.Term.{Term, lit, col, op1, op2, case}
+use Rattle.sqlite_sql.specs.Term.{Term, lit, col, op2}
 use Rattle.sqlite_sql.specs.declared.ops.BinaryOp.TheVariants.{Compare}
-use Rattle.sqlite_sql.specs.declared.ops.CompareOp.TheVariants.{Eq}
+use Rattle.sqlite_sql.specs.declared.ops.CompareOp.{CompareOp}
+use Rattle.sqlite_sql.specs.declared.ops.CompareOp.TheVariants.{Eq, Lt, Gt}
 use Rattle.sqlite_sql.specs.Query.{Query, inner, end}
 use Rattle.sqlite_schema.specs.declared.command.Upsert.{Upsert}
-use Rattle.sqlite_schema.specs.declared.command.Source.TheVariants.{Values}
-use Rattle.sqlite_schema.specs.declared.command.Conflict.TheVariants.{Abort, Replace}
+use Rattle.sqlite_schema.specs.declared.command.Source.TheVariants as source
+use Rattle.sqlite_schema.specs.declared.command.Conflict.TheVariants.{Abort}
+use Rattle.sqlite_schema.specs.declared.command.Command.{Command}
 use Rattle.sqlite_schema.specs.declared.command.Command.TheVariants.{Insert, InsertOr, Select, Delete, CreateTable, Nothing}
+use Rattle.sqlite_schema.specs.declared.program.Program.{Program}
+use Rattle.sqlite_schema.specs.declared.schema.Schema.{Schema}
 use Rattle.sqlite_resolve.specs.Compile.{table_defined_by}
 use Rattle.sqlite_catalog.specs.Change.{created}
 use Rattle.sqlite_tied.specs.Compute.{everything}
 use Rattle.sqlite.specs.Listing.{understood, reads_listing}
 use Rattle.sqlite.proofs.Callers.{IsPlain, command_of, statement_of}
-use Rattle.season_keeper.specs.Table.{record_table, record_schema, no_schema}
+use Rattle.season_keeper.specs.Table.{record_table, line_table, Tables, neither, record_alone, line_alone, record_first, line_first, schema_of, two}
 
-abbrev pub create_text : List ℕ
-create_text = codes "CREATE TABLE IF NOT EXISTS record (kind INTEGER NOT NULL, a INTEGER NOT NULL, b INTEGER NOT NULL, c INTEGER NOT NULL, body BLOB NOT NULL, PRIMARY KEY (kind, a, b, c)) STRICT"
+-- the text means the command, over the schema
+pub record Means (schema : Schema) (text : List ℕ) (command : Command) : Type 0 where
+  pub command_is : command_of (understood schema text) ≡ command
+  pub plain : IsPlain (understood schema text)
 
-abbrev pub replace_text : List ℕ
-replace_text = codes "INSERT OR REPLACE INTO record (kind, a, b, c, body) VALUES (?1, ?2, ?3, ?4, ?5)"
+-- ---- where the two tables stand, by which was made first
 
-abbrev pub delete_text : List ℕ
-delete_text = codes "DELETE FROM record WHERE kind = ?1 AND a = ?2 AND b = ?3 AND c = ?4"
+abbrev pub record_place : Bool → ℕ
+record_place false = 0
+record_place true = 1
 
-abbrev pub select_text : List ℕ
-select_text = codes "SELECT kind, a, b, c, body FROM record ORDER BY kind, a, b, c"
+abbrev pub record_tree : Bool → ℕ
+record_tree false = 0
+record_tree true = 2
 
-abbrev by_first : Key
+abbrev pub line_place : Bool → ℕ
+line_place false = 1
+line_place true = 0
+
+abbrev pub line_tree : Bool → ℕ
+line_tree false = 2
+line_tree true = 0
+
+-- ---- the making of the tables
+
+abbrev pub make_record : List ℕ
+make_record = codes "CREATE TABLE IF NOT EXISTS record (kind INTEGER NOT NULL, a INTEGER NOT NULL, b INTEGER NOT NULL, c INTEGER NOT NULL, body BLOB NOT NULL, PRIMARY KEY (kind, a, b, c)) STRICT"
+
+abbrev pub make_line : List ℕ
+make_line = codes "CREATE TABLE IF NOT EXISTS line (a INTEGER NOT NULL, b INTEGER NOT NULL, c INTEGER NOT NULL, body BLOB NOT NULL, PRIMARY KEY (a, b, c)) STRICT"
+
+pub record_defined : table_defined_by make_record ≡ Ok (record_table 0)
+unfolding understood everything
+record_defined = refl
+
+pub line_defined : table_defined_by make_line ≡ Ok (line_table 0)
+unfolding understood everything
+line_defined = refl
+
+-- where the table is not there, the text makes it
+pub record Makes (before : Tables) (text : List ℕ) : Type 0 where
+  pub means : Means (schema_of before) text CreateTable
+  pub whole : statement_of text (understood (schema_of before) text) ≡ text
+
+pub neither_makes_record : Makes neither make_record
+unfolding understood everything
+neither_makes_record = record { means = record { command_is = refl; plain = (refl, refl) }; whole = refl }
+
+pub line_makes_record : Makes line_alone make_record
+unfolding understood everything
+line_makes_record = record { means = record { command_is = refl; plain = (refl, refl) }; whole = refl }
+
+pub record_makes_line : Makes record_alone make_line
+unfolding understood everything
+record_makes_line = record { means = record { command_is = refl; plain = (refl, refl) }; whole = refl }
+
+pub neither_made : created (schema_of neither) (record_table 0) ≡ schema_of record_alone
+unfolding understood everything
+neither_made = refl
+
+pub line_made : created (schema_of line_alone) (record_table 0) ≡ schema_of line_first
+unfolding understood everything
+line_made = refl
+
+pub record_made : created (schema_of record_alone) (line_table 0) ≡ schema_of record_first
+unfolding understood everything
+record_made = refl
+
+-- where it is there, nothing is done
+pub record_rests : Means (schema_of record_alone) make_record Nothing
+unfolding understood everything
+record_rests = record { command_is = refl; plain = (refl, refl) }
+
+pub two_rest_record : (first : Bool) → Means (schema_of (two first)) make_record Nothing
+unfolding understood everything
+two_rest_record false = record { command_is = refl; plain = (refl, refl) }
+two_rest_record true = record { command_is = refl; plain = (refl, refl) }
+
+pub two_rest_line : (first : Bool) → Means (schema_of (two first)) make_line Nothing
+unfolding understood everything
+two_rest_line false = record { command_is = refl; plain = (refl, refl) }
+two_rest_line true = record { command_is = refl; plain = (refl, refl) }
+
+-- ---- queries
+
+abbrev pub by_first : Key
 by_first = record { collation = Binary; descending = false }
 
-abbrev pub query : Query
-query = record {
-  from = inner 0 end;
-  filter = [];
+-- a query over one table
+abbrev pub asking : ℕ → List Term → List Term → List Collation → List (Term × Key) → Query
+asking tree filter project collations order = record {
+  from = inner tree end;
+  filter = filter;
   group = None;
-  project = col 1 1 ∷ col 1 2 ∷ col 1 3 ∷ col 1 4 ∷ col 1 5 ∷ [];
+  project = project;
   distinct = false;
-  collations = [];
-  order = (col 1 1, by_first) ∷ (col 1 2, by_first) ∷ (col 1 3, by_first) ∷ (col 1 4, by_first) ∷ [];
+  collations = collations;
+  order = order;
   limit = lit (Int (negsuc 0));
   offset = lit (Int (pos 0));
 }
 
-abbrev pub delete_query : Query
-delete_query = record {
-  from = inner 0 end;
-  filter = op2 (Compare Eq Binary) (col 1 1) (col 0 0) ∷ op2 (Compare Eq Binary) (col 1 2) (col 0 1) ∷ op2 (Compare Eq Binary) (col 1 3) (col 0 2) ∷ op2 (Compare Eq Binary) (col 1 4) (col 0 3) ∷ [];
-  group = None;
-  project = col 1 0 ∷ [];
-  distinct = false;
-  collations = [];
-  order = [];
-  limit = lit (Int (negsuc 0));
-  offset = lit (Int (pos 0));
-}
+abbrev pub program : Query → Program
+program query = record { lets = []; body = query }
 
-abbrev pub terms : List Term
-terms = lit Null ∷ col 0 0 ∷ col 0 1 ∷ col 0 2 ∷ col 0 3 ∷ col 0 4 ∷ []
+abbrev equals : Term → Term → Term
+equals = op2 (Compare Eq Binary)
 
-pub create_is : (command_of (understood no_schema create_text) ≡ CreateTable) × (statement_of create_text (understood no_schema create_text) ≡ create_text)
+abbrev pub record_filter : List Term
+record_filter = equals (col 1 1) (col 0 0) ∷ equals (col 1 2) (col 0 1) ∷ equals (col 1 3) (col 0 2) ∷ equals (col 1 4) (col 0 3) ∷ []
+
+abbrev pub line_filter : List Term
+line_filter = equals (col 1 1) (col 0 0) ∷ equals (col 1 2) (col 0 1) ∷ equals (col 1 3) (col 0 2) ∷ []
+
+-- ---- deletions
+
+abbrev pub rowids : List Term
+rowids = col 1 0 ∷ []
+
+abbrev pub delete_record : List ℕ
+delete_record = codes "DELETE FROM record WHERE kind = ?1 AND a = ?2 AND b = ?3 AND c = ?4"
+
+abbrev pub delete_line : List ℕ
+delete_line = codes "DELETE FROM line WHERE a = ?1 AND b = ?2 AND c = ?3"
+
+pub delete_record_means : (first : Bool) → Means (schema_of (two first)) delete_record (Delete (record_place first) (program (asking (record_tree first) record_filter rowids [] [])))
 unfolding understood everything
-create_is = (refl, refl)
+delete_record_means false = record { command_is = refl; plain = (refl, refl) }
+delete_record_means true = record { command_is = refl; plain = (refl, refl) }
 
-pub table_is : table_defined_by create_text ≡ Ok record_table
+pub delete_line_means : (first : Bool) → Means (schema_of (two first)) delete_line (Delete (line_place first) (program (asking (line_tree first) line_filter rowids [] [])))
 unfolding understood everything
-table_is = refl
+delete_line_means false = record { command_is = refl; plain = (refl, refl) }
+delete_line_means true = record { command_is = refl; plain = (refl, refl) }
 
-pub created_is : created no_schema record_table ≡ record_schema
+-- ---- upserts
+
+abbrev pub put_record : List ℕ
+put_record = codes "INSERT INTO record (kind, a, b, c, body) VALUES (?1, ?2, ?3, ?4, ?5) ON CONFLICT (kind, a, b, c) DO UPDATE SET body = excluded.body"
+
+abbrev pub put_line : List ℕ
+put_line = codes "INSERT INTO line (a, b, c, body) VALUES (?1, ?2, ?3, ?4) ON CONFLICT (a, b, c) DO UPDATE SET body = excluded.body"
+
+abbrev pub record_terms : List Term
+record_terms = lit Null ∷ col 0 0 ∷ col 0 1 ∷ col 0 2 ∷ col 0 3 ∷ col 0 4 ∷ []
+
+abbrev pub line_terms : List Term
+line_terms = lit Null ∷ col 0 0 ∷ col 0 1 ∷ col 0 2 ∷ col 0 3 ∷ []
+
+-- the row that is there, by its rowid
+abbrev pub there_by : ℕ → List Term
+there_by at = equals (col 1 0) (col 0 at) ∷ []
+
+-- it keeps its rowid and its key
+abbrev pub record_update : List Term
+record_update = col 1 0 ∷ col 1 0 ∷ col 1 1 ∷ col 1 2 ∷ col 1 3 ∷ col 1 4 ∷ col 0 11 ∷ []
+
+abbrev pub line_update : List Term
+line_update = col 1 0 ∷ col 1 0 ∷ col 1 1 ∷ col 1 2 ∷ col 1 3 ∷ col 0 9 ∷ []
+
+abbrev pub upserting : ℕ → List ℕ → ℕ → List Term → Upsert
+upserting tree places at update = record { target = Some places; update = Some (program (asking tree (there_by at) update [] [])) }
+
+pub put_record_means : (first : Bool)
+    → Means (schema_of (two first)) put_record (InsertOr (record_place first) Abort (source.Values record_terms 6) (upserting (record_tree first) (1 ∷ 2 ∷ 3 ∷ 4 ∷ []) 5 record_update ∷ []))
 unfolding understood everything
-created_is = refl
+put_record_means false = record { command_is = refl; plain = (refl, refl) }
+put_record_means true = record { command_is = refl; plain = (refl, refl) }
 
-pub nothing_is : command_of (understood record_schema create_text) ≡ Nothing
+pub put_line_means : (first : Bool)
+    → Means (schema_of (two first)) put_line (InsertOr (line_place first) Abort (source.Values line_terms 5) (upserting (line_tree first) (1 ∷ 2 ∷ 3 ∷ []) 4 line_update ∷ []))
 unfolding understood everything
-nothing_is = refl
+put_line_means false = record { command_is = refl; plain = (refl, refl) }
+put_line_means true = record { command_is = refl; plain = (refl, refl) }
 
-pub replace_is : command_of (understood record_schema replace_text) ≡ InsertOr 0 Replace (Values terms 6) []
+-- ---- the move
+
+abbrev pub insert_lines : List ℕ
+insert_lines = codes "INSERT INTO line (a, b, c, body) SELECT a, b, c, body FROM record WHERE kind = 5"
+
+abbrev pub clear_lines : List ℕ
+clear_lines = codes "DELETE FROM record WHERE kind = 5"
+
+-- the kind stands so to 5
+abbrev pub is_kind : CompareOp → List Term
+is_kind op = op2 (Compare op Binary) (col 1 1) (lit (Int (pos 5))) ∷ []
+
+abbrev pub as_line : List Term
+as_line = lit Null ∷ col 1 2 ∷ col 1 3 ∷ col 1 4 ∷ col 1 5 ∷ []
+
+pub insert_lines_means : (first : Bool)
+    → Means (schema_of (two first)) insert_lines (Insert (line_place first) (source.Query (program (asking (record_tree first) (is_kind Eq) as_line (Binary ∷ Binary ∷ Binary ∷ Binary ∷ Binary ∷ []) []))))
 unfolding understood everything
-replace_is = refl
+insert_lines_means false = record { command_is = refl; plain = (refl, refl) }
+insert_lines_means true = record { command_is = refl; plain = (refl, refl) }
 
-pub delete_is : command_of (understood record_schema delete_text) ≡ Delete 0 (record { lets = []; body = delete_query })
+pub clear_lines_means : (first : Bool) → Means (schema_of (two first)) clear_lines (Delete (record_place first) (program (asking (record_tree first) (is_kind Eq) rowids [] [])))
 unfolding understood everything
-delete_is = refl
+clear_lines_means false = record { command_is = refl; plain = (refl, refl) }
+clear_lines_means true = record { command_is = refl; plain = (refl, refl) }
 
-pub select_is : (command_of (understood record_schema select_text) ≡ Select (record { lets = []; body = query }) (codes "kind" ∷ codes "a" ∷ codes "b" ∷ codes "c" ∷ codes "body" ∷ []))
+-- ---- readings
+
+abbrev pub read_below : List ℕ
+read_below = codes "SELECT kind, a, b, c, body FROM record WHERE kind < 5 ORDER BY kind, a, b, c"
+
+abbrev pub read_lines : List ℕ
+read_lines = codes "SELECT 5, a, b, c, body FROM line ORDER BY a, b, c"
+
+abbrev pub read_above : List ℕ
+read_above = codes "SELECT kind, a, b, c, body FROM record WHERE kind > 5 ORDER BY kind, a, b, c"
+
+abbrev pub record_names : List (List ℕ)
+record_names = codes "kind" ∷ codes "a" ∷ codes "b" ∷ codes "c" ∷ codes "body" ∷ []
+
+abbrev pub line_names : List (List ℕ)
+line_names = codes "5" ∷ codes "a" ∷ codes "b" ∷ codes "c" ∷ codes "body" ∷ []
+
+abbrev pub record_order : List (Term × Key)
+record_order = (col 1 1, by_first) ∷ (col 1 2, by_first) ∷ (col 1 3, by_first) ∷ (col 1 4, by_first) ∷ []
+
+abbrev pub line_order : List (Term × Key)
+line_order = (col 1 1, by_first) ∷ (col 1 2, by_first) ∷ (col 1 3, by_first) ∷ []
+
+-- the columns of `record`, and those of `line` behind the kind 5
+abbrev pub record_columns : List Term
+record_columns = col 1 1 ∷ col 1 2 ∷ col 1 3 ∷ col 1 4 ∷ col 1 5 ∷ []
+
+abbrev pub line_columns : List Term
+line_columns = lit (Int (pos 5)) ∷ col 1 1 ∷ col 1 2 ∷ col 1 3 ∷ col 1 4 ∷ []
+
+-- the text is a query, and asks for nothing of the schema's own list
+pub record Reads (schema : Schema) (text : List ℕ) (query : Query) (names : List (List ℕ)) : Type 0 where
+  pub means : Means schema text (Select (program query) names)
+  pub unlisted : reads_listing schema text ≡ false
+
+pub reads_below : (first : Bool) → Reads (schema_of (two first)) read_below (asking (record_tree first) (is_kind Lt) record_columns [] record_order) record_names
 unfolding understood everything
-select_is = refl
+reads_below false = record { means = record { command_is = refl; plain = (refl, refl) }; unlisted = refl }
+reads_below true = record { means = record { command_is = refl; plain = (refl, refl) }; unlisted = refl }
 
-pub select_unlisted : reads_listing record_schema select_text ≡ false
+pub reads_lines : (first : Bool) → Reads (schema_of (two first)) read_lines (asking (line_tree first) [] line_columns [] line_order) line_names
 unfolding understood everything
-select_unlisted = refl
+reads_lines false = record { means = record { command_is = refl; plain = (refl, refl) }; unlisted = refl }
+reads_lines true = record { means = record { command_is = refl; plain = (refl, refl) }; unlisted = refl }
 
-abbrev pub upsert_text : List ℕ
-upsert_text = codes "INSERT INTO record (kind, a, b, c, body) VALUES (?1, ?2, ?3, ?4, ?5) ON CONFLICT (kind, a, b, c) DO UPDATE SET body = excluded.body"
-
-abbrev pub update_query : Query
-update_query = record {
-  from = inner 0 end;
-  filter = op2 (Compare Eq Binary) (col 1 0) (col 0 5) ∷ [];
-  group = None;
-  project = col 1 0 ∷ col 1 0 ∷ col 1 1 ∷ col 1 2 ∷ col 1 3 ∷ col 1 4 ∷ col 0 11 ∷ [];
-  distinct = false;
-  collations = [];
-  order = [];
-  limit = lit (Int (negsuc 0));
-  offset = lit (Int (pos 0));
-}
-
-abbrev pub clause : Upsert
-clause = record { target = Some (1 ∷ 2 ∷ 3 ∷ 4 ∷ []); update = Some (record { lets = []; body = update_query }) }
-
-pub upsert_is : command_of (understood record_schema upsert_text) ≡ InsertOr 0 Abort (Values terms 6) (clause ∷ [])
+pub reads_above : (first : Bool) → Reads (schema_of (two first)) read_above (asking (record_tree first) (is_kind Gt) record_columns [] record_order) record_names
 unfolding understood everything
-upsert_is = refl
-
-pub upsert_plain : IsPlain (understood record_schema upsert_text)
-unfolding understood everything
-upsert_plain = (refl, refl)
-
-pub create_plain : IsPlain (understood no_schema create_text)
-unfolding understood everything
-create_plain = (refl, refl)
-
-pub nothing_plain : IsPlain (understood record_schema create_text)
-unfolding understood everything
-nothing_plain = (refl, refl)
-
-pub replace_plain : IsPlain (understood record_schema replace_text)
-unfolding understood everything
-replace_plain = (refl, refl)
-
-pub delete_plain : IsPlain (understood record_schema delete_text)
-unfolding understood everything
-delete_plain = (refl, refl)
-
-pub select_plain : IsPlain (understood record_schema select_text)
-unfolding understood everything
-select_plain = (refl, refl)
-
-abbrev pub rowids_text : List ℕ
-rowids_text = codes "SELECT rowid, kind, a, b, c, body FROM record ORDER BY rowid"
-
-abbrev pub rowids_query : Query
-rowids_query = record {
-  from = inner 0 end;
-  filter = [];
-  group = None;
-  project = col 1 0 ∷ col 1 1 ∷ col 1 2 ∷ col 1 3 ∷ col 1 4 ∷ col 1 5 ∷ [];
-  distinct = false;
-  collations = [];
-  order = (col 1 0, by_first) ∷ [];
-  limit = lit (Int (negsuc 0));
-  offset = lit (Int (pos 0));
-}
-
-pub rowids_are : command_of (understood record_schema rowids_text) ≡ Select (record { lets = []; body = rowids_query }) (codes "rowid" ∷ codes "kind" ∷ codes "a" ∷ codes "b" ∷ codes "c" ∷ codes "body" ∷ [])
-unfolding understood everything
-rowids_are = refl
-
-pub rowids_unlisted : reads_listing record_schema rowids_text ≡ false
-unfolding understood everything
-rowids_unlisted = refl
-
-pub rowids_plain : IsPlain (understood record_schema rowids_text)
-unfolding understood everything
-rowids_plain = (refl, refl)
+reads_above false = record { means = record { command_is = refl; plain = (refl, refl) }; unlisted = refl }
+reads_above true = record { means = record { command_is = refl; plain = (refl, refl) }; unlisted = refl }

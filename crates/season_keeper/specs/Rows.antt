@@ -1,64 +1,74 @@
--- The rows of the table as records.
-use Rattle.std.specs.Prelude.{◌≡◌, ◌≢◌, ◌⊎◌, ℕ, ℤ, pos, List, [], ◌∷◌}
+-- The rows of the two tables as records.
+use Rattle.std.specs.Prelude.{◌≡◌, ◌≢◌, ◌⊎◌, ◌<◌, ℕ, ℤ, pos, List, [], ◌∷◌, ◌++◌}
 use Rattle.std.specs.List.{AllZip}
 use Rattle.sqlite_value.specs.declared.value.Value.TheVariants.{Int, Blob}
 use Rattle.sqlite_value.specs.Order.{Row, column}
 use Rattle.sqlite_trees.specs.Tree.{rowid}
 use Rattle.sqlite_rules.specs.Lists.{Has}
-use Rattle.sqlite.specs.Effect.{Database}
 use Rattle.fpl_base.specs.declared.records.RecordKey.{RecordKey as Key}
-use Rattle.season_keeper.specs.Table.{record_schema}
 
-abbrev pub key_row : Key → Row
-key_row k = Int (pos k.kind) ∷ Int (pos k.a) ∷ Int (pos k.b) ∷ Int (pos k.c) ∷ []
+-- what a row of `record` has behind its rowid
+abbrev pub record_values : Key → List ℕ → Row
+record_values k body = Int (pos k.kind) ∷ Int (pos k.a) ∷ Int (pos k.b) ∷ Int (pos k.c) ∷ Blob body ∷ []
 
-abbrev pub row_of : ℤ → Key → List ℕ → Row
-row_of id k body = Int id ∷ Int (pos k.kind) ∷ Int (pos k.a) ∷ Int (pos k.b) ∷ Int (pos k.c) ∷ Blob body ∷ []
+-- the key of a row of `line`
+pub record LineKey : Type 0 where
+  pub a : ℕ
+  pub b : ℕ
+  pub c : ℕ
 
-pub record IsRecord (r : Row) : Type 0 where
-  pub id : ℤ
-  pub key : Key
-  pub body : List ℕ
-  pub is : r ≡ row_of id key body
+-- it stands for a key of kind 5
+abbrev pub line_key : LineKey → Key
+line_key at = record { kind = 5; a = at.a; b = at.b; c = at.c }
 
--- each row is a record, and no rowid and no key comes twice
-pub record AreRecords (rows : List Row) : Type 0 where
-  pub each : (r : Row) → Has rows r → IsRecord r
-  pub ids : (r s : Row) → Has rows r → Has rows s → rowid r ≡ rowid s → r ≡ s
-  pub keys : (i j : ℤ) (k : Key) (x y : List ℕ) → Has rows (row_of i k x) → Has rows (row_of j k y) → row_of i k x ≡ row_of j k y
+-- what a row of `line` has behind its rowid
+abbrev pub line_values : LineKey → List ℕ → Row
+line_values at body = Int (pos at.a) ∷ Int (pos at.b) ∷ Int (pos at.c) ∷ Blob body ∷ []
 
--- the table has this body under this key
-abbrev pub Stores : List Row → Key → List ℕ → Type 0
-Stores rows k body = (id : ℤ) × Has rows (row_of id k body)
+module _ {K : Type 0} (values : K → List ℕ → Row) where
+  -- a row with a rowid, a key and a body
+  pub record IsRow (r : Row) : Type 0 where
+    pub id : ℤ
+    pub key : K
+    pub body : List ℕ
+    pub is : r ≡ Int id ∷ values key body
 
-pub record IsKept (db : Database) : Type 0 where
-  pub schema : db.schema ≡ record_schema
-  pub rows : AreRecords (db.trees 0)
+  -- each row is such a row, and no rowid comes twice
+  pub record AreRows (rows : List Row) : Type 0 where
+    pub each : (r : Row) → Has rows r → IsRow r
+    pub ids : (r s : Row) → Has rows r → Has rows s → rowid r ≡ rowid s → r ≡ s
 
-pub record Deleted (old new : List Row) (k : Key) : Type 0 where
-  pub gone : (other : Key) (body : List ℕ) → Stores new other body → (other ≢ k) × Stores old other body
-  pub kept : (other : Key) (body : List ℕ) → other ≢ k → Stores old other body → Stores new other body
+  -- the table has this body under this key
+  abbrev pub Stores : List Row → K → List ℕ → Type 0
+  Stores rows k body = (id : ℤ) × Has rows (Int id ∷ values k body)
 
-pub record Put (old new : List Row) (k : Key) (body : List ℕ) : Type 0 where
-  pub there : Stores new k body
-  pub others : (other : Key) (more : List ℕ) → other ≢ k → Stores new other more → Stores old other more
-  pub kept : (other : Key) (more : List ℕ) → other ≢ k → Stores old other more → Stores new other more
+-- the two tables have this body under this key: `record` under its key, `line` under its numbers where its kind is 5
+abbrev pub Stored : List Row → List Row → Key → List ℕ → Type 0
+Stored records lines k body = Stores record_values records k body ⊎ ((at : LineKey) × (k ≡ line_key at) × Stores line_values lines at body)
 
--- what a reading gives of a record
-abbrev pub put_row_of : Key → List ℕ → Row
-put_row_of k body = Int (pos k.kind) ∷ Int (pos k.a) ∷ Int (pos k.b) ∷ Int (pos k.c) ∷ Blob body ∷ []
+-- no key stands in both tables
+abbrev pub AreApart : List Row → List Row → Type 0
+AreApart records lines = (at : LineKey) (x y : List ℕ) → Stores record_values records (line_key at) x → Stores line_values lines at y → ⊥
 
--- the reading shows each record of the table, and no other row
-pub record IsReading (rows out : List Row) : Type 0 where
-  pub sound : (x : Row) → Has out x → (k : Key) × (body : List ℕ) × Stores rows k body × (x ≡ put_row_of k body)
-  pub complete : (k : Key) (body : List ℕ) → Stores rows k body → Has out (put_row_of k body)
+-- no key of kind 5 stands in `record`
+abbrev pub HasNoLine : List Row → Type 0
+HasNoLine records = (k : Key) (body : List ℕ) → Stores record_values records k body → k.kind ≢ 5
 
-abbrev pub AllRecords : List Row → Type 0
-AllRecords rows = (r : Row) → Has rows r → IsRecord r
+-- the kind of each record that the rows show stands so to 5
+abbrev pub AreOfKind : (ℕ → Type 0) → List Row → Type 0
+AreOfKind Stands rows = (k : Key) (body : List ℕ) → Has rows (record_values k body) → Stands k.kind
 
--- no rowid stands twice
-abbrev pub AreApart : List Row → Type 0
-AreApart rows = (r s : Row) → Has rows r → Has rows s → rowid r ≡ rowid s → r ≡ s
+-- The reading shows each record of the two tables, and no other row: those below kind 5, the lines, and those above.
+pub record IsReading (records lines out : List Row) : Type 0 where
+  pub below : List Row
+  pub between : List Row
+  pub above : List Row
+  pub all : out ≡ (below ++ between) ++ above
+  pub is_below : AreOfKind (λ kind. kind < 5) below
+  pub is_between : AreOfKind (λ kind. kind ≡ 5) between
+  pub is_above : AreOfKind (λ kind. 5 < kind) above
+  pub sound : (x : Row) → Has out x → (k : Key) × (body : List ℕ) × Stored records lines k body × (x ≡ record_values k body)
+  pub complete : (k : Key) (body : List ℕ) → Stored records lines k body → Has out (record_values k body)
 
 -- the row shows this record
 pub record Shows (row : Row) (pair : Key × List ℕ) : Type 0 where

@@ -1,4 +1,4 @@
-//! A keeper of the season's records over a table of a SQL database.
+//! A keeper of the season's records over two tables of a SQL database.
 #![tactic(auto)]
 
 mod batch;

@@ -5,7 +5,7 @@ ghost use Rattle.sqlite.specs.Held.{state};
 ghost use Rattle.fpl_base.specs.Causes.{Rose};
 ghost use Rattle.fpl_base.specs.declared.outside.KeeperFault.TheVariants as fault;
 ghost use Rattle.fpl_base.specs.Keeping.{Map, KeysRise, map_of};
-ghost use Rattle.season_keeper.specs.Holding.{Finds, Keeps, HoldsMap, MayPass, finds_one};
+ghost use Rattle.season_keeper.specs.Holding.{Store, Finds, Tells, Keeps, Moved, HoldsMap, MayLeave, finds_one};
 
 use crate::batch::apply;
 use crate::pairs::pairs_of;
@@ -15,8 +15,8 @@ use sqlite::{Alter, Connection, Error, ErrorCode};
 use std::alloc::Global;
 use std::marker::Model;
 
-/// A keeper over an open connection. It tells its records where the connection has no table yet, or the table with its
-/// columns and rules, as long as the disk returns what was written to it.
+/// A keeper over an open connection. It tells its records where each of its two tables is missing or has its columns
+/// and rules, and no key stands in both, as long as the disk returns what was written to it.
 #[derive(Drop)]
 pub struct SqlKeeper<S: Alter> {
     conn: Connection<S>,
@@ -74,18 +74,20 @@ impl<S: Alter> SqlKeeper<S> {
     }
 }
 
-// All records of the store, of which the table is made where it is not there. `None`: the store cannot be read so.
+// All records of the store, of which each table is made where it is not there, and the lines are moved to theirs.
+// `None`: the store cannot be read so.
 fn load_pairs<S: Alter>(
     conn: &mut Connection<S>,
     alloc: Global,
 ) -> Result<Option<Vec<(RecordKey, Bytes)>>, Error>
     ensures rise { IfOk result (λ found. IfSome found (λ pairs. KeysRise pairs.items)) }
-    ensures gave { HasCleanDisk (state S.Store conn.new) → (m : Map) → Finds (state S.Store conn.old).now false m → IfOk result (λ found. IfSome found (λ pairs. (m ≡ map_of pairs.items) × Keeps (state S.Store conn.new).now m)) }
+    ensures gave { HasCleanDisk (state S.Store conn.new) → Store (state S.Store conn.old).now
+        → IfOk result (λ found. IfSome found (λ pairs. Tells (state S.Store conn.old).now (map_of pairs.items) × Keeps (state S.Store conn.new).now (map_of pairs.items))) }
     ensures settled { HasCleanDisk (state S.Store conn.new) → IfOk result (λ found. IfSome found (λ pairs. IsTrue (state S.Store conn.new).is_open × ((state S.Store conn.new).in_transaction ≡ false) × ((state S.Store conn.new).committed ≡ (state S.Store conn.new).now))) }
     ensures whole { IsTrue (state S.Store conn.old).is_open → (state S.Store conn.old).in_transaction ≡ false → (state S.Store conn.old).now ≡ (state S.Store conn.old).committed }
     ensures autocommit { (state S.Store conn.old).in_transaction ≡ false → (state S.Store conn.new).in_transaction ≡ false }
     ensures kept { HasCleanDisk (state S.Store conn.new) → IsTrue (state S.Store conn.new).is_open → (ready : Bool) → (m : Map) → Finds (state S.Store conn.old).now ready m → Finds (state S.Store conn.new).now ready m }
-    ensures crash { Survives (state S.Store conn.old) (state S.Store conn.new) (λ trees. (db : _) × (trees ≡ db.trees) × ((m : Map) → Finds (state S.Store conn.old).now false m → Keeps db m)) }
+    ensures crash { Survives (state S.Store conn.old) (state S.Store conn.new) (λ trees. (db : _) × (trees ≡ db.trees) × Moved (state S.Store conn.old).now db) }
 {
     let Some(rows) = read_all(conn)? else {
         return Ok(None);
@@ -100,7 +102,7 @@ impl<S: Alter> Keeper for SqlKeeper<S> {
 
     ghost holds = { λ k m. HoldsMap (state S.Store k.conn) k.ready m };
 
-    ghost passes = { λ k. MayPass (state S.Store k.conn) k.ready };
+    ghost passes = { λ k. MayLeave (state S.Store k.conn) };
 
     ghost faults = { λ k. k.faults };
 

@@ -1,6 +1,6 @@
 use crate::{FileKeeper, SqlKeeper};
 use fpl_base::{Bytes, Keeper, KeeperFault, Op, RecordKey, Text};
-use sqlite::Connection;
+use sqlite::{Alter, Connection, Error, MemStore, params};
 use std::alloc::Global;
 use std::test::Fail;
 
@@ -70,5 +70,92 @@ fn batches_are_kept_in_a_file(rt: HostRuntime) -> Result<(), Fail> {
     assert!(rt; kept(&mut again, alloc)?.as_slice() == [(5, 2, 3), (5, 9, 5)].as_slice());
     let mut nowhere = FileKeeper::at(&rt, Text::new(alloc, "no/such/folder")?);
     assert!(rt; matches!(nowhere.load(alloc), Err(KeeperFault::Failed)));
+    Ok(())
+}
+
+// The key of a line.
+const LINE: RecordKey = RecordKey {
+    kind: 5,
+    a: 20,
+    b: 7,
+    c: 0,
+};
+
+// A line with 90 minutes and nothing else.
+fn figures() -> [u8; 56] {
+    let mut body = [0; 56];
+    body[1] = 90;
+    body
+}
+
+// A store in which only the table `record` is there, with this line and a record of another kind.
+fn old_store(alloc: Global) -> Result<Connection<MemStore>, Error> {
+    let mut conn = Connection::open_in_memory(alloc)?;
+    conn.execute(
+        "CREATE TABLE record (kind INTEGER NOT NULL, a INTEGER NOT NULL, b INTEGER NOT NULL, c INTEGER NOT NULL, body BLOB NOT NULL, PRIMARY KEY (kind, a, b, c)) STRICT",
+        &[],
+    )?;
+    let body = figures();
+    conn.execute(
+        "INSERT INTO record VALUES (5, 20, 7, 0, ?1), (6, 1, 2, 3, x'09')",
+        params![body.as_slice()],
+    )?;
+    Ok(conn)
+}
+
+// How many rows the query shows.
+fn count<S: Alter>(conn: &mut Connection<S>, sql: &str) -> Result<usize, Error> {
+    Ok(conn.query_all(sql, &[])?.len())
+}
+
+// How many rows `line` has, and how many lines `record`.
+fn lines_in<S: Alter>(conn: &mut Connection<S>) -> Result<(usize, usize), Error> {
+    let lines = count(conn, "SELECT a FROM line WHERE a = 20 AND b = 7 AND c = 0")?;
+    Ok((lines, count(conn, "SELECT a FROM record WHERE kind = 5")?))
+}
+
+// Whether the keeper gives the line with this body, and then the record of the other kind, and nothing else.
+fn shows_line<K: Keeper>(keeper: &mut K, alloc: Global, body: &[u8]) -> Result<bool, Fail> {
+    let pairs = keeper.load(alloc).map_err(|_| "no records")?;
+    let line = pairs.first().ok_or("no line")?;
+    let is_line = line.0 == LINE && line.1.as_slice() == body;
+    Ok(is_line && pairs.len() == 2 && pairs[1].0.kind == 6)
+}
+
+// Whether a put of the line takes the place of its body, and a deletion leaves the other record alone.
+fn changes_line<K: Keeper>(keeper: &mut K, alloc: Global) -> Result<bool, Fail> {
+    let body = vec![in alloc; 1, 2, 3]?;
+    let put = vec![in alloc; Op::Put(LINE, Bytes::from_vec(body))]?;
+    keeper.commit(alloc, &put).map_err(|_| "no put")?;
+    let is_put = shows_line(keeper, alloc, &[1, 2, 3])?;
+    let delete = vec![in alloc; Op::Delete(LINE)]?;
+    keeper.commit(alloc, &delete).map_err(|_| "no deletion")?;
+    Ok(is_put && kept(keeper, alloc)?.as_slice() == [(6, 3, 9)].as_slice())
+}
+
+#[test]
+fn lines_are_moved(rt: HostRuntime) -> Result<(), Fail> {
+    let alloc = rt.alloc();
+    let mut keeper = SqlKeeper::over(old_store(alloc)?);
+    assert!(rt; shows_line(&mut keeper, alloc, &figures())?);
+    let mut conn = keeper.into_connection();
+    assert!(rt; lines_in(&mut conn)? == (1, 0));
+    let mut keeper = SqlKeeper::over(conn);
+    assert!(rt; shows_line(&mut keeper, alloc, &figures())? && changes_line(&mut keeper, alloc)?);
+    assert!(rt; lines_in(&mut keeper.into_connection())? == (0, 0));
+    Ok(())
+}
+
+#[test]
+fn a_line_in_both_tables_is_a_fault(rt: HostRuntime) -> Result<(), Fail> {
+    let alloc = rt.alloc();
+    let mut keeper = SqlKeeper::over(old_store(alloc)?);
+    assert!(rt; keeper.load(alloc).is_ok());
+    let mut conn = keeper.into_connection();
+    conn.execute("INSERT INTO record VALUES (5, 20, 7, 0, x'01')", &[])?;
+    let mut keeper = SqlKeeper::over(conn);
+    assert!(rt; matches!(keeper.load(alloc), Err(KeeperFault::Failed)));
+    assert!(rt; matches!(keeper.load(alloc), Err(KeeperFault::Failed)));
+    assert!(rt; lines_in(&mut keeper.into_connection())? == (1, 1));
     Ok(())
 }

@@ -1,7 +1,8 @@
 use Rattle.std.proofs.Common.{◌≡◌, true, take}
 use Rattle.sqlite.specs.State.{HasCleanDisk, Survives}
 use Rattle.sqlite.specs.Held.{state}
-use Rattle.season_keeper.proofs.Batches.{Inside, Applied}
+use Rattle.season_keeper.specs.Holding.{Inside}
+use Rattle.season_keeper.proofs.Batches.{Applied}
 use Rattle.season_keeper.proofs.batch.apply.Given as goal
 
 abbrev pub invariant-each : goal.invariant-each

@@ -1,4 +1,4 @@
-use Rattle.std.proofs.Common.{rules, ◌≡◌, sym, subst, refl, IsTrue}
+use Rattle.std.proofs.Common.{rules, sym, subst, refl, IsTrue}
 use Rattle.std.proofs.lemmas.List.Quantifiers.{all_pairs_push}
 use Rattle.fpl_base.specs.Keeping.{KeysRise, precedes}
 use Rattle.season_keeper.proofs.Pairing.{show_more}
