@@ -1,10 +1,11 @@
 -- What is found by id, or by number, once another was put in or changed.
-use Rattle.std.proofs.Common.{◌≡◌, ◌+◌, ◌-◌, ◌<◌, ◌≤◌, ◌==◌, ℕ, zero, suc, Bool, true, false, cond, List, [], ◌∷◌, ◌++◌, Option, Some, None, filter, find, map, length, nat_lt, nat_eq, arith, refl, sym, ap, ◌∙◌, ⊎_elim, if◌then◌else◌, slice_get}
-use Rattle.std.specs.Option.{option_map, option_or}
+use Rattle.std.proofs.Common.{◌≡◌, ◌+◌, ◌-◌, ◌<◌, ◌≤◌, ◌==◌, ℕ, zero, suc, Bool, true, false, ◌||◌, cond, List, [], ◌∷◌, ◌++◌, Option, Some, None, filter, find, map, length, nat_lt, nat_eq, arith, refl, sym, ap, ◌∙◌, ⊎_elim, if◌then◌else◌, slice_get}
+use Rattle.std.specs.List.{list_any}
+use Rattle.std.specs.Option.{option_or}
 use Rattle.std.proofs.lemmas.Bool.{cases_lt}
-use Rattle.std.proofs.lemmas.Option.{none-some, same_Some, slice_get_past}
+use Rattle.std.proofs.lemmas.Option.{slice_get_past}
 use Rattle.std.proofs.lemmas.Bool.Decides.{nat_tests}
-use Rattle.std.proofs.lemmas.List.Folds.{find-append}
+use Rattle.std.proofs.lemmas.List.Folds.{find-append, list_any-append}
 use Rattle.rule_book.specs.Entries.{changed_in, entry_in}
 
 module _ {X : Type 0} where
@@ -37,20 +38,30 @@ module _ {X : Type 0} where
   found_unchanged id change keeps k q other (x ∷ xs) = grind (arith, nat_tests, keeps x, other, found_unchanged id change keeps k q other xs)
 
   -- by number: entry 1 is the first
-  pub at_number : (xs : List X) (n : ℕ) → entry_in xs (suc n) ≡ slice_get xs n
+  at_number : (xs : List X) (n : ℕ) → entry_in xs (suc n) ≡ slice_get xs n
   at_number xs n = let f : nat_eq (suc n) 0 ≡ false = grind (arith, nat_tests) in let m : suc n - 1 ≡ n = omega arith in rw (f, m) refl
 
-  -- where what is looked up in lists is the same at each place, so it is at each number
-  pub numbered : {Y : Type 0} (xs : List X) (ys : List Y) {Z : Type 0} (look : Option X → Z) (also : Option Y → Z) → look None ≡ also None → (n : ℕ)
-      → ((m : ℕ) → n ≡ suc m → look (slice_get xs m) ≡ also (slice_get ys m)) → look (entry_in xs n) ≡ also (entry_in ys n)
-  numbered xs ys look also none zero same = none
-  numbered xs ys look also none (suc m) same = ap look (at_number xs m) ∙ same m refl ∙ sym (ap also (number_at ys m))
-    where
-      number_at : {Y : Type 0} (ys : List Y) (n : ℕ) → entry_in ys (suc n) ≡ slice_get ys n
-      number_at ys n = let f : nat_eq (suc n) 0 ≡ false = grind (arith, nat_tests) in let m : suc n - 1 ≡ n = omega arith in rw (f, m) refl
+  -- what is looked up in lists by number is the same where it is at each place
+  numbered : {Y : Type 0} (look : Option X → Y) (xs ys : List X) (n : ℕ) → ((m : ℕ) → n ≡ suc m → look (slice_get xs m) ≡ look (slice_get ys m))
+      → look (entry_in xs n) ≡ look (entry_in ys n)
+  numbered look xs ys zero same = refl
+  numbered look xs ys (suc m) same = ap look (at_number xs m) ∙ same m refl ∙ sym (ap look (at_number ys m))
 
-  -- some more at the end: other places stay
-  placed_beside : (xs more : List X) (n : ℕ) → ((length xs ≤ n) → n < length xs + length more → ⊥) → slice_get xs n ≡ slice_get (xs ++ more) n
+  -- one more at the end
+  placed_more : {Y : Type 0} (look : Option X → Y) (xs : List X) (new : X) (n : ℕ) → (n ≡ length xs → look None ≡ look (Some new))
+      → look (slice_get xs n) ≡ look (slice_get (xs ++ new ∷ []) n)
+  placed_more look [] new zero blank = blank refl
+  placed_more look [] new (suc n) blank = refl
+  placed_more look (x ∷ xs) new zero blank = refl
+  placed_more look (x ∷ xs) new (suc n) blank = placed_more look xs new n (λ is. blank (ap suc is))
+
+  pub numbered_more : {Y : Type 0} (look : Option X → Y) (xs : List X) (new : X) (n : ℕ) → (n ≡ length xs + 1 → look None ≡ look (Some new))
+      → look (entry_in xs n) ≡ look (entry_in (xs ++ new ∷ []) n)
+  numbered_more look xs new n blank =
+      numbered look xs (xs ++ new ∷ []) n (λ m is. placed_more look xs new m (λ last. blank (omega (arith, is, last))))
+
+  -- some more at the end: the other places stay
+  placed_beside : (xs more : List X) (n : ℕ) → (length xs ≤ n → n < length xs + length more → ⊥) → slice_get xs n ≡ slice_get (xs ++ more) n
   placed_beside [] more n other = sym (slice_get_past more n (no_less (length more) n (λ lt. other (omega arith) (omega (arith, lt)))))
     where
       no_less : (k n : ℕ) → (n < k → ⊥) → k ≤ n
@@ -60,46 +71,41 @@ module _ {X : Type 0} where
 
   pub numbered_beside : (xs more : List X) (n : ℕ) → (length xs < n → n ≤ length xs + length more → ⊥) → entry_in xs n ≡ entry_in (xs ++ more) n
   numbered_beside xs more n other =
-      numbered xs (xs ++ more) (λ o. o) (λ o. o) refl n (λ m is. placed_beside xs more m (λ le lt. other (omega (arith, is, le)) (omega (arith, is, lt))))
+      numbered (λ o. o) xs (xs ++ more) n (λ m is. placed_beside xs more m (λ le lt. other (omega (arith, is, le)) (omega (arith, is, lt))))
 
-  -- one changed: others stay
-  placed_others : (change : X → X) (xs : List X) (k n : ℕ) → (n ≡ k → ⊥) → slice_get xs n ≡ slice_get (changed_in change xs (suc k)) n
-  placed_others change [] k n other = refl
-  placed_others change (x ∷ xs) zero zero other = absurd (other refl)
-  placed_others change (x ∷ xs) zero (suc n) other = refl
-  placed_others change (x ∷ xs) (suc k) zero other = refl
-  placed_others change (x ∷ xs) (suc k) (suc n) other = placed_others change xs k n (λ same. other (ap suc same))
+  -- one changed
+  placed_changed : {Y : Type 0} (look : Option X → Y) (change : X → X) (xs : List X) (k n : ℕ)
+      → (n ≡ k → (x : X) → slice_get xs k ≡ Some x → look (Some x) ≡ look (Some (change x)))
+      → look (slice_get xs n) ≡ look (slice_get (changed_in change xs (suc k)) n)
+  placed_changed look change [] k n keeps = refl
+  placed_changed look change (x ∷ xs) zero zero keeps = keeps refl x refl
+  placed_changed look change (x ∷ xs) zero (suc n) keeps = refl
+  placed_changed look change (x ∷ xs) (suc k) zero keeps = refl
+  placed_changed look change (x ∷ xs) (suc k) (suc n) keeps = placed_changed look change xs k n (λ is. keeps (ap suc is))
 
   nothing_changed : (change : X → X) (xs : List X) → changed_in change xs zero ≡ xs
   nothing_changed change [] = refl
   nothing_changed change (x ∷ xs) = refl
 
-  pub numbered_others : (change : X → X) (xs : List X) (k n : ℕ) → (n ≡ k → ⊥) → entry_in xs n ≡ entry_in (changed_in change xs k) n
-  numbered_others change xs zero n other = ap (λ xs. entry_in xs n) (sym (nothing_changed change xs))
-  numbered_others change xs (suc k) n other =
-      numbered xs (changed_in change xs (suc k)) (λ o. o) (λ o. o) refl n (λ m is. placed_others change xs k m (λ same. other (is ∙ ap suc same)))
+  pub numbered_changed : {Y : Type 0} (look : Option X → Y) (change : X → X) (xs : List X) (k n : ℕ)
+      → (n ≡ k → (x : X) → entry_in xs k ≡ Some x → look (Some x) ≡ look (Some (change x)))
+      → look (entry_in xs n) ≡ look (entry_in (changed_in change xs k) n)
+  numbered_changed look change xs zero n keeps = ap (λ xs. look (entry_in xs n)) (sym (nothing_changed change xs))
+  numbered_changed look change xs (suc k) n keeps =
+      numbered look xs (changed_in change xs (suc k)) n (λ m is.
+      placed_changed look change xs k m (λ same x at. keeps (is ∙ ap suc same) x (at_number xs k ∙ at)))
 
-  -- and the one is changed
-  placed_here : (change : X → X) (xs : List X) (k : ℕ) (x : X) → slice_get xs k ≡ Some x → slice_get (changed_in change xs (suc k)) k ≡ Some (change x)
-  placed_here change [] k x at = absurd (none-some x at)
-  placed_here change (y ∷ xs) zero x at = ap (λ z. Some (change z)) (same_Some y x at)
-  placed_here change (y ∷ xs) (suc k) x at = placed_here change xs k x at
+-- a member beside another
+pub member_beside : (members : List ℕ) (e x : ℕ) → (x ≡ e → ⊥)
+    → list_any (λ m. m == x) members ≡ list_any (λ m. m == x) (filter (λ m. nat_lt m e) members ++ e ∷ filter (λ m. nat_lt e m) members)
+member_beside members e x other =
+    any_parts members
+    ∙ sym (list_any-append (λ m. m == x) (filter (λ m. nat_lt m e) members) (e ∷ filter (λ m. nat_lt e m) members)
+    ∙ ap (λ b. list_any (λ m. m == x) (filter (λ m. nat_lt m e) members) || (b || list_any (λ m. m == x) (filter (λ m. nat_lt e m) members))) not_new)
+  where
+    not_new : (e == x) ≡ false
+    not_new = grind (arith, nat_tests, other)
 
-  pub numbered_here : (change : X → X) (xs : List X) (k : ℕ) (x : X) → entry_in xs k ≡ Some x → entry_in (changed_in change xs k) k ≡ Some (change x)
-  numbered_here change xs zero x at = absurd (none-some x at)
-  numbered_here change xs (suc k) x at = at_number (changed_in change xs (suc k)) k ∙ placed_here change xs k x (sym (at_number xs k) ∙ at)
-
-  -- what is looked at stays where the change keeps it
-  placed_kept : {Y : Type 0} (look : X → Y) (change : X → X) (xs : List X) (k n : ℕ) → ((x : X) → look x ≡ look (change x))
-      → option_map look (slice_get xs n) ≡ option_map look (slice_get (changed_in change xs (suc k)) n)
-  placed_kept look change [] k n keeps = refl
-  placed_kept look change (x ∷ xs) zero zero keeps = ap Some (keeps x)
-  placed_kept look change (x ∷ xs) zero (suc n) keeps = refl
-  placed_kept look change (x ∷ xs) (suc k) zero keeps = refl
-  placed_kept look change (x ∷ xs) (suc k) (suc n) keeps = placed_kept look change xs k n keeps
-
-  pub numbered_kept : {Y : Type 0} (look : X → Y) (change : X → X) (xs : List X) (k n : ℕ) → ((x : X) → look x ≡ look (change x))
-      → option_map look (entry_in xs n) ≡ option_map look (entry_in (changed_in change xs k) n)
-  numbered_kept look change xs zero n keeps = ap (λ xs. option_map look (entry_in xs n)) (sym (nothing_changed change xs))
-  numbered_kept look change xs (suc k) n keeps =
-      numbered xs (changed_in change xs (suc k)) (option_map look) (option_map look) refl n (λ m is. placed_kept look change xs k m keeps)
+    any_parts : (ms : List ℕ) → list_any (λ m. m == x) ms ≡ (list_any (λ m. m == x) (filter (λ m. nat_lt m e) ms) || list_any (λ m. m == x) (filter (λ m. nat_lt e m) ms))
+    any_parts [] = refl
+    any_parts (m ∷ ms) = grind (arith, nat_tests, other, any_parts ms)
