@@ -1,7 +1,9 @@
 pub mod BookFacts
+pub mod Deeds
 pub mod FactCommands
 pub mod Finds
 pub mod Histories
+pub mod Kept
 pub mod LeagueFacts
 pub mod Puts
 pub mod Sheets

@@ -1,10 +1,11 @@
 -- That what a command touched, as the book behind it tells it, leads from the records of the book before to those of the
 -- book behind.
-use Rattle.std.specs.Prelude.{◌≡◌, ℕ, List, Ok}
+use Rattle.std.specs.Prelude.{◌≡◌, ℕ, List, Some, Ok}
 use Rattle.fpl_base.specs.Keeping.{applied}
 use Rattle.fpl_base.specs.declared.kinds.Caller.{Caller}
+use Rattle.rule_book.specs.Calendar.{after_pass}
 use Rattle.rule_book.specs.HistoryRules.{NoneAfter}
-use Rattle.season_book.specs.Book.{Book, caller_number}
+use Rattle.season_book.specs.Book.{Book, Facts, caller_number}
 use Rattle.season_book.specs.Commands.{part_of}
 use Rattle.season_book.specs.LeagueViews.{history_of}
 use Rattle.season_book.specs.Verdict.{Outcome, accepted, pass, ruled}
@@ -25,3 +26,14 @@ CommandsKeepRecords =
     → ruled operator book caller now command ≡ Ok outcome
     → let after : Book = accepted caller number command outcome in
     applied (records book) (batch (told after) (touched book caller command)) ≡ records after
+
+-- of a moment's locks
+abbrev pub LocksKeepRecords : Type 0
+LocksKeepRecords = (book : Book) (now : ℕ)
+    → applied (records book) (batch (told (pass book now)) locked_slots) ≡ records (pass book now)
+
+-- where a moment locks no gameweek that was open, the book stays, and nothing is to be committed
+abbrev pub NoLockLeavesBook : Type 0
+NoLockLeavesBook = (book : Book) (now : ℕ)
+    → ((facts : Facts) → book.facts ≡ Some facts → (after_pass facts.calendar now).locked ≡ facts.calendar.locked)
+    → pass book now ≡ book

@@ -4,4 +4,4 @@
 
 mod laws;
 
-pub use laws::commands_keep_records;
+pub use laws::{commands_keep_records, locks_keep_records};
