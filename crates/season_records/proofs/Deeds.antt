@@ -45,12 +45,12 @@ use Rattle.season_records.specs.Keeping.{IsEarly}
 use Rattle.season_records.specs.Records.{entry_item, team_told, told, transfer_told}
 use Rattle.season_records.specs.Touched.{gameweek_of, touched_by, transfers_made}
 use Rattle.season_records.proofs.BookFacts.{Keeps, Leaves}
-use Rattle.season_records.proofs.Finds.{numbered_changed}
+use Rattle.season_records.proofs.Finds.{numbered_changed, numbered_here}
 use Rattle.season_records.proofs.Histories.{team_stays, transfers_grow, transfers_stay}
 use Rattle.season_records.proofs.Puts.{touches}
 
 -- the entry of a number, with another history
-abbrev with : List Event → EntryFacts → EntryFacts
+abbrev pub with : List Event → EntryFacts → EntryFacts
 with h entry = record entry { history = h }
 
 one_changed : (entries : List EntryFacts) (e : ℕ) (h : List Event) → histories_with entries e h ≡ changed_in (with h) entries e
@@ -59,8 +59,12 @@ one_changed (entry ∷ entries) zero h = refl
 one_changed (entry ∷ entries) (suc zero) h = refl
 one_changed (entry ∷ entries) (suc (suc e)) h = ap (λ more. entry ∷ more) (one_changed entries (suc e) h)
 
+pub one_here : (entries : List EntryFacts) (e : ℕ) (h : List Event) (entry : EntryFacts) → entry_in entries e ≡ Some entry
+    → entry_in (histories_with entries e h) e ≡ Some (with h entry)
+one_here entries e h entry at = ap (λ entries. entry_in entries e) (one_changed entries e h) ∙ numbered_here (with h) entries e entry at
+
 -- what is told of an entry stays where it is told of its new history
-entry_kept : {Y : Type 0} (look : Option EntryFacts → Y) (entries : List EntryFacts) (e q : ℕ) (h : List Event) (entry : EntryFacts) → entry_in entries e ≡ Some entry
+pub entry_kept : {Y : Type 0} (look : Option EntryFacts → Y) (entries : List EntryFacts) (e q : ℕ) (h : List Event) (entry : EntryFacts) → entry_in entries e ≡ Some entry
     → (q ≡ e → look (Some entry) ≡ look (Some (with h entry))) → look (entry_in entries q) ≡ look (entry_in (histories_with entries e h) q)
 entry_kept look entries e q h entry at same =
     numbered_changed look (with h) entries e q (λ is x found.
@@ -193,7 +197,7 @@ module _ (book : Book) (e : ℕ) (facts : Facts) (early : IsEarly book e) where
 
 -- What a manager's command leads to.
 
-next_seen : (calendar : CalendarFacts) (g : ℕ) → next_gameweek calendar ≡ Some g → g ≡ gameweek_seen calendar
+pub next_seen : (calendar : CalendarFacts) (g : ℕ) → next_gameweek calendar ≡ Some g → g ≡ gameweek_seen calendar
 next_seen calendar g next =
     let both = cond_some (nat_lt calendar.locked (length calendar.deadlines)) (calendar.locked + 1) g next in
     grind (arith, nat_tests, both.0, both.1)
@@ -211,10 +215,10 @@ module _ (book : Book) (e : ℕ) (command : Command) (deed : part_of command ≡
       let seen : gameweek_of book ≡ g = ap (λ some. option_map_or (λ (facts : Facts). gameweek_seen facts.calendar) some 0) there ∙ sym (next_seen facts.calendar g is) in
       let own : history_of book.entries e ≡ entry.history = ap (λ o. option_map_or (λ (entry : EntryFacts). entry.history) o []) at in
       let alike : (h : List Event) (g : ℕ) → history_of book.entries e ≡ h → gameweek_of book ≡ g → refused_in facts h command g ≡ None
-          → TellAlike slots e h (h ++ in_gameweek g (deeds_in facts h command g)) =
-          λ h g own seen. subst (λ h. refused_in facts h command g ≡ None → TellAlike slots e h (h ++ in_gameweek g (deeds_in facts h command g))) own
-          (subst (λ g. refused_in facts (history_of book.entries e) command g ≡ None → TellAlike slots e (history_of book.entries e) (history_of book.entries e ++ in_gameweek g (deeds_in facts (history_of book.entries e) command g))) seen
-          (deeds_alike book e facts early command deed)) in
+      → TellAlike slots e h (h ++ in_gameweek g (deeds_in facts h command g)) =
+      λ h g own seen. subst (λ h. refused_in facts h command g ≡ None → TellAlike slots e h (h ++ in_gameweek g (deeds_in facts h command g))) own
+      (subst (λ g. refused_in facts (history_of book.entries e) command g ≡ None → TellAlike slots e (history_of book.entries e) (history_of book.entries e ++ in_gameweek g (deeds_in facts (history_of book.entries e) command g))) seen
+      (deeds_alike book e facts early command deed)) in
       history_keeps slots book e entry (entry.history ++ in_gameweek g (deeds_in facts entry.history command g)) at (alike entry.history g own seen unbroken)
 
   named_leaves : (facts : Facts) (entry : EntryFacts) (named : Bool) (broken : Option Rule) → book.facts ≡ Some facts → entry_in book.entries e ≡ Some entry

@@ -3,7 +3,7 @@ use Rattle.std.proofs.Common.{◌≡◌, ◌+◌, ◌-◌, ◌<◌, ◌≤◌, �
 use Rattle.std.specs.List.{list_any}
 use Rattle.std.specs.Option.{option_or}
 use Rattle.std.proofs.lemmas.Bool.{cases_lt}
-use Rattle.std.proofs.lemmas.Option.{slice_get_past}
+use Rattle.std.proofs.lemmas.Option.{none-some, same_Some, slice_get_past}
 use Rattle.std.proofs.lemmas.Bool.Decides.{nat_tests}
 use Rattle.std.proofs.lemmas.List.Folds.{find-append, list_any-append}
 use Rattle.rule_book.specs.Entries.{changed_in, entry_in}
@@ -94,6 +94,15 @@ module _ {X : Type 0} where
   numbered_changed look change xs (suc k) n keeps =
       numbered look xs (changed_in change xs (suc k)) n (λ m is.
       placed_changed look change xs k m (λ same x at. keeps (is ∙ ap suc same) x (at_number xs k ∙ at)))
+
+  placed_here : (change : X → X) (xs : List X) (k : ℕ) (x : X) → slice_get xs k ≡ Some x → slice_get (changed_in change xs (suc k)) k ≡ Some (change x)
+  placed_here change [] k x at = absurd (none-some x at)
+  placed_here change (y ∷ xs) zero x at = ap (λ z. Some (change z)) (same_Some y x at)
+  placed_here change (y ∷ xs) (suc k) x at = placed_here change xs k x at
+
+  pub numbered_here : (change : X → X) (xs : List X) (k : ℕ) (x : X) → entry_in xs k ≡ Some x → entry_in (changed_in change xs k) k ≡ Some (change x)
+  numbered_here change xs zero x at = absurd (none-some x at)
+  numbered_here change xs (suc k) x at = at_number (changed_in change xs (suc k)) k ∙ placed_here change xs k x (sym (at_number xs k) ∙ at)
 
 -- a member beside another
 pub member_beside : (members : List ℕ) (e x : ℕ) → (x ≡ e → ⊥)

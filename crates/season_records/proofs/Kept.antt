@@ -1,20 +1,23 @@
 -- The records of the book behind a command, and behind a moment's locks.
-use Rattle.std.proofs.Common.{◌≡◌, ℕ, Bool, true, false, List, [], ◌∷◌, Option, Some, None, refl, sym, ap, subst, ◌∙◌, true≢false}
-use Rattle.std.specs.Prelude.{Ok}
+use Rattle.std.proofs.Common.{◌≡◌, ℕ, Bool, true, false, List, [], ◌∷◌, Option, Some, None, refl, sym, ap, subst, ◌∙◌, true≢false, inl, inr}
+use Rattle.std.specs.Prelude.{Result, Ok, Err}
 use Rattle.std.specs.Option.{option_map, option_and_then}
 use Rattle.fpl_base.specs.declared.kinds.Caller.{Caller}
+use Rattle.fpl_base.specs.declared.rule.Rule.{Rule}
 use Rattle.rule_book.specs.Calendar.{after_pass}
-use Rattle.season_book.specs.Book.{Book, Facts, caller_number}
+use Rattle.season_book.specs.Book.{Book, Facts, caller_number, last_number}
 use Rattle.season_book.specs.Commands.{part_of}
 use Rattle.season_book.specs.declared.command.Command.{Command}
 use Rattle.season_book.specs.declared.command.Command.TheVariants as command
 use Rattle.season_book.specs.declared.part.Part.TheVariants as part
-use Rattle.season_book.specs.Verdict.{Outcome, accepted, locked_at, pass, ruled}
+use Rattle.season_book.specs.Verdict.{Outcome, Verdict, accepted, fresh_verdict, locked_at, number_refusal, pass, ruled, settled, unless_misnumbered}
+use Rattle.season_book.specs.declared.answer.Answer.{Answer}
+use Rattle.season_book.specs.declared.request.Request.TheVariants as request
 use Rattle.record_codec.specs.Keys.{key_of}
 use Rattle.record_codec.specs.declared.item.Item.{Item}
 use Rattle.record_codec.specs.declared.slot.Slot.{Slot}
 use Rattle.record_codec.specs.declared.slot.Slot.TheVariants as slot
-use Rattle.season_records.specs.Keeping.{CommandsKeepRecords, IsEarly, LocksKeepRecords, NoLockLeavesBook}
+use Rattle.season_records.specs.Keeping.{AsksInTime, CommandsKeepRecords, IsInTime, Leads, LocksKeepRecords, NoLockLeavesBook, RestsKeepRecords, VerdictsKeepRecords}
 use Rattle.season_records.specs.Records.{told, told_in}
 use Rattle.season_records.specs.Touched.{locked_slots, touched, touched_by}
 use Rattle.season_records.proofs.BookFacts.{Keeps, Leaves, facts_kept, facts_leave, with_last_keeps}
@@ -27,7 +30,7 @@ module _ (operator : List ℕ) (book : Book) (caller : Caller) (now : ℕ) where
   abbrev e : ℕ
   e = caller_number caller
 
-  pub leaves : (command : Command) → (part_of command ≡ part.Deeds → IsEarly book e) → Leaves (touched_by book e command) book (ruled operator book caller now command)
+  pub leaves : (command : Command) → IsInTime book caller command → Leaves (touched_by book e command) book (ruled operator book caller now command)
   leaves (command.Key key name) early = key_leaves operator book e key name
   leaves (command.Squad players captain vice) early = deeds_leave book caller (command.Squad players captain vice) refl (early refl)
   leaves (command.Transfers swaps) early = deeds_leave book caller (command.Transfers swaps) refl (early refl)
@@ -41,7 +44,7 @@ module _ (operator : List ℕ) (book : Book) (caller : Caller) (now : ℕ) where
   leaves command early = facts_leave book e now command
 
 pub accepted_keeps : (operator : List ℕ) (book : Book) (caller : Caller) (now number : ℕ) (command : Command) (outcome : Outcome)
-    → (part_of command ≡ part.Deeds → IsEarly book (caller_number caller)) → ruled operator book caller now command ≡ Ok outcome
+    → IsInTime book caller command → ruled operator book caller now command ≡ Ok outcome
     → Keeps (touched book caller command) book (accepted caller number command outcome)
 accepted_keeps operator book caller now number command outcome early is =
     with_last_keeps book caller number command outcome (touched_by book (caller_number caller) command)
@@ -51,6 +54,36 @@ pub commands_keep_records : CommandsKeepRecords
 commands_keep_records operator book caller now number command outcome early is =
     puts (told book) (told (accepted caller number command outcome)) (touched book caller command)
     (accepted_keeps operator book caller now number command outcome early is)
+
+-- Each verdict.
+
+pub rests_keep_records : RestsKeepRecords
+rests_keep_records slots book = puts (told book) (told book) slots (λ s apart. refl)
+
+stays_in : (slots : List Slot) (book behind : Book) → behind ≡ book → Leads slots book behind
+stays_in slots book behind is = subst (Leads slots book) (sym is) (rests_keep_records slots book)
+
+module _ (operator : List ℕ) (book : Book) (caller : Caller) (now number : ℕ) (command : Command) (in_time : IsInTime book caller command) where
+  settled_leads : (due : Result Outcome Answer) → ruled operator book caller now command ≡ due → Leads (touched book caller command) book (settled book caller number command due).book
+  settled_leads (Err refused) is = rests_keep_records (touched book caller command) book
+  settled_leads (Ok outcome) is = commands_keep_records operator book caller now number command outcome in_time is
+
+  numbered_leads : (broken : Option Rule) (verdict : Verdict) → Leads (touched book caller command) book verdict.book
+      → Leads (touched book caller command) book (unless_misnumbered broken book verdict).book
+  numbered_leads (Some broken) verdict leads = rests_keep_records (touched book caller command) book
+  numbered_leads None verdict leads = leads
+
+  fresh_leads : Leads (touched book caller command) book (fresh_verdict operator book caller now number command).book
+  fresh_leads =
+      numbered_leads (number_refusal (last_number book caller) number) (settled book caller number command (ruled operator book caller now command))
+      (settled_leads (ruled operator book caller now command) refl)
+
+pub verdicts_keep_records : VerdictsKeepRecords
+verdicts_keep_records operator book caller now (request.View view) verdict in_time is = stays_in [] book verdict.book (ap (λ (v : Verdict). v.book) is)
+verdicts_keep_records operator book caller now (request.Command number command) verdict in_time (inl (made, again, is)) =
+    stays_in (touched book caller command) book verdict.book (ap (λ (v : Verdict). v.book) is)
+verdicts_keep_records operator book caller now (request.Command number command) verdict in_time (inr (fresh, is)) =
+    subst (Leads (touched book caller command) book) (sym (ap (λ (v : Verdict). v.book) is)) (fresh_leads operator book caller now number command in_time)
 
 -- The moment's locks.
 

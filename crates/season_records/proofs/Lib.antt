@@ -1,5 +1,7 @@
 pub mod BookFacts
+pub mod Commits
 pub mod Deeds
+pub mod Early
 pub mod FactCommands
 pub mod Finds
 pub mod Histories

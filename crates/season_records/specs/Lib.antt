@@ -1,3 +1,4 @@
+pub mod Commits
 pub mod Keeping
 pub mod Records
 pub mod Touched

@@ -13,6 +13,8 @@ use Rattle.season_book.specs.EntryViews.{gameweek_seen}
 use Rattle.season_book.specs.LeagueViews.{history_of}
 use Rattle.season_book.specs.declared.command.Command.{Command}
 use Rattle.season_book.specs.declared.command.Command.TheVariants as command
+use Rattle.season_book.specs.declared.request.Request.{Request}
+use Rattle.season_book.specs.declared.request.Request.TheVariants as request
 use Rattle.record_codec.specs.Items.{body_of}
 use Rattle.record_codec.specs.Keys.{key_of}
 use Rattle.record_codec.specs.declared.item.Item.{Item}
@@ -64,6 +66,11 @@ touched_by book e (command.Cup start slots coins) = slot.Cup (length book.cups +
 -- with the caller's last command
 abbrev pub touched : Book → Caller → Command → List Slot
 touched book caller command = slot.Last (caller_number caller) ∷ touched_by book (caller_number caller) command
+
+-- those that a request may change: a view changes none
+abbrev pub touched_in : Book → Caller → Request → List Slot
+touched_in book caller (request.View view) = []
+touched_in book caller (request.Command number command) = touched book caller command
 
 -- those that a moment may change: gameweeks are locked
 abbrev pub locked_slots : List Slot

@@ -4,4 +4,7 @@
 
 mod laws;
 
-pub use laws::{commands_keep_records, locks_keep_records};
+pub use laws::{
+    books_are_early, commands_keep_records, commits_hold_one, locks_keep_records,
+    verdicts_keep_records,
+};
