@@ -38,7 +38,7 @@ module _ {X : Type 0} where
   found_unchanged id change keeps k q other (x ∷ xs) = grind (arith, nat_tests, keeps x, other, found_unchanged id change keeps k q other xs)
 
   -- by number: entry 1 is the first
-  at_number : (xs : List X) (n : ℕ) → entry_in xs (suc n) ≡ slice_get xs n
+  pub at_number : (xs : List X) (n : ℕ) → entry_in xs (suc n) ≡ slice_get xs n
   at_number xs n = let f : nat_eq (suc n) 0 ≡ false = grind (arith, nat_tests) in let m : suc n - 1 ≡ n = omega arith in rw (f, m) refl
 
   -- what is looked up in lists by number is the same where it is at each place

@@ -1,6 +1,7 @@
 pub mod BookFacts
 pub mod Commits
 pub mod Deeds
+pub mod Determined
 pub mod Early
 pub mod FactCommands
 pub mod Finds
@@ -9,3 +10,5 @@ pub mod Kept
 pub mod LeagueFacts
 pub mod Puts
 pub mod Sheets
+pub mod Slots
+pub mod TeamsTold
