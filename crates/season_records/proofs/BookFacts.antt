@@ -1,13 +1,11 @@
 -- What a command on the facts leaves of the whole book, and what the caller's last command does.
-use Rattle.std.proofs.Common.{◌≡◌, ◌==◌, ℕ, Bool, true, false, List, [], ◌∷◌, ◌++◌, Option, Some, None, arith, refl, sym, ap, subst, ◌∙◌, map}
+use Rattle.std.proofs.Common.{◌≡◌, ℕ, Bool, true, false, List, [], ◌∷◌, ◌++◌, Option, Some, None, arith, refl, sym, ap, subst, ◌∙◌, map}
 use Rattle.std.specs.Prelude.{Result, Ok, Err, is_some, if◌then◌else◌}
 use Rattle.std.specs.Option.{option_map, option_and_then, option_map_or}
 use Rattle.std.proofs.lemmas.Bool.Decides.{nat_tests}
-use Rattle.std.proofs.lemmas.Option.{same_Some, none-some}
 use Rattle.fpl_base.specs.declared.kinds.Caller.{Caller}
 use Rattle.fpl_base.specs.declared.rule.Rule.{Rule}
 use Rattle.fpl_base.specs.declared.rule.Rule.TheVariants as rule
-use Rattle.rule_book.specs.ById.{at_id}
 use Rattle.rule_book.specs.Calendar.{deadlines_order}
 use Rattle.rule_book.specs.MatchFacts.{lines_of, players_in}
 use Rattle.rule_book.proofs.AtId.{one_other, placed_other}
@@ -15,7 +13,6 @@ use Rattle.season_book.specs.Book.{Book, Facts, Last, caller_number}
 use Rattle.season_book.specs.Commands.{are_there, begun_by, changed_by, refusal_of}
 use Rattle.season_book.specs.declared.command.Command.{Command}
 use Rattle.season_book.specs.declared.command.Command.TheVariants as command
-use Rattle.season_book.specs.declared.made.Made.TheVariants as made
 use Rattle.season_book.specs.Verdict.{Outcome, accepted, begun, judged, ruled_by, unless_refused}
 use Rattle.season_book.specs.declared.answer.Answer.{Answer}
 use Rattle.season_book.specs.declared.answer.Answer.TheVariants as answer

@@ -6,8 +6,8 @@ use Rattle.season_book.specs.Book.{Book}
 use Rattle.season_book.specs.Verdict.{IsVerdict, Verdict, pass}
 use Rattle.season_book.specs.declared.request.Request.{Request}
 use Rattle.record_codec.specs.declared.slot.Slot.{Slot}
-use Rattle.season_records.specs.Commits.{CommitsHoldOne, HoldsLeft, HoldsOne, MayCommit, RequestsCommit, ThenCommits}
-use Rattle.season_records.specs.Keeping.{AsksInTime, Leads}
+use Rattle.season_records.specs.Commits.{CommitsHoldOne, HoldsLeft, HoldsOne, MayCommit, RequestsCommit}
+use Rattle.season_records.specs.Keeping.{Leads}
 use Rattle.season_records.specs.Records.{records, told}
 use Rattle.season_records.specs.Touched.{batch, locked_slots, touched_in}
 use Rattle.season_records.proofs.Kept.{locks_keep_records, verdicts_keep_records}

@@ -1,6 +1,6 @@
 -- The commands of an entry's manager change nothing of what is told but what they touch.
-use Rattle.std.proofs.Common.{◌≡◌, ◌<◌, ◌≤◌, ◌+◌, ◌==◌, ◌||◌, ℕ, zero, suc, Bool, true, false, List, [], ◌∷◌, ◌++◌, Option, Some, None, length, map, min, nat_lt, arith, refl, sym, ap, subst, ◌∙◌, inl, inr, if◌then◌else◌}
-use Rattle.std.specs.Prelude.{Result, Ok, Err, not}
+use Rattle.std.proofs.Common.{◌≡◌, ◌<◌, ◌≤◌, ◌+◌, ℕ, zero, suc, Bool, true, false, List, [], ◌∷◌, ◌++◌, Option, Some, None, length, map, nat_lt, arith, refl, sym, ap, subst, ◌∙◌, inl, inr, if◌then◌else◌}
+use Rattle.std.specs.Prelude.{Err}
 use Rattle.std.specs.List.{flat_map, range_with_len}
 use Rattle.std.specs.Option.{option_map, option_and_then, option_map_or}
 use Rattle.std.proofs.lemmas.Bool.{cases_eq}
@@ -29,21 +29,19 @@ use Rattle.season_book.specs.Commands.{part_of}
 use Rattle.season_book.specs.EntryCommands.{deed_refusal, deeds_in, history_after, names_players, refused_in}
 use Rattle.season_book.specs.EntryViews.{gameweek_seen}
 use Rattle.season_book.specs.LeagueViews.{history_of}
-use Rattle.season_book.specs.Verdict.{Outcome, in_season, ruled_for, ruled_of, unless_broken, with_history}
-use Rattle.season_book.specs.declared.answer.Answer.{Answer}
+use Rattle.season_book.specs.Verdict.{in_season, ruled_for, ruled_of, unless_broken, with_history}
 use Rattle.season_book.specs.declared.answer.Answer.TheVariants as answer
 use Rattle.season_book.specs.declared.command.Command.{Command}
 use Rattle.season_book.specs.declared.command.Command.TheVariants as command
 use Rattle.season_book.specs.declared.made.Made.TheVariants as made
 use Rattle.season_book.specs.declared.part.Part.TheVariants as part
 use Rattle.record_codec.specs.Keys.{key_of}
-use Rattle.record_codec.specs.declared.item.Item.{Item}
 use Rattle.record_codec.specs.declared.item.Item.TheVariants as item
 use Rattle.record_codec.specs.declared.slot.Slot.{Slot}
 use Rattle.record_codec.specs.declared.slot.Slot.TheVariants as slot
 use Rattle.season_records.specs.Keeping.{IsEarly}
-use Rattle.season_records.specs.Records.{entry_item, team_told, told, transfer_told}
-use Rattle.season_records.specs.Touched.{gameweek_of, touched_by, transfers_made}
+use Rattle.season_records.specs.Records.{entry_item, team_told, transfer_told}
+use Rattle.season_records.specs.Touched.{gameweek_of, touched_by}
 use Rattle.season_records.proofs.BookFacts.{Keeps, Leaves}
 use Rattle.season_records.proofs.Finds.{numbered_changed, numbered_here}
 use Rattle.season_records.proofs.Histories.{team_stays, transfers_grow, transfers_stay}

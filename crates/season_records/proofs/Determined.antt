@@ -1,5 +1,5 @@
 -- Rows by rising ids are the same where the same is found by each id, and lists where the same stands under each number.
-use Rattle.std.proofs.Common.{◌≡◌, ◌<◌, ◌≤◌, ◌==◌, ◌-◌, ◌+◌, ℕ, zero, suc, true, false, cond, List, [], ◌∷◌, Option, Some, None, All, AllPairs, find, arith, refl, sym, ap, ap₂, ◌∙◌, inl, inr, slice_get}
+use Rattle.std.proofs.Common.{◌≡◌, ◌<◌, ◌≤◌, ◌==◌, ℕ, zero, suc, true, false, cond, List, [], ◌∷◌, Some, None, All, AllPairs, find, arith, refl, sym, ap, ap₂, ◌∙◌, inl, inr, slice_get}
 use Rattle.std.specs.List.{AllByRecursion, list_any}
 use Rattle.std.specs.Map.{keys_of}
 use Rattle.std.specs.Ordering.{nat_cmp}

@@ -1,6 +1,6 @@
 -- Nothing is done in a later gameweek than the next.
 use Rattle.std.proofs.Common.{◌≡◌, ◌≤◌, ◌+◌, ◌-◌, ℕ, zero, suc, Bool, true, false, List, [], ◌∷◌, ◌++◌, Option, Some, None, length, min, max, arith, refl, sym, ap, subst, ◌∙◌, inl, inr, if◌then◌else◌}
-use Rattle.std.specs.Prelude.{Result, Ok, Err, slice_set, is_some}
+use Rattle.std.specs.Prelude.{Result, Ok, Err, is_some}
 use Rattle.std.specs.Option.{option_map, option_map_or}
 use Rattle.std.proofs.lemmas.Bool.{cases_eq}
 use Rattle.std.proofs.lemmas.List.{length-set}
@@ -9,17 +9,17 @@ use Rattle.fpl_base.specs.declared.kinds.Caller.{Caller}
 use Rattle.fpl_base.specs.declared.rule.Rule.{Rule}
 use Rattle.fpl_base.specs.declared.rule.Rule.TheVariants as rule
 use Rattle.rule_book.specs.declared.cup.Bracket.{Bracket}
-use Rattle.rule_book.specs.Calendar.{CalendarFacts, after_pass, deadlines_order, next_gameweek, passed_deadlines}
+use Rattle.rule_book.specs.Calendar.{deadlines_order, next_gameweek, passed_deadlines}
 use Rattle.rule_book.specs.Entries.{entry_in}
 use Rattle.rule_book.specs.History.{Event, in_gameweek}
 use Rattle.rule_book.specs.HistoryRules.{NoneAfter}
-use Rattle.season_book.specs.Book.{Book, EntryFacts, Facts, caller_number, empty_book, histories_with, last_number}
+use Rattle.season_book.specs.Book.{Book, EntryFacts, Facts, caller_number, histories_with, last_number}
 use Rattle.season_book.specs.Commands.{are_there, begun_by, changed_by, part_of, refusal_of}
 use Rattle.season_book.specs.EntryCommands.{deed_refusal, deeds_in, history_after, names_players}
 use Rattle.season_book.specs.EntryViews.{gameweek_seen}
 use Rattle.season_book.specs.LeagueCommands.{cup_broken, cup_drawn, cup_made, cup_there, is_issued, is_registered, league_made, league_refusal, leagues_after, leagues_there}
 use Rattle.season_book.specs.LeagueViews.{history_of}
-use Rattle.season_book.specs.Verdict.{Outcome, Verdict, begun, cup_ruled, fresh_verdict, in_season, judged, key_refusal, keyed, leagues_ruled, locked_at, number_refusal, pass, ruled, ruled_by, ruled_in, ruled_of, settled, unless_broken, unless_misnumbered, unless_refused, with_entry, with_history}
+use Rattle.season_book.specs.Verdict.{Outcome, Verdict, begun, cup_ruled, in_season, judged, key_refusal, keyed, leagues_ruled, locked_at, number_refusal, pass, ruled, ruled_by, ruled_in, ruled_of, settled, unless_broken, unless_misnumbered, unless_refused, with_entry, with_history}
 use Rattle.season_book.specs.declared.answer.Answer.{Answer}
 use Rattle.season_book.specs.declared.answer.Answer.TheVariants as answer
 use Rattle.season_book.specs.declared.command.Command.{Command}

@@ -41,6 +41,10 @@ module _ {X : Type 0} where
   pub at_number : (xs : List X) (n : ℕ) → entry_in xs (suc n) ≡ slice_get xs n
   at_number xs n = let f : nat_eq (suc n) 0 ≡ false = grind (arith, nat_tests) in let m : suc n - 1 ≡ n = omega arith in rw (f, m) refl
 
+  pub none_in : (n : ℕ) → entry_in {X = X} [] n ≡ None
+  none_in zero = refl
+  none_in (suc n) = at_number [] n
+
   -- what is looked up in lists by number is the same where it is at each place
   numbered : {Y : Type 0} (look : Option X → Y) (xs ys : List X) (n : ℕ) → ((m : ℕ) → n ≡ suc m → look (slice_get xs m) ≡ look (slice_get ys m))
       → look (entry_in xs n) ≡ look (entry_in ys n)

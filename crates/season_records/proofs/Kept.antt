@@ -1,23 +1,20 @@
 -- The records of the book behind a command, and behind a moment's locks.
-use Rattle.std.proofs.Common.{◌≡◌, ℕ, Bool, true, false, List, [], ◌∷◌, Option, Some, None, refl, sym, ap, subst, ◌∙◌, true≢false, inl, inr}
+use Rattle.std.proofs.Common.{◌≡◌, ℕ, false, List, [], Option, Some, None, refl, sym, ap, subst, true≢false, inl, inr}
 use Rattle.std.specs.Prelude.{Result, Ok, Err}
 use Rattle.std.specs.Option.{option_map, option_and_then}
 use Rattle.fpl_base.specs.declared.kinds.Caller.{Caller}
 use Rattle.fpl_base.specs.declared.rule.Rule.{Rule}
 use Rattle.rule_book.specs.Calendar.{after_pass}
 use Rattle.season_book.specs.Book.{Book, Facts, caller_number, last_number}
-use Rattle.season_book.specs.Commands.{part_of}
 use Rattle.season_book.specs.declared.command.Command.{Command}
 use Rattle.season_book.specs.declared.command.Command.TheVariants as command
-use Rattle.season_book.specs.declared.part.Part.TheVariants as part
 use Rattle.season_book.specs.Verdict.{Outcome, Verdict, accepted, fresh_verdict, locked_at, number_refusal, pass, ruled, settled, unless_misnumbered}
 use Rattle.season_book.specs.declared.answer.Answer.{Answer}
 use Rattle.season_book.specs.declared.request.Request.TheVariants as request
 use Rattle.record_codec.specs.Keys.{key_of}
-use Rattle.record_codec.specs.declared.item.Item.{Item}
 use Rattle.record_codec.specs.declared.slot.Slot.{Slot}
 use Rattle.record_codec.specs.declared.slot.Slot.TheVariants as slot
-use Rattle.season_records.specs.Keeping.{AsksInTime, CommandsKeepRecords, IsInTime, Leads, LocksKeepRecords, NoLockLeavesBook, RestsKeepRecords, VerdictsKeepRecords}
+use Rattle.season_records.specs.Keeping.{CommandsKeepRecords, IsInTime, Leads, LocksKeepRecords, NoLockLeavesBook, RestsKeepRecords, VerdictsKeepRecords}
 use Rattle.season_records.specs.Records.{told, told_in}
 use Rattle.season_records.specs.Touched.{locked_slots, touched, touched_by}
 use Rattle.season_records.proofs.BookFacts.{Keeps, Leaves, facts_kept, facts_leave, with_last_keeps}

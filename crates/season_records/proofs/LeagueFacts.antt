@@ -1,31 +1,27 @@
 -- The commands that make entries, leagues and cups, or change a league, change nothing of what is told but what they touch.
-use Rattle.std.proofs.Common.{◌≡◌, ◌+◌, ◌==◌, ℕ, Bool, true, false, List, [], ◌∷◌, ◌++◌, Option, Some, None, length, arith, refl, sym, ap, ◌∙◌, if◌then◌else◌}
-use Rattle.std.specs.Prelude.{Result, Ok, Err}
+use Rattle.std.proofs.Common.{◌≡◌, ◌+◌, ◌==◌, ℕ, Bool, true, false, List, [], ◌∷◌, ◌++◌, Option, Some, None, length, arith, refl, ap, if◌then◌else◌}
+use Rattle.std.specs.Prelude.{Result, Err}
 use Rattle.std.specs.Option.{option_map, option_and_then}
 use Rattle.std.proofs.lemmas.Bool.Decides.{nat_tests}
 use Rattle.fpl_base.specs.declared.rule.Rule.{Rule}
 use Rattle.rule_book.specs.declared.cup.Bracket.{Bracket}
 use Rattle.rule_book.specs.declared.league.LeagueKind.{LeagueKind}
 use Rattle.rule_book.specs.Entries.{changed_in}
-use Rattle.rule_book.specs.LeagueCalls.{is_member, new_league, with_member, with_order}
-use Rattle.rule_book.specs.Leagues.{LeagueFacts}
-use Rattle.season_book.specs.Book.{Book, EntryFacts, Facts}
-use Rattle.season_book.specs.LeagueCommands.{cup_broken, cup_drawn, cup_made, cup_there, is_issued, is_registered, league_made, league_refusal, leagues_after, leagues_there}
-use Rattle.season_book.specs.Verdict.{Outcome, cup_ruled, cups_ruled, in_season, key_refusal, keyed, leagues_ruled, unless_broken, with_entry}
+use Rattle.rule_book.specs.LeagueCalls.{new_league, with_member, with_order}
+use Rattle.season_book.specs.Book.{Book, Facts}
+use Rattle.season_book.specs.LeagueCommands.{cup_broken, cup_made, cup_there, is_issued, is_registered, league_made, league_refusal, leagues_after, leagues_there}
+use Rattle.season_book.specs.Verdict.{Outcome, cups_ruled, in_season, key_refusal, keyed, leagues_ruled, unless_broken, with_entry}
 use Rattle.season_book.specs.declared.answer.Answer.{Answer}
 use Rattle.season_book.specs.declared.answer.Answer.TheVariants as answer
 use Rattle.season_book.specs.declared.command.Command.{Command}
 use Rattle.season_book.specs.declared.command.Command.TheVariants as command
-use Rattle.record_codec.specs.Keys.{key_of}
-use Rattle.record_codec.specs.declared.item.Item.{Item}
 use Rattle.record_codec.specs.declared.item.Item.TheVariants as item
 use Rattle.record_codec.specs.declared.slot.Slot.{Slot}
 use Rattle.record_codec.specs.declared.slot.Slot.TheVariants as slot
-use Rattle.season_records.specs.Records.{cup_item, entry_item, league_item, member_told, team_told, told, transfer_item, transfer_told}
+use Rattle.season_records.specs.Records.{cup_item, entry_item, league_item, member_told, team_told, transfer_item, transfer_told}
 use Rattle.season_records.specs.Touched.{touched_by}
 use Rattle.season_records.proofs.BookFacts.{Keeps, Leaves}
 use Rattle.season_records.proofs.Finds.{member_beside, numbered_changed, numbered_more}
-use Rattle.season_records.proofs.Puts.{touches}
 
 -- A new entry.
 

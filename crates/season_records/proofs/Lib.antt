@@ -1,9 +1,11 @@
 pub mod BookFacts
+pub mod BooksTold
 pub mod Commits
 pub mod Deeds
 pub mod Determined
 pub mod Early
 pub mod FactCommands
+pub mod FactsTold
 pub mod Finds
 pub mod Histories
 pub mod Kept

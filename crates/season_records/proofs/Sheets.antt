@@ -1,5 +1,5 @@
 -- What is found of lines and sheets once others stand in place of some.
-use Rattle.std.proofs.Common.{ℕ, ◌≡◌, ◌==◌, Bool, true, false, [], ◌∷◌, ◌++◌, List, Some, None, fold, inl, inr, length, arith, refl, sym, ap, ◌∙◌, unwrap_or, if◌then◌else◌}
+use Rattle.std.proofs.Common.{ℕ, ◌≡◌, ◌==◌, Bool, true, false, [], ◌∷◌, None, fold, inl, inr, length, arith, refl, sym, ap, ◌∙◌, unwrap_or, if◌then◌else◌}
 use Rattle.std.specs.List.{list_any}
 use Rattle.std.proofs.lemmas.Bool.Decides.{nat_tests}
 use Rattle.std.proofs.lemmas.Bool.{cases_eq}

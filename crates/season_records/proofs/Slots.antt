@@ -1,9 +1,9 @@
 -- Books with the same records tell the same of each slot.
-use Rattle.std.proofs.Common.{◌≡◌, ℕ, Bool, true, false, List, Option, Some, None, refl, sym, ap, subst, ◌∙◌, if◌then◌else◌}
+use Rattle.std.proofs.Common.{◌≡◌, Bool, true, false, Option, Some, None, refl, sym, ap, subst, ◌∙◌, if◌then◌else◌}
 use Rattle.std.specs.Option.{option_map, option_and_then}
 use Rattle.std.proofs.lemmas.Option.{none-some, same_Some}
 use Rattle.fpl_base.specs.Keeping.{Map}
-use Rattle.season_book.specs.Book.{Book, EntryFacts, Facts}
+use Rattle.season_book.specs.Book.{Book, EntryFacts, empty_book}
 use Rattle.rule_book.specs.Entries.{entry_in}
 use Rattle.rule_book.specs.EntryRecords.{sold_in}
 use Rattle.rule_book.specs.History.{is_touched}
@@ -19,8 +19,9 @@ use Rattle.record_codec.specs.declared.slot.Slot.{Slot}
 use Rattle.record_codec.specs.declared.slot.Slot.TheVariants as slot
 use Rattle.record_codec.proofs.ItemLaws.{item_back}
 use Rattle.record_codec.proofs.KeyLaws.{own_slot}
-use Rattle.season_records.specs.Records.{at_keys, cup_item, entry_item, fixture_item, last_item, league_item, member_told, no_position, player_item, records, season_item, team_item, team_told, told, told_in, transfer_item, transfer_told}
-use Rattle.season_records.specs.Told.{RecordsTellSlots, SlotsTellOfThemselves, TellTheSame, TellsItems}
+use Rattle.season_records.specs.Records.{cup_item, entry_item, fixture_item, last_item, league_item, member_told, no_position, player_item, records, team_item, team_told, told, told_in, transfer_item, transfer_told}
+use Rattle.season_records.proofs.Finds.{none_in}
+use Rattle.season_records.specs.Told.{EmptyTellsNothing, RecordsTellSlots, SlotsTellOfThemselves, TellsItems}
 
 -- What is told of a slot is an item of it.
 
@@ -65,6 +66,29 @@ of_slot book (slot.Last c) = mapped (slot.Last c) (last_item c) _ (λ x. refl)
 
 pub slots_tell_of_themselves : SlotsTellOfThemselves
 slots_tell_of_themselves book s i at = subst (OfSlot s) at (of_slot book s)
+
+-- Of the empty book nothing.
+
+nothing_told : (s : Slot) → told empty_book s ≡ None
+nothing_told slot.Season = refl
+nothing_told (slot.Club c) = refl
+nothing_told (slot.Player p) = refl
+nothing_told (slot.Fixture f) = refl
+nothing_told (slot.Line f p) = refl
+nothing_told (slot.Entry e) = ap (option_map (entry_item e)) (none_in e)
+nothing_told (slot.Team e g) = ap (option_and_then (λ (entry : EntryFacts). team_told e g entry.history)) (none_in e)
+nothing_told (slot.Transfer e g n) = ap (option_and_then (λ (entry : EntryFacts). transfer_told e g n entry.history)) (none_in e)
+nothing_told (slot.League l) = ap (option_map (league_item l)) (none_in l)
+nothing_told (slot.Member l e) = ap (option_and_then (member_told l e)) (none_in l)
+nothing_told (slot.Cup c) = ap (option_map (cup_item c)) (none_in c)
+nothing_told (slot.Last c) = refl
+
+pub empty_tells_nothing : EmptyTellsNothing
+empty_tells_nothing = λ i key. nothing_at (slot_of key) i
+  where
+    nothing_at : (o : Option Slot) → option_map body_of (option_and_then (told empty_book) o) ≡ None
+    nothing_at None = refl
+    nothing_at (Some s) = ap (option_map body_of) (nothing_told s)
 
 -- Items of one slot with the same body are the same.
 

@@ -1,13 +1,12 @@
 -- Histories whose records are the same have the same team in each gameweek: in one where something was done the record
 -- tells it, and in another it is the team of the last one before it without a free hit.
-use Rattle.std.proofs.Common.{◌≡◌, ◌-◌, ◌+◌, ◌==◌, ◌&&◌, ◌||◌, ℕ, zero, suc, Bool, true, false, cond, not, List, [], ◌∷◌, ◌++◌, Option, Some, None, map, filter, nat_lt, arith, refl, sym, ap, ap₂, ◌∙◌, inl, inr, if◌then◌else◌}
+use Rattle.std.proofs.Common.{◌≡◌, ◌-◌, ◌+◌, ◌==◌, ◌&&◌, ◌||◌, ℕ, zero, suc, Bool, true, false, cond, not, List, [], ◌∷◌, Option, Some, None, map, filter, nat_lt, arith, refl, sym, ap, ◌∙◌, inl, inr, if◌then◌else◌}
 use Rattle.std.specs.Prelude.{is_some}
 use Rattle.std.specs.List.{flat_map}
 use Rattle.std.specs.Option.{option_map}
-use Rattle.std.proofs.lemmas.Bool.{cases_eq}
+use Rattle.std.proofs.lemmas.Bool.{cases_eq, false≢true}
 use Rattle.std.proofs.lemmas.Bool.Decides.{nat_tests}
 use Rattle.std.proofs.lemmas.List.Elements.{filter_agree}
-use Rattle.std.proofs.lemmas.Option.{none-some, same_Some}
 use Rattle.fpl_base.specs.declared.kinds.Chip.{Chip}
 use Rattle.fpl_base.specs.declared.kinds.Chip.TheVariants.{None as NoChip}
 use Rattle.fpl_base.specs.declared.kinds.Position.{Position}
@@ -126,3 +125,80 @@ module _ (h : List Event) (g : ℕ) where
         where
           at_play : (w : ℕ) (b : Bool) → w ≡ g → b ≡ false → (nat_lt w (suc g) && not b) ≡ ((w == g) || (nat_lt w g && not b))
           at_play w b here is = grind (arith, nat_tests, here, is)
+
+-- What records tell of a squad, a chip and a transfer.
+
+abbrev squad_in : Option Item → Squad × Chip
+squad_in (Some (item.Team e g picks captain vice bank chip)) = (record { picks = picks; captain = captain; vice = vice; bank = bank }, chip)
+squad_in i = (squad_of [], NoChip)
+
+abbrev sale_in : Option Item → Option Sale
+sale_in (Some (item.Transfer e g n out into sold bought)) = Some (record { out = out; into = into; sold = sold; bought = bought })
+sale_in i = None
+
+abbrev told_of : List Event → ℕ → Squad × Chip
+told_of h g = (squad_of (kept h g), chip_at h g)
+
+told_squad : (e g : ℕ) (h : List Event) → squad_in (Some (team_item e g (team_of no_position h g))) ≡ told_of h g
+told_squad e g h = refl
+
+told_sale : (e g n : ℕ) (sale : Option Sale) → sale_in (option_map (transfer_item e g n) sale) ≡ sale
+told_sale e g n None = refl
+told_sale e g n (Some sale) = refl
+
+told_some : (b : Bool) (i : Item) → is_some (if b then Some i else None) ≡ b
+told_some true i = refl
+told_some false i = refl
+
+told_where : (b : Bool) (i : Item) → b ≡ true → (if b then Some i else None) ≡ Some i
+told_where true i is = refl
+told_where false i is = absurd (false≢true is)
+
+module _ (h other : List Event) (e : ℕ) (start : start_of h ≡ start_of other) (teams : (g : ℕ) → team_told e g h ≡ team_told e g other)
+    (sales : (g n : ℕ) → transfer_told e g n h ≡ transfer_told e g n other) where
+  touched : (g : ℕ) → is_touched h g ≡ is_touched other g
+  touched g =
+      sym (told_some (is_touched h g) (team_item e g (team_of no_position h g)))
+      ∙ ap is_some (teams g) ∙ told_some (is_touched other g) (team_item e g (team_of no_position other g))
+
+  recorded : (g : ℕ) → is_touched h g ≡ true → told_of h g ≡ told_of other g
+  recorded g here =
+      sym (told_squad e g h)
+      ∙ ap squad_in (sym (told_where (is_touched h g) (team_item e g (team_of no_position h g)) here)
+      ∙ teams g ∙ told_where (is_touched other g) (team_item e g (team_of no_position other g)) (sym (touched g) ∙ here))
+      ∙ told_squad e g other
+
+  chips : (g : ℕ) → chip_at h g ≡ chip_at other g
+  chips g = by (is_touched h g) refl
+    where
+      by : (b : Bool) → is_touched h g ≡ b → chip_at h g ≡ chip_at other g
+      by true here = ap (λ (p : Squad × Chip). p.1) (recorded g here)
+      by false bare = untouched_chip h g bare ∙ sym (untouched_chip other g (sym (touched g) ∙ bare))
+
+  befores : (g : ℕ) → squad_of (before h g) ≡ squad_of (before other g)
+  befores zero = ap squad_of (nothing_before h h ∙ sym (nothing_before other other))
+  befores (suc g) = by (is_touched h g) (is_free_hit (chip_at h g)) refl refl (befores g)
+    where
+      by : (b hit : Bool) → is_touched h g ≡ b → is_free_hit (chip_at h g) ≡ hit → squad_of (before h g) ≡ squad_of (before other g)
+          → squad_of (before h (suc g)) ≡ squad_of (before other (suc g))
+      by false hit bare is same = ap squad_of (bare_passes h g bare) ∙ same ∙ sym (ap squad_of (bare_passes other g (sym (touched g) ∙ bare)))
+      by true true here is same = ap squad_of (hit_passes h g is) ∙ same ∙ sym (ap squad_of (hit_passes other g (sym (ap is_free_hit (chips g)) ∙ is)))
+      by true false here is same =
+          ap squad_of (played_stays h g is) ∙ ap (λ (p : Squad × Chip). p.0) (recorded g here)
+          ∙ sym (ap squad_of (played_stays other g (sym (ap is_free_hit (chips g)) ∙ is)))
+
+  squads : (g : ℕ) → squad_of (kept h g) ≡ squad_of (kept other g)
+  squads g = by (is_touched h g) refl
+    where
+      by : (b : Bool) → is_touched h g ≡ b → squad_of (kept h g) ≡ squad_of (kept other g)
+      by true here = ap (λ (p : Squad × Chip). p.0) (recorded g here)
+      by false bare = ap squad_of (bare_kept h g bare) ∙ befores g ∙ sym (ap squad_of (bare_kept other g (sym (touched g) ∙ bare)))
+
+  pub same_teams : SameTeams h other
+  same_teams = record {
+    start = start;
+    touched = touched;
+    team = λ position g. team_again position h g ∙ (λ i. team_from position (squads g i) (chips g i)) ∙ sym (team_again position other g);
+    transfers = λ g. numbers_determined (sold_in h g) (sold_in other g) (λ n.
+        sym (told_sale e g n (entry_in (sold_in h g) n)) ∙ ap sale_in (sales g n) ∙ told_sale e g n (entry_in (sold_in other g) n));
+  }

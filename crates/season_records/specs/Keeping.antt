@@ -1,6 +1,6 @@
 -- That what a request touched, as the book behind it tells it, leads from the records of the book before to those of the
 -- book behind.
-use Rattle.std.specs.Prelude.{◌≡◌, ℕ, ⊤, List, [], Some, Ok}
+use Rattle.std.specs.Prelude.{◌≡◌, ℕ, ⊤, List, Some, Ok}
 use Rattle.fpl_base.specs.Keeping.{applied}
 use Rattle.fpl_base.specs.declared.kinds.Caller.{Caller}
 use Rattle.rule_book.specs.Calendar.{after_pass}

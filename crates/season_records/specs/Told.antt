@@ -1,6 +1,7 @@
 -- What the records of a book tell of it: books with the same records have the same of all but what no record tells, which
 -- is how a manager came to his team.
 use Rattle.std.specs.Prelude.{◌≡◌, ◌<◌, ℕ, ⊤, true, List, Option, Some, None, AllPairs}
+use Rattle.fpl_base.specs.Keeping.{no_records}
 use Rattle.fpl_base.specs.declared.kinds.Position.{Position}
 use Rattle.rule_book.specs.ById.{AreSorted, at_id}
 use Rattle.rule_book.specs.Calendar.{fixture_of}
@@ -12,7 +13,7 @@ use Rattle.rule_book.specs.MatchFacts.{Sheet, has_facts, is_finished, line_of, l
 use Rattle.rule_book.specs.Players.{player_of}
 use Rattle.rule_book.specs.TeamOfHistory.{team_of}
 use Rattle.rule_book.specs.UpTo.{start_of}
-use Rattle.season_book.specs.Book.{Book, EntryFacts, Facts, Last}
+use Rattle.season_book.specs.Book.{Book, EntryFacts, Facts, Last, empty_book}
 use Rattle.season_book.specs.Commands.{has_fixture}
 use Rattle.season_book.specs.declared.command.Command.{Command}
 use Rattle.season_book.specs.declared.command.Command.TheVariants as command
@@ -27,6 +28,10 @@ use Rattle.season_records.specs.Records.{made_id, records, told}
 -- what is told of a slot is an item of that slot
 abbrev pub SlotsTellOfThemselves : Type 0
 SlotsTellOfThemselves = (book : Book) (s : Slot) (i : Item) → told book s ≡ Some i → slot_of_item i ≡ s
+
+-- nothing is told of the empty book
+abbrev pub EmptyTellsNothing : Type 0
+EmptyTellsNothing = records empty_book ≡ no_records
 
 -- the items that a book tells have values in their ranges
 abbrev pub TellsItems : Book → Type 0

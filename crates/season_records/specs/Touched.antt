@@ -7,7 +7,7 @@ use Rattle.fpl_base.specs.declared.records.Op.{Op}
 use Rattle.fpl_base.specs.declared.records.Op.TheVariants.{Put, Delete}
 use Rattle.rule_book.specs.EntryRecords.{sold_in}
 use Rattle.rule_book.specs.MatchFacts.{lines_of, players_in}
-use Rattle.season_book.specs.Book.{Book, Facts, caller_number}
+use Rattle.season_book.specs.Book.{Book, caller_number}
 use Rattle.season_book.specs.Commands.{club_ids}
 use Rattle.season_book.specs.EntryViews.{gameweek_seen}
 use Rattle.season_book.specs.LeagueViews.{history_of}

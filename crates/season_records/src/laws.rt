@@ -2,6 +2,8 @@ ghost use Rattle.season_records.specs.Commits.{CommitsHoldOne, RequestsCommit};
 ghost use Rattle.season_records.specs.Keeping.{CommandsKeepRecords, LocksKeepRecords, NoLockLeavesBook};
 ghost use Rattle.season_records.specs.Keeping.{EmptyIsEarly, MomentsAreEarly, VerdictsAreEarly};
 ghost use Rattle.season_records.specs.Keeping.{RestsKeepRecords, VerdictsKeepRecords};
+ghost use Rattle.season_records.specs.Told.{EmptyTellsNothing, RecordsTellBooks, RecordsTellFacts};
+ghost use Rattle.season_records.specs.Told.{RecordsTellSlots, SlotsTellOfThemselves};
 
 /// A law on the definitions: the records of a book, once what a command touched was put in as the book behind the command
 /// tells it, are those of the book behind the command. Of a manager's command this holds where his entry did nothing in a
@@ -38,4 +40,19 @@ pub fn books_are_early()
     ensures empty { EmptyIsEarly }
     ensures moment { MomentsAreEarly }
     ensures verdict { VerdictsAreEarly }
+{}
+
+/// A law on the definitions: of a slot an item of that slot is told, and of the empty book nothing.
+pub fn slots_tell_of_themselves()
+    ensures own { SlotsTellOfThemselves }
+    ensures empty { EmptyTellsNothing }
+{}
+
+/// A law on the definitions: two books that tell items and have the same records tell the same of each slot. They have the
+/// same facts by every look-up, but for the finished mark of a fixture that is not there. Where they are in order they are
+/// the same but for the managers' histories, and these tell the same teams and transfers of each gameweek.
+pub fn records_tell_books()
+    ensures slots { RecordsTellSlots }
+    ensures facts { RecordsTellFacts }
+    ensures books { RecordsTellBooks }
 {}
