@@ -86,7 +86,7 @@ module _ {X : Type 0} where
   each_less k [] less = tt
   each_less k (row ∷ rows) less = (grind (arith, nat_tests, less.0), each_less k rows less.1)
 
-  sorted_rise : (rows : List (ℕ × X)) → AreSorted rows → Rise (λ row. row.0) rows
+  pub sorted_rise : (rows : List (ℕ × X)) → AreSorted rows → Rise (λ row. row.0) rows
   sorted_rise [] sorted = tt
   sorted_rise (row ∷ rows) sorted = (each_less row.0 rows (sorted_head nat_cmp row.0 (keys_of rows) sorted), sorted_rise rows (sorted_tail nat_cmp row.0 (keys_of rows) sorted))
 

@@ -5,11 +5,13 @@ pub mod Deeds
 pub mod Determined
 pub mod Early
 pub mod FactCommands
+pub mod FactOrder
 pub mod FactsTold
 pub mod Finds
 pub mod Histories
 pub mod Kept
 pub mod LeagueFacts
+pub mod Orders
 pub mod Puts
 pub mod Sheets
 pub mod Slots

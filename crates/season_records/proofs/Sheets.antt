@@ -1,5 +1,5 @@
 -- What is found of lines and sheets once others stand in place of some.
-use Rattle.std.proofs.Common.{ℕ, ◌≡◌, ◌==◌, Bool, true, false, [], ◌∷◌, None, fold, inl, inr, length, arith, refl, sym, ap, ◌∙◌, unwrap_or, if◌then◌else◌}
+use Rattle.std.proofs.Common.{ℕ, ◌≡◌, ◌==◌, Bool, true, false, [], ◌∷◌, None, fold, inl, inr, length, arith, refl, sym, ap, subst, ◌∙◌, unwrap_or, if◌then◌else◌}
 use Rattle.std.specs.List.{list_any}
 use Rattle.std.proofs.lemmas.Bool.Decides.{nat_tests}
 use Rattle.std.proofs.lemmas.Bool.{cases_eq}
@@ -57,4 +57,11 @@ pub sheet_kept : {Y : Type 0} (look : Sheet → Y) (m : MatchFacts) (f : ℕ) (s
 sheet_kept look m f sheet g same = elim (cases_eq g f) [
   | inl here ↦ same here ∙ sym (ap look (ap (sheet_of (with_sheet m f sheet)) here ∙ found_same m f sheet (tells_facts sheet) refl))
   | inr apart ↦ sym (ap look (found_other m f sheet (tells_facts sheet) g apart))
+]
+
+-- what holds of the new sheet, and of the others, holds of each
+pub sheet_by : (P : Sheet → Type 0) (m : MatchFacts) (f : ℕ) (sheet : Sheet) (g : ℕ) → (g ≡ f → P sheet) → P (sheet_of m g) → P (sheet_of (with_sheet m f sheet) g)
+sheet_by P m f sheet g new old = elim (cases_eq g f) [
+  | inl here ↦ subst P (sym (ap (sheet_of (with_sheet m f sheet)) here ∙ found_same m f sheet (tells_facts sheet) refl)) (new here)
+  | inr apart ↦ subst P (sym (found_other m f sheet (tells_facts sheet) g apart)) old
 ]
