@@ -1,26 +1,25 @@
 -- The commands on the facts keep them in order.
-use Rattle.std.proofs.Common.{◌≡◌, ◌<◌, ◌==◌, ◌&&◌, ◌||◌, ℕ, Bool, true, false, cond, List, [], ◌∷◌, ◌++◌, Option, Some, None, AllPairs, find, filter, fold, map, nat_lt, arith, refl, sym, ap, subst, ◌∙◌, inl, inr, if◌then◌else◌, unwrap_or}
+use Rattle.std.proofs.Common.{◌≡◌, ◌<◌, ◌==◌, ◌&&◌, ℕ, Bool, true, false, cond, List, [], ◌∷◌, ◌++◌, Option, Some, None, AllPairs, find, filter, fold, map, nat_lt, arith, refl, sym, ap, subst, ◌∙◌, inl, inr, if◌then◌else◌}
 use Rattle.std.specs.Prelude.{is_some}
 use Rattle.std.proofs.lemmas.Bool.{cases_eq, false≢true}
 use Rattle.std.proofs.lemmas.Bool.Decides.{nat_tests}
 use Rattle.std.proofs.lemmas.Option.{none-some, same_Some}
 use Rattle.fpl_base.specs.declared.kinds.Profile.{Profile}
-use Rattle.fpl_base.specs.declared.kinds.Position.{Position}
 use Rattle.rule_book.specs.declared.line.Line.{Line}
 use Rattle.rule_book.specs.declared.player.Player.{Player}
 use Rattle.rule_book.specs.declared.season.Fixture.{Fixture}
 use Rattle.rule_book.specs.ById.{AreSorted, at_id, placed_at}
-use Rattle.rule_book.specs.Calendar.{CalendarFacts, fixture_of, moved_to, with_fixture}
-use Rattle.rule_book.specs.MatchFacts.{Lines, MatchFacts, Sheet, bare_sheet, by_player, has_facts, is_finished, lines_of, sheet_of, tells_facts, with_line, with_sheet, without_line}
+use Rattle.rule_book.specs.Calendar.{moved_to}
+use Rattle.rule_book.specs.MatchFacts.{Lines, MatchFacts, Sheet, by_player, has_facts, is_finished, lines_of, tells_facts, with_line, with_sheet, without_line}
 use Rattle.rule_book.specs.Players.{with_change}
 use Rattle.rule_book.proofs.AtId.{one_same, placed_other, placed_same, one_other}
 use Rattle.season_book.specs.Book.{Facts}
-use Rattle.season_book.specs.Commands.{are_there, by_id, changed_by, has_fixture, new_season}
+use Rattle.season_book.specs.Commands.{are_there, changed_by, has_fixture, new_season}
 use Rattle.season_book.specs.declared.command.Command.{Command}
 use Rattle.season_book.specs.declared.command.Command.TheVariants as command
 use Rattle.season_records.specs.Told.{AreInOrder}
 use Rattle.season_records.proofs.Determined.{rise_of}
-use Rattle.season_records.proofs.Finds.{found_beside, found_unchanged}
+use Rattle.season_records.proofs.Finds.{found_beside}
 use Rattle.season_records.proofs.Orders.{none_sorted, pairs_of, put_sorted, rise_map, rise_put, taken_sorted}
 use Rattle.season_records.proofs.Sheets.{sheet_by}
 

@@ -1,5 +1,5 @@
 -- What is found by id, or by number, once another was put in or changed.
-use Rattle.std.proofs.Common.{◌≡◌, ◌+◌, ◌-◌, ◌<◌, ◌≤◌, ◌==◌, ℕ, zero, suc, Bool, true, false, ◌||◌, cond, List, [], ◌∷◌, ◌++◌, Option, Some, None, filter, find, map, length, nat_lt, nat_eq, arith, refl, sym, ap, ◌∙◌, ⊎_elim, if◌then◌else◌, slice_get}
+use Rattle.std.proofs.Common.{◌≡◌, ◌+◌, ◌-◌, ◌<◌, ◌≤◌, ◌==◌, ℕ, zero, suc, Bool, true, false, ◌||◌, cond, List, [], ◌∷◌, ◌++◌, Option, Some, None, filter, find, map, length, nat_lt, nat_eq, arith, refl, sym, ap, ◌∙◌, ⊎_elim, ◌⊎◌, inl, inr, if◌then◌else◌, slice_get}
 use Rattle.std.specs.List.{list_any}
 use Rattle.std.specs.Option.{option_or}
 use Rattle.std.proofs.lemmas.Bool.{cases_lt}
@@ -107,6 +107,34 @@ module _ {X : Type 0} where
   pub numbered_here : (change : X → X) (xs : List X) (k : ℕ) (x : X) → entry_in xs k ≡ Some x → entry_in (changed_in change xs k) k ≡ Some (change x)
   numbered_here change xs zero x at = absurd (none-some x at)
   numbered_here change xs (suc k) x at = at_number (changed_in change xs (suc k)) k ∙ placed_here change xs k x (sym (at_number xs k) ∙ at)
+
+  -- where an element of a changed list comes from
+  placed_from : (change : X → X) (xs : List X) (k n : ℕ) (y : X) → slice_get (changed_in change xs (suc k)) n ≡ Some y
+      → (x : X) × (slice_get xs n ≡ Some x) × ((y ≡ x) ⊎ (y ≡ change x))
+  placed_from change [] k n y at = absurd (none-some y at)
+  placed_from change (x ∷ xs) zero zero y at = (x, refl, inr (sym (same_Some (change x) y at)))
+  placed_from change (x ∷ xs) zero (suc n) y at = (y, at, inl refl)
+  placed_from change (x ∷ xs) (suc k) zero y at = (x, refl, inl (sym (same_Some x y at)))
+  placed_from change (x ∷ xs) (suc k) (suc n) y at = placed_from change xs k n y at
+
+  pub changed_from : (change : X → X) (xs : List X) (k n : ℕ) (y : X) → entry_in (changed_in change xs k) n ≡ Some y
+      → (x : X) × (entry_in xs n ≡ Some x) × ((y ≡ x) ⊎ (y ≡ change x))
+  changed_from change xs zero n y at = (y, ap (λ xs. entry_in xs n) (sym (nothing_changed change xs)) ∙ at, inl refl)
+  changed_from change xs (suc k) zero y at = absurd (none-some y at)
+  changed_from change xs (suc k) (suc n) y at =
+      let from = placed_from change xs k n y (sym (at_number (changed_in change xs (suc k)) n) ∙ at) in
+      (from.0, at_number xs n ∙ from.1, from.2)
+
+  placed_more_from : (xs : List X) (new : X) (n : ℕ) (y : X) → slice_get (xs ++ new ∷ []) n ≡ Some y → (slice_get xs n ≡ Some y) ⊎ (y ≡ new)
+  placed_more_from [] new zero y at = inr (sym (same_Some new y at))
+  placed_more_from [] new (suc n) y at = absurd (none-some y at)
+  placed_more_from (x ∷ xs) new zero y at = inl at
+  placed_more_from (x ∷ xs) new (suc n) y at = placed_more_from xs new n y at
+
+  pub more_from : (xs : List X) (new : X) (n : ℕ) (y : X) → entry_in (xs ++ new ∷ []) n ≡ Some y → (entry_in xs n ≡ Some y) ⊎ (y ≡ new)
+  more_from xs new zero y at = absurd (none-some y at)
+  more_from xs new (suc n) y at =
+      ⊎_elim (λ old. inl (at_number xs n ∙ old)) (λ is. inr is) (placed_more_from xs new n y (sym (at_number (xs ++ new ∷ []) n) ∙ at))
 
 -- a member beside another
 pub member_beside : (members : List ℕ) (e x : ℕ) → (x ≡ e → ⊥)

@@ -1,4 +1,5 @@
 pub mod BookFacts
+pub mod BookOrder
 pub mod BooksTold
 pub mod Commits
 pub mod Deeds

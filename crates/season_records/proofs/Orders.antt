@@ -1,7 +1,6 @@
 -- Lists by rising ids stay so where one is put in at its place, or taken out.
-use Rattle.std.proofs.Common.{◌≡◌, ◌<◌, ◌≤◌, ◌+◌, ◌==◌, ℕ, zero, suc, Bool, true, false, cond, List, [], ◌∷◌, ◌++◌, Option, Some, None, AllPairs, filter, map, fold, get_or, length, nat_lt, arith, refl, sym, ap, subst, ◌∙◌, inl, inr, if◌then◌else◌}
+use Rattle.std.proofs.Common.{◌≡◌, ◌<◌, ◌≤◌, ◌+◌, ℕ, zero, suc, Bool, true, false, cond, List, [], ◌∷◌, ◌++◌, AllPairs, filter, map, get_or, length, nat_lt, arith, refl, sym, subst}
 use Rattle.std.specs.List.{AllByRecursion as Each}
-use Rattle.std.specs.List.Sorted.{IsStrictlyIncreasing}
 use Rattle.std.specs.Map.{keys_of}
 use Rattle.std.proofs.lemmas.Bool.Decides.{nat_tests}
 use Rattle.std.proofs.lemmas.Map.Keys.{sorted_from_strictly_increasing}
@@ -54,9 +53,10 @@ module _ {X : Type 0} (id : X → ℕ) where
   rise_two : (k : ℕ) (xs ys : List X) → Rise id xs → Each (λ x. id x < k) xs → Each (λ y. k ≤ id y) ys → Rise id ys → Rise id (xs ++ ys)
   rise_two k [] ys up below above also = also
   rise_two k (x ∷ xs) ys up below above also =
-      let under : id x < k = below.0 in
-      (each_append (λ y. id x < id y) xs ys up.0 (each_also (λ y. k ≤ id y) (λ y. id x < id y) (λ y le. omega (arith, under, le)) ys above),
-      rise_two k xs ys up.1 below.1 above also)
+      let under : id x < k = below.0 in (
+        each_append (λ y. id x < id y) xs ys up.0 (each_also (λ y. k ≤ id y) (λ y. id x < id y) (λ y le. omega (arith, under, le)) ys above),
+        rise_two k xs ys up.1 below.1 above also,
+      )
 
   below_of : (k : ℕ) (xs : List X) → Each (λ x. id x < k) (filter (λ x. nat_lt (id x) k) xs)
   below_of k xs = each_passes (λ x. id x < k) (λ x. nat_lt (id x) k) (λ x is. grind (arith, nat_tests, is)) xs

@@ -2,6 +2,7 @@
 -- is how a manager came to his team.
 use Rattle.std.specs.Prelude.{◌≡◌, ◌<◌, ℕ, ⊤, true, List, Option, Some, None, AllPairs}
 use Rattle.fpl_base.specs.Keeping.{no_records}
+use Rattle.fpl_base.specs.declared.kinds.Caller.{Caller}
 use Rattle.fpl_base.specs.declared.kinds.Position.{Position}
 use Rattle.rule_book.specs.ById.{AreSorted, at_id}
 use Rattle.rule_book.specs.Calendar.{fixture_of}
@@ -15,10 +16,12 @@ use Rattle.rule_book.specs.TeamOfHistory.{team_of}
 use Rattle.rule_book.specs.UpTo.{start_of}
 use Rattle.season_book.specs.Book.{Book, EntryFacts, Facts, Last, empty_book}
 use Rattle.season_book.specs.Commands.{has_fixture}
+use Rattle.season_book.specs.Verdict.{IsVerdictIn, Verdict, pass}
 use Rattle.season_book.specs.declared.command.Command.{Command}
 use Rattle.season_book.specs.declared.command.Command.TheVariants as command
 use Rattle.season_book.specs.declared.made.Made.{Made}
 use Rattle.season_book.specs.declared.made.Made.TheVariants as made
+use Rattle.season_book.specs.declared.request.Request.{Request}
 use Rattle.record_codec.specs.Items.{slot_of_item}
 use Rattle.record_codec.specs.Ranges.{IsItem}
 use Rattle.record_codec.specs.declared.item.Item.{Item}
@@ -123,3 +126,15 @@ RecordsTellFacts = (book other : Book) → TellsItems book → TellsItems other 
 abbrev pub RecordsTellBooks : Type 0
 RecordsTellBooks = (book other : Book) → TellsItems book → TellsItems other → IsInOrder book → IsInOrder other
     → records book ≡ records other → SameBook book other
+
+-- every book of a run is in order: the empty one is, and moments and verdicts lead to none that is not
+abbrev pub EmptyIsInOrder : Type 0
+EmptyIsInOrder = IsInOrder empty_book
+
+abbrev pub MomentsKeepOrder : Type 0
+MomentsKeepOrder = (book : Book) (now : ℕ) → IsInOrder book → IsInOrder (pass book now)
+
+abbrev pub VerdictsKeepOrder : Type 0
+VerdictsKeepOrder =
+    (operator : List ℕ) (book : Book) (caller : Caller) (now : ℕ) (asked : Request) (verdict : Verdict)
+    → IsInOrder book → IsVerdictIn operator book caller now asked verdict → IsInOrder verdict.book

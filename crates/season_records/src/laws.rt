@@ -2,6 +2,7 @@ ghost use Rattle.season_records.specs.Commits.{CommitsHoldOne, RequestsCommit};
 ghost use Rattle.season_records.specs.Keeping.{CommandsKeepRecords, LocksKeepRecords, NoLockLeavesBook};
 ghost use Rattle.season_records.specs.Keeping.{EmptyIsEarly, MomentsAreEarly, VerdictsAreEarly};
 ghost use Rattle.season_records.specs.Keeping.{RestsKeepRecords, VerdictsKeepRecords};
+ghost use Rattle.season_records.specs.Told.{EmptyIsInOrder, MomentsKeepOrder, VerdictsKeepOrder};
 ghost use Rattle.season_records.specs.Told.{EmptyTellsNothing, RecordsTellBooks, RecordsTellFacts};
 ghost use Rattle.season_records.specs.Told.{RecordsTellSlots, SlotsTellOfThemselves};
 
@@ -55,4 +56,13 @@ pub fn records_tell_books()
     ensures slots { RecordsTellSlots }
     ensures facts { RecordsTellFacts }
     ensures books { RecordsTellBooks }
+{}
+
+/// A law on the definitions: the empty book is in order, and so is every book behind a moment or a verdict: its facts, the
+/// members of its leagues and its last commands stand by ascending id, lines and finished marks are of fixtures that are
+/// there, and each last command made what such a command makes.
+pub fn books_are_in_order()
+    ensures empty { EmptyIsInOrder }
+    ensures moment { MomentsKeepOrder }
+    ensures verdict { VerdictsKeepOrder }
 {}

@@ -6,6 +6,6 @@
 mod laws;
 
 pub use laws::{
-    books_are_early, commands_keep_records, commits_hold_one, locks_keep_records,
-    records_tell_books, slots_tell_of_themselves, verdicts_keep_records,
+    books_are_early, books_are_in_order, commands_keep_records, commits_hold_one,
+    locks_keep_records, records_tell_books, slots_tell_of_themselves, verdicts_keep_records,
 };
