@@ -1,0 +1,5 @@
+pub mod Commits
+pub mod Keeping
+pub mod Records
+pub mod Told
+pub mod Touched
