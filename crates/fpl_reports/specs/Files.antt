@@ -5,21 +5,20 @@ use Rattle.std.specs.Fmt.{decimal}
 use Rattle.fpl_base.specs.Letters.{letter_of}
 use Rattle.fpl_base.specs.Texts.{is_name}
 use Rattle.season_calendar.specs.Instants.{IsInstant}
-use Rattle.fpl_reports.specs.declared.files.ClubRow.{ClubRow}
 use Rattle.fpl_reports.specs.declared.files.PlayerRow.{PlayerRow}
 use Rattle.fpl_reports.specs.declared.files.FixtureRow.{FixtureRow}
 
 -- a club: its number and its name
-pub record SpellsClub (fields : List (List ℕ)) (row : ClubRow) : Type 0 where
-  pub fields_are : fields ≡ decimal row.id ∷ row.name ∷ []
-  pub id : (1 ≤ row.id) × (row.id ≤ 255)
-  pub name : is_name row.name ≡ true
+pub record SpellsClub (fields : List (List ℕ)) (club : ℕ × List ℕ) : Type 0 where
+  pub fields_are : fields ≡ decimal club.0 ∷ club.1 ∷ []
+  pub id : (1 ≤ club.0) × (club.0 ≤ 255)
+  pub name : is_name club.1 ≡ true
 
 -- a club may follow at most 19 others, none of which has its number
-pub record AddsClub (before : List ClubRow) (fields : List (List ℕ)) (row : ClubRow) : Type 0 where
-  pub spelled : SpellsClub fields row
+pub record AddsClub (before : List (ℕ × List ℕ)) (fields : List (List ℕ)) (club : ℕ × List ℕ) : Type 0 where
+  pub spelled : SpellsClub fields club
   pub few : length before < 20
-  pub new_id : list_any (λ earlier. earlier.id == row.id) before ≡ false
+  pub new_id : list_any (λ earlier. earlier.0 == club.0) before ≡ false
 
 -- a player: his number, name, letter of his position, club and price in tenths of a million. Whether the club is
 -- there, and whether he can have this price, is judged with his command

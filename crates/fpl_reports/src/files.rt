@@ -4,12 +4,17 @@ ghost use Rattle.std.specs.List.{list_any};
 ghost use Rattle.csv.specs.Records.{fields_of};
 ghost use Rattle.season_calendar.specs.Instants.{IsInstant};
 ghost use Rattle.fpl_reports.specs.Files.{AddsClub, AddsPlayer, AddsFixture, SpellsFixture};
+ghost use Rattle.fpl_reports.specs.Folder.{order_of_player, order_of_fixture};
 ghost use Rattle.fpl_reports.specs.Rows.{Spells};
 
-use crate::fields::{five_fields, read_club, read_fixture, read_gameweek, read_player, read_price, two_fields};
+use crate::fields::{
+    five_fields, read_club, read_fixture, read_gameweek, read_player, read_price, two_fields,
+};
+use crate::orders::Ordered;
 use crate::rows::Row;
 use csv::ByteRecord;
 use fpl_base::{ClubId, FixtureId, Gw, Memory, Moment, Name, PlayerId, Position};
+use season_book::Command;
 use season_calendar::read_instant;
 use std::alloc::Global;
 
@@ -18,13 +23,6 @@ const MAX_CLUBS: usize = 20;
 
 /// A gameweek's deadline stands so many seconds before its first kick-off.
 pub(crate) const BEFORE_KICKOFF: u64 = 5400;
-
-// A row of `clubs.csv`.
-#[derive(Drop)]
-pub(crate) struct ClubRow {
-    pub(crate) id: ClubId,
-    pub(crate) name: Name,
-}
 
 // A row of `players.csv`.
 #[derive(Drop)]
@@ -46,7 +44,8 @@ pub(crate) struct FixtureRow {
     pub(crate) kickoff: Moment,
 }
 
-impl Row for ClubRow {
+// A club of `clubs.csv`: its number and its name.
+impl Row for (ClubId, Name) {
     ghost adds = { AddsClub };
 
     fn read(alloc: Global, before: &[Self], read: &ByteRecord) -> Result<Option<Self>, Memory> {
@@ -62,14 +61,35 @@ impl Row for ClubRow {
         let Some(name) = Name::new(alloc, name)? else {
             return Ok(None);
         };
-        Ok(Some(ClubRow { id, name }))
+        Ok(Some((id, name)))
     }
 }
 
-fn has_club(rows: &[ClubRow], id: ClubId) -> bool
-    ensures { result ≡ list_any (λ earlier. earlier.id == id) rows.now }
+fn has_club(clubs: &[(ClubId, Name)], id: ClubId) -> bool
+    ensures { result ≡ list_any (λ earlier. earlier.0 == id) clubs.now }
 {
-    rows.iter().any(|earlier| earlier.id == id)
+    clubs.iter().any(|earlier| earlier.0 == id)
+}
+
+impl Ordered for PlayerRow {
+    ghost ordered = { order_of_player };
+
+    fn ordered(self) -> Command {
+        let PlayerRow {
+            id,
+            name,
+            position,
+            club,
+            price,
+        } = self;
+        Command::Player {
+            id,
+            name,
+            position,
+            club,
+            price,
+        }
+    }
 }
 
 impl Row for PlayerRow {
@@ -102,6 +122,20 @@ impl Row for PlayerRow {
             club,
             price,
         }))
+    }
+}
+
+impl Ordered for FixtureRow {
+    ghost ordered = { order_of_fixture };
+
+    fn ordered(self) -> Command {
+        Command::Fixture {
+            id: self.id,
+            home: self.home,
+            away: self.away,
+            gameweek: Some(self.gameweek),
+            kickoff: self.kickoff,
+        }
     }
 }
 
@@ -142,7 +176,11 @@ fn two_clubs(home: &[u8], away: &[u8]) -> Option<(ClubId, ClubId)>
 {
     let home = read_club(home)?;
     let away = read_club(away)?;
-    if home == away { None } else { Some((home, away)) }
+    if home == away {
+        None
+    } else {
+        Some((home, away))
+    }
 }
 
 // The instant of a field, where a deadline stands before it.

@@ -1,6 +1,5 @@
 use Rattle.csv.specs.Records.{fields_of}
 use Rattle.fpl_reports.proofs.FieldFacts.{no_kickoff}
-use Rattle.std.proofs.Common.{◌≡◌, ◌∷◌, [], ap, ◌∙◌, List, ℕ}
 use Rattle.fpl_reports.proofs.files.fixture_of.Goals as goal
 
 pub returns-in_err-kickoff : goal.returns-in_err-kickoff

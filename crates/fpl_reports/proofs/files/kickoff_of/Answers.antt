@@ -1,4 +1,4 @@
-use Rattle.std.proofs.Common.{◌≡◌, ◌<◌, arith}
+use Rattle.std.proofs.Common.{◌≡◌, arith}
 use Rattle.fpl_reports.proofs.FieldFacts.{some_same, none_some}
 use Rattle.fpl_reports.proofs.files.kickoff_of.Goals as goal
 

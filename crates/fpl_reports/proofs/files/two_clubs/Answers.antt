@@ -1,4 +1,4 @@
-use Rattle.std.proofs.Common.{◌≡◌, ◌<◌, arith, rules}
+use Rattle.std.proofs.Common.{◌≡◌, arith, rules}
 use Rattle.fpl_reports.proofs.FieldFacts.{same_numbers}
 use Rattle.fpl_reports.proofs.files.two_clubs.Goals as goal
 

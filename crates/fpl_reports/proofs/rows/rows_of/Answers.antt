@@ -1,4 +1,4 @@
-use Rattle.std.proofs.Common.{ap, Bor, List, ℕ, ◌≡◌, ◌+◌, ◌∙◌, sym, refl, rules, inl, inr, true, Some, ◌∷◌, [], ◌++◌, length, length-append, arith}
+use Rattle.std.proofs.Common.{ap, Bor, List, ℕ, ◌≡◌, ◌∙◌, sym, refl, rules, inl, inr, true, Some, ◌∷◌, [], ◌++◌}
 use Rattle.std.specs.Result.{is_ok}
 use Rattle.csv.specs.declared.reader.ReaderBuilder.{ReaderBuilder}
 use Rattle.csv.specs.Reading.{with_flexible, Reached, default_config, strip_bom}
