@@ -5,7 +5,7 @@ use Rattle.std.proofs.lemmas.Fmt.{decimal_injective}
 use Rattle.csv.specs.Records.{field_at}
 use Rattle.season_calendar.specs.Instants.{IsInstant}
 use Rattle.fpl_reports.specs.Rows.{Spells}
-use Rattle.fpl_reports.specs.Files.{SpellsFixture}
+use Rattle.fpl_reports.specs.Files.{ArePair, SpellsFixture}
 use Rattle.fpl_reports.specs.declared.files.FixtureRow.{FixtureRow}
 
 -- a place below the number of fields has one
@@ -66,7 +66,19 @@ last_same : {a b c d e f g h i j : List ℕ} → a ∷ b ∷ c ∷ d ∷ e ∷ [
 last_same e = cc
 
 -- a fixture is none where its last field is no instant at which it can begin
-pub no_kickoff : (fields : List (List ℕ)) (row : FixtureRow) (a b c d e : List ℕ) → fields ≡ a ∷ b ∷ c ∷ d ∷ e ∷ [] → ((t : ℕ) → IsInstant e t → 5400 ≤ t → ⊥) → SpellsFixture fields row → ⊥
+pub no_kickoff : (fields : List (List ℕ)) (row : FixtureRow) (a b c d e : List ℕ) → fields ≡ a ∷ b ∷ c ∷ d ∷ e ∷ [] → ((t : ℕ) → (IsInstant e t × (5400 ≤ t)) → ⊥) → SpellsFixture fields row → ⊥
 no_kickoff fields row a b c d e p none s =
     let same : s.instant ≡ e = last_same (sym s.fields_are ∙ p) in
-    none row.kickoff (rw same at s.kickoff) s.late
+    none row.kickoff (rw same at s.kickoff, s.late)
+
+second_same : {a b f g : List ℕ} {xs ys : List (List ℕ)} → a ∷ b ∷ xs ≡ f ∷ g ∷ ys → b ≡ g
+second_same e = cc
+
+third_same : {a b c f g h : List ℕ} {xs ys : List (List ℕ)} → a ∷ b ∷ c ∷ xs ≡ f ∷ g ∷ h ∷ ys → c ≡ h
+third_same e = cc
+
+-- nor where its second and third are no two clubs
+pub no_pair : (fields : List (List ℕ)) (row : FixtureRow) (a b c d e : List ℕ) → fields ≡ a ∷ b ∷ c ∷ d ∷ e ∷ [] → ((clubs : ℕ × ℕ) → ArePair b c clubs → ⊥) → SpellsFixture fields row → ⊥
+no_pair fields row a b c d e p none s =
+    let same = sym p ∙ s.fields_are in
+    none (row.home, row.away) ((s.home.0, s.home.1, second_same same), (s.away.0, s.away.1, third_same same), s.two_clubs)

@@ -5,6 +5,7 @@ use Rattle.std.specs.Fmt.{decimal}
 use Rattle.fpl_base.specs.Letters.{letter_of}
 use Rattle.fpl_base.specs.Texts.{is_name}
 use Rattle.season_calendar.specs.Instants.{IsInstant}
+use Rattle.fpl_reports.specs.Rows.{Spells}
 use Rattle.fpl_reports.specs.declared.files.PlayerRow.{PlayerRow}
 use Rattle.fpl_reports.specs.declared.files.FixtureRow.{FixtureRow}
 
@@ -32,6 +33,10 @@ pub record SpellsPlayer (fields : List (List ℕ)) (row : PlayerRow) : Type 0 wh
 -- a player may follow any others
 abbrev pub AddsPlayer : List PlayerRow → List (List ℕ) → PlayerRow → Type 0
 AddsPlayer before fields row = SpellsPlayer fields row
+
+-- the numbers of two clubs, which differ
+abbrev pub ArePair : List ℕ → List ℕ → ℕ × ℕ → Type 0
+ArePair home away clubs = Spells 1 255 home clubs.0 × Spells 1 255 away clubs.1 × (clubs.0 ≢ clubs.1)
 
 -- a fixture: its number, the two clubs, which differ, its gameweek, and the instant of its kick-off, which is at least
 -- 90 minutes after the first

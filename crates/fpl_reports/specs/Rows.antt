@@ -1,5 +1,5 @@
 -- Texts of comma-separated records, where each record is a row of some kind.
-use Rattle.std.specs.Prelude.{◌≡◌, ◌+◌, ◌≤◌, ◌++◌, [], ◌∷◌, ℕ, List, length}
+use Rattle.std.specs.Prelude.{◌≡◌, ◌+◌, ◌≤◌, ◌++◌, [], ◌∷◌, ℕ, List, Option, Some, None, length}
 use Rattle.std.specs.Fmt.{decimal}
 use Rattle.csv.specs.Reading.{AreRecords, Reached, default_config, strip_bom}
 use Rattle.csv.specs.declared.parser.State.{State}
@@ -10,6 +10,11 @@ use Rattle.fpl_reports.specs.declared.rows.RowFault.TheVariants as fault
 -- the bytes spell this number, which is from the least to the greatest: in decimal, without sign or leading zero
 abbrev pub Spells : ℕ → ℕ → List ℕ → ℕ → Type 0
 Spells least greatest bytes n = (least ≤ n) × (n ≤ greatest) × (bytes ≡ decimal n)
+
+-- what is found is what is sought, and none is found only where there is none
+abbrev pub Finds : {T : Type 0} → (T → Type 0) → Option T → Type 0
+Finds {T} Is None = (x : T) → Is x → ⊥
+Finds Is (Some x) = Is x
 
 -- the bytes read as these records of comma-separated fields, without a header; a byte order mark in front is no part
 -- of them, and a blank line is no record

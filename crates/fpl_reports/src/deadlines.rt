@@ -18,7 +18,8 @@ pub(crate) fn deadlines_of(
     split: u8,
 ) -> Result<Option<Moments>, Memory>
     requires { All (λ (row : FixtureRow). 5400 ≤ row.kickoff) rows.now }
-    ensures { IfOk result (λ found. MatchOption found (EndsEarly split rows.now) (AreDeadlines split rows.now)) }
+    ensures { IfOk result (λ found.
+        MatchOption found (EndsEarly split rows.now) (AreDeadlines split rows.now)) }
 {
     let gameweeks = gameweeks_of(rows);
     if rows.is_empty() || split > gameweeks {
@@ -52,7 +53,8 @@ fn gameweeks_of(rows: &[FixtureRow]) -> u8
 fn first_kickoffs(rows: &[FixtureRow]) -> [Option<u64>; MAX_GAMEWEEKS]
     requires { All (λ (row : FixtureRow). 5400 ≤ row.kickoff) rows.now }
     ensures first { (k : ℕ) → k < 38 → slice_index_or result k None ≡ first_kickoff rows.now (k + 1) }
-    ensures range { (k : ℕ) → k < 38 → IfSome (slice_index_or result k None) (λ t. (5400 ≤ t) × (t ≤ 253402300799)) }
+    ensures range { (k : ℕ) → k < 38
+        → IfSome (slice_index_or result k None) (λ t. (5400 ≤ t) × (t ≤ 253402300799)) }
 {
     let mut first: [Option<u64>; MAX_GAMEWEEKS] = [None; MAX_GAMEWEEKS];
     for row in rows {

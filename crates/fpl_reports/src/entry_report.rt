@@ -53,7 +53,8 @@ fn put_slot(
     slot: u8,
     player: PlayerId,
 ) -> Result<Report, Memory>
-    ensures { IfOk result (λ longer. longer ≡ report ++ row_text default_writer (slot_row entry.now slot player)) }
+    ensures { IfOk result (λ longer.
+        longer ≡ report ++ row_text default_writer (slot_row entry.now slot player)) }
 {
     let slot_text = number(alloc, u64::from(slot))?;
     let player_text = number(alloc, u64::from(player.get()))?;

@@ -1,7 +1,7 @@
 // Fields of a record as what they spell.
 ghost use Rattle.std.specs.Prelude.{◌≡◌, ◌≢◌, ◌<◌, ◌≤◌, ◌∷◌, [], ℕ, MatchOption, Some, length};
 ghost use Rattle.csv.specs.Records.{fields_of, field_at};
-ghost use Rattle.fpl_reports.specs.Rows.{Spells};
+ghost use Rattle.fpl_reports.specs.Rows.{Finds, Spells};
 
 use csv::ByteRecord;
 use fpl_base::{ClubId, FixtureId, Gw, PlayerId, read_number};
@@ -46,14 +46,14 @@ fn field_of(read: &ByteRecord, place: usize) -> &[u8]
 
 // The number from 1 that a field spells.
 fn read_from_one(field: &[u8], greatest: u64) -> Option<u64>
-    ensures { MatchOption result ((n : ℕ) → Spells 1 greatest field.now n → ⊥) (Spells 1 greatest field.now) }
+    ensures { Finds (Spells 1 greatest field.now) result }
 {
     let number = read_number(field, greatest)?;
     if number == 0 { None } else { Some(number) }
 }
 
 pub(crate) fn read_club(field: &[u8]) -> Option<ClubId>
-    ensures { MatchOption result ((n : ℕ) → Spells 1 255 field.now n → ⊥) (Spells 1 255 field.now) }
+    ensures { Finds (Spells 1 255 field.now) result }
 {
     match ClubId::new(read_from_one(field, 255)? as u8) {
         Some(id) => Some(id),
@@ -62,7 +62,7 @@ pub(crate) fn read_club(field: &[u8]) -> Option<ClubId>
 }
 
 pub(crate) fn read_player(field: &[u8]) -> Option<PlayerId>
-    ensures { MatchOption result ((n : ℕ) → Spells 1 999999 field.now n → ⊥) (Spells 1 999999 field.now) }
+    ensures { Finds (Spells 1 999999 field.now) result }
 {
     match PlayerId::new(read_from_one(field, 999_999)? as u32) {
         Some(id) => Some(id),
@@ -71,7 +71,7 @@ pub(crate) fn read_player(field: &[u8]) -> Option<PlayerId>
 }
 
 pub(crate) fn read_fixture(field: &[u8]) -> Option<FixtureId>
-    ensures { MatchOption result ((n : ℕ) → Spells 1 999999 field.now n → ⊥) (Spells 1 999999 field.now) }
+    ensures { Finds (Spells 1 999999 field.now) result }
 {
     match FixtureId::new(read_from_one(field, 999_999)? as u32) {
         Some(id) => Some(id),
@@ -80,7 +80,7 @@ pub(crate) fn read_fixture(field: &[u8]) -> Option<FixtureId>
 }
 
 pub(crate) fn read_gameweek(field: &[u8]) -> Option<Gw>
-    ensures { MatchOption result ((n : ℕ) → Spells 1 38 field.now n → ⊥) (Spells 1 38 field.now) }
+    ensures { Finds (Spells 1 38 field.now) result }
 {
     match Gw::new(read_from_one(field, 38)? as u8) {
         Some(g) => Some(g),
@@ -89,7 +89,7 @@ pub(crate) fn read_gameweek(field: &[u8]) -> Option<Gw>
 }
 
 pub(crate) fn read_price(field: &[u8]) -> Option<u16>
-    ensures { MatchOption result ((n : ℕ) → Spells 0 65535 field.now n → ⊥) (Spells 0 65535 field.now) }
+    ensures { Finds (Spells 0 65535 field.now) result }
 {
     let price = read_number(field, 65_535)?;
     Some(price as u16)

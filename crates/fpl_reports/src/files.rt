@@ -3,9 +3,9 @@ ghost use Rattle.std.specs.Prelude.{◌≡◌, ◌≢◌, ◌==◌, ◌≤◌, �
 ghost use Rattle.std.specs.List.{list_any};
 ghost use Rattle.csv.specs.Records.{fields_of};
 ghost use Rattle.season_calendar.specs.Instants.{IsInstant};
-ghost use Rattle.fpl_reports.specs.Files.{AddsClub, AddsPlayer, AddsFixture, SpellsFixture};
+ghost use Rattle.fpl_reports.specs.Files.{AddsClub, AddsPlayer, AddsFixture, ArePair, SpellsFixture};
 ghost use Rattle.fpl_reports.specs.Folder.{order_of_player, order_of_fixture};
-ghost use Rattle.fpl_reports.specs.Rows.{Spells};
+ghost use Rattle.fpl_reports.specs.Rows.{Finds, Spells};
 
 use crate::fields::{
     five_fields, read_club, read_fixture, read_gameweek, read_player, read_price, two_fields,
@@ -151,8 +151,7 @@ impl Row for FixtureRow {
 
 // The fixture that a record spells.
 fn fixture_of(read: &ByteRecord) -> Option<FixtureRow>
-    ensures { MatchOption result ((row : FixtureRow) → SpellsFixture (fields_of read.now) row → ⊥)
-        (SpellsFixture (fields_of read.now)) }
+    ensures { Finds (SpellsFixture (fields_of read.now)) result }
 {
     let (id, home, away, gameweek, kickoff) = five_fields(read)?;
     let id = read_fixture(id)?;
@@ -170,9 +169,7 @@ fn fixture_of(read: &ByteRecord) -> Option<FixtureRow>
 
 // The clubs that two fields spell, where they differ.
 fn two_clubs(home: &[u8], away: &[u8]) -> Option<(ClubId, ClubId)>
-    ensures { MatchOption result
-        ((h a : ℕ) → Spells 1 255 home.now h → Spells 1 255 away.now a → h ≢ a → ⊥)
-        (λ clubs. Spells 1 255 home.now clubs.0 × Spells 1 255 away.now clubs.1 × (clubs.0 ≢ clubs.1)) }
+    ensures { Finds (ArePair home.now away.now) result }
 {
     let home = read_club(home)?;
     let away = read_club(away)?;
@@ -185,8 +182,7 @@ fn two_clubs(home: &[u8], away: &[u8]) -> Option<(ClubId, ClubId)>
 
 // The instant of a field, where a deadline stands before it.
 fn kickoff_of(field: &[u8]) -> Option<Moment>
-    ensures { MatchOption result ((t : ℕ) → IsInstant field.now t → 5400 ≤ t → ⊥)
-        (λ t. IsInstant field.now t × (5400 ≤ t)) }
+    ensures { Finds (λ t. IsInstant field.now t × (5400 ≤ t)) result }
 {
     match read_instant(field) {
         Some(kickoff) => {

@@ -35,7 +35,8 @@ pub fn season_files(
     split: u8,
     profile: Profile,
 ) -> Result<Vec<Command>, FileFault>
-    ensures orders { IfOk result (λ commands. AreOrders clubs.now players.now fixtures.now split profile commands.items) }
+    ensures orders { IfOk result (λ commands.
+        AreOrders clubs.now players.now fixtures.now split profile commands.items) }
     ensures lawful { IfOk result (λ commands. All IsCommand commands.items) }
     ensures fault { IfErr result (ExplainsFiles clubs.now players.now fixtures.now split) }
 {
@@ -87,7 +88,8 @@ fn fixtures_of(
     bytes: &[u8],
     split: u8,
 ) -> Result<(Vec<FixtureRow>, Moments), FileFault>
-    ensures rows { IfOk result (λ found. HasRows AddsFixture bytes.now found.0.items × AreDeadlines split found.0.items found.1) }
+    ensures rows { IfOk result (λ found.
+        HasRows AddsFixture bytes.now found.0.items × AreDeadlines split found.0.items found.1) }
     ensures fault { IfErr result (ExplainsFile 3 (WrongOfFixtures split bytes.now)) }
 {
     let rows = match rows_of::<FixtureRow>(alloc, bytes) {
@@ -122,7 +124,8 @@ fn orders_of(
     players: Vec<PlayerRow>,
     fixtures: Vec<FixtureRow>,
 ) -> Result<Vec<Command>, Memory>
-    ensures { IfOk result (λ commands. commands.items ≡ season ∷ (map order_of_player players.items ++ map order_of_fixture fixtures.items)) }
+    ensures { IfOk result (λ commands.
+        commands.items ≡ season ∷ (map order_of_player players.items ++ map order_of_fixture fixtures.items)) }
 {
     let mut commands = Vec::new(alloc);
     commands.push(season)?;

@@ -37,7 +37,8 @@ impl Report {
 
     // The report with this row at its end.
     pub(crate) fn with(self, fields: &[&[u8]]) -> Result<Self, Memory>
-        ensures { IfOk result (λ report. report ≡ self ++ row_text default_writer (map (λ field. field.now) fields.now)) }
+        ensures { IfOk result (λ report.
+            report ≡ self ++ row_text default_writer (map (λ field. field.now) fields.now)) }
     {
         let Report { mut writer } = self;
         match writer.write_fields(fields) {
@@ -86,7 +87,8 @@ pub(crate) fn put_lines<T: Line>(
     report: Report,
     lines: &[T],
 ) -> Result<Report, Memory>
-    ensures { IfOk result (λ longer. longer ≡ report ++ flat_map (row_text default_writer) (map T.fields lines.now)) }
+    ensures { IfOk result (λ longer.
+        longer ≡ report ++ flat_map (row_text default_writer) (map T.fields lines.now)) }
 {
     let mut longer = report;
     for line in lines {

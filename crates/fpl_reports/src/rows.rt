@@ -1,7 +1,7 @@
 // Rows of any kind, from the bytes of a file.
 ghost use Rattle.std.specs.Prelude.{◌≡◌, ◌≢◌, List, ℕ, IfOk, IfErr, MatchOption};
 ghost use Rattle.csv.specs.Records.{fields_of};
-ghost use Rattle.fpl_reports.specs.Rows.{HasRows, ExplainsRows};
+ghost use Rattle.fpl_reports.specs.Rows.{ExplainsRows, Finds, HasRows};
 
 use csv::{ByteRecord, ReaderBuilder};
 use fpl_base::Memory;
@@ -14,7 +14,7 @@ pub(crate) trait Row: Sized + Drop {
 
     /// The row that a record spells behind these rows; `Ok(None)` exactly where it spells none.
     fn read(alloc: Global, before: &[Self], read: &ByteRecord) -> Result<Option<Self>, Memory>
-        ensures { IfOk result (λ row. MatchOption row ((r : Self) → adds before.now (fields_of read.now) r → ⊥) (adds before.now (fields_of read.now))) };
+        ensures { IfOk result (Finds (adds before.now (fields_of read.now))) };
 }
 
 // Why there are no rows.

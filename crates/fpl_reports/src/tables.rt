@@ -68,7 +68,8 @@ impl Line for ShownLine {
 }
 
 pub(crate) fn classic_report(alloc: Global, league: &ShownClassic) -> Result<Vec<u8>, Memory>
-    ensures { IfOk result (λ text. text.items ≡ rows_text (classic_header ∷ map classic_row league.now.rows)) }
+    ensures { IfOk result (λ text.
+        text.items ≡ rows_text (classic_header ∷ map classic_row league.now.rows)) }
 {
     let report = Report::new(alloc).with(&[
         "rank".as_bytes(),
@@ -81,7 +82,8 @@ pub(crate) fn classic_report(alloc: Global, league: &ShownClassic) -> Result<Vec
 }
 
 pub(crate) fn head_report(alloc: Global, league: &ShownHead) -> Result<Vec<u8>, Memory>
-    ensures { IfOk result (λ text. text.items ≡ rows_text (head_header ∷ map head_row league.now.rows)) }
+    ensures { IfOk result (λ text.
+        text.items ≡ rows_text (head_header ∷ map head_row league.now.rows)) }
 {
     let report = Report::new(alloc).with(&[
         "rank".as_bytes(),
@@ -97,7 +99,8 @@ pub(crate) fn head_report(alloc: Global, league: &ShownHead) -> Result<Vec<u8>, 
 }
 
 pub(crate) fn fixture_report(alloc: Global, fixture: &ShownFixture) -> Result<Vec<u8>, Memory>
-    ensures { IfOk result (λ text. text.items ≡ rows_text (fixture_header ∷ map fixture_row fixture.now.lines)) }
+    ensures { IfOk result (λ text.
+        text.items ≡ rows_text (fixture_header ∷ map fixture_row fixture.now.lines)) }
 {
     let report = Report::new(alloc).with(&[
         "player".as_bytes(),

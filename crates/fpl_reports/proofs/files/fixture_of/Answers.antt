@@ -1,6 +1,11 @@
 use Rattle.csv.specs.Records.{fields_of}
-use Rattle.fpl_reports.proofs.FieldFacts.{no_kickoff}
+use Rattle.fpl_reports.proofs.FieldFacts.{no_kickoff, no_pair}
 use Rattle.fpl_reports.proofs.files.fixture_of.Goals as goal
+
+pub returns-in_err-home : goal.returns-in_err-home
+returns-in_err-home c =
+    rw c.from_residual-in_err-home.ensures
+    (λ row spelled. no_pair (fields_of c.args.read.now) row _ _ _ _ _ c.in_ok-id.ensures c.in_err-home.ensures spelled)
 
 pub returns-in_err-kickoff : goal.returns-in_err-kickoff
 returns-in_err-kickoff c =
