@@ -17,3 +17,4 @@ pub mod Puts
 pub mod Sheets
 pub mod Slots
 pub mod TeamsTold
+pub mod Worked

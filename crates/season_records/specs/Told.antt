@@ -36,16 +36,21 @@ SlotsTellOfThemselves = (book : Book) (s : Slot) (i : Item) → told book s ≡ 
 abbrev pub EmptyTellsNothing : Type 0
 EmptyTellsNothing = records empty_book ≡ no_records
 
--- the items that a book tells have values in their ranges
-abbrev pub TellsItems : Book → Type 0
-TellsItems book = (s : Slot) (i : Item) → told book s ≡ Some i → IsItem i
+-- what a book tells of a slot has values in their ranges; so of each slot
+abbrev pub TellsItem : Book → Slot → Type 0
+TellsItem book s = (i : Item) → told book s ≡ Some i → IsItem i
 
--- two such books with the same records tell the same of each slot
+abbrev pub TellsItems : Book → Type 0
+TellsItems book = (s : Slot) → TellsItem book s
+
+-- books with the same records tell the same of a slot, where the values are in their ranges
+abbrev pub RecordsTellSlots : Type 0
+RecordsTellSlots = (book other : Book) (s : Slot) → TellsItem book s → TellsItem other s → records book ≡ records other
+    → told book s ≡ told other s
+
+-- two books tell the same of each slot
 abbrev pub TellTheSame : Book → Book → Type 0
 TellTheSame book other = (s : Slot) → told book s ≡ told other s
-
-abbrev pub RecordsTellSlots : Type 0
-RecordsTellSlots = (book other : Book) → TellsItems book → TellsItems other → records book ≡ records other → TellTheSame book other
 
 -- two that are there and alike, or none
 abbrev pub BothAre : {X : Type 0} → (X → X → Type 0) → Option X → Option X → Type 0
