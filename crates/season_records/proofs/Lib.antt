@@ -14,6 +14,7 @@ pub mod Kept
 pub mod LeagueFacts
 pub mod Orders
 pub mod Puts
+pub mod RunFacts
 pub mod Sheets
 pub mod Slots
 pub mod TeamsTold

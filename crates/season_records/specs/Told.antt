@@ -16,7 +16,9 @@ use Rattle.rule_book.specs.TeamOfHistory.{team_of}
 use Rattle.rule_book.specs.UpTo.{start_of}
 use Rattle.season_book.specs.Book.{Book, EntryFacts, Facts, Last, empty_book}
 use Rattle.season_book.specs.Commands.{has_fixture}
+use Rattle.season_book.specs.Runs.{Asked, Run}
 use Rattle.season_book.specs.Verdict.{IsVerdictIn, Verdict, pass}
+use Rattle.season_book.specs.declared.answer.Answer.{Answer}
 use Rattle.season_book.specs.declared.command.Command.{Command}
 use Rattle.season_book.specs.declared.command.Command.TheVariants as command
 use Rattle.season_book.specs.declared.made.Made.{Made}
@@ -132,7 +134,7 @@ abbrev pub RecordsTellBooks : Type 0
 RecordsTellBooks = (book other : Book) → TellsItems book → TellsItems other → IsInOrder book → IsInOrder other
     → records book ≡ records other → SameBook book other
 
--- every book of a run is in order: the empty one is, and moments and verdicts lead to none that is not
+-- every book of a run is in order: the empty one is, and moments, verdicts and runs lead from one in order to one in order
 abbrev pub EmptyIsInOrder : Type 0
 EmptyIsInOrder = IsInOrder empty_book
 
@@ -143,3 +145,8 @@ abbrev pub VerdictsKeepOrder : Type 0
 VerdictsKeepOrder =
     (operator : List ℕ) (book : Book) (caller : Caller) (now : ℕ) (asked : Request) (verdict : Verdict)
     → IsInOrder book → IsVerdictIn operator book caller now asked verdict → IsInOrder verdict.book
+
+abbrev pub RunsKeepOrder : Type 0
+RunsKeepOrder =
+    (operator : List ℕ) (book after : Book) (asked : List Asked) (replies : List Answer)
+    → IsInOrder book → Run operator book asked replies after → IsInOrder after
