@@ -21,7 +21,7 @@ use Rattle.season_records.proofs.Slots.{records_tell_slots}
 use Rattle.season_records.proofs.TeamsTold.{same_teams}
 
 pub records_tell_facts : RecordsTellFacts
-records_tell_facts book other items others same = facts_told book other (records_tell_slots book other items others same)
+records_tell_facts book other items others same = facts_told book other (λ s. records_tell_slots book other s (items s) (others s) same)
 
 -- What is read back.
 
@@ -135,4 +135,4 @@ module _ (book other : Book) (same : TellTheSame book other) where
     }
 
 pub records_tell_books : RecordsTellBooks
-records_tell_books book other items others order also same = same_book book other (records_tell_slots book other items others same) order also
+records_tell_books book other items others order also same = same_book book other (λ s. records_tell_slots book other s (items s) (others s) same) order also

@@ -14,6 +14,8 @@ pub mod Kept
 pub mod LeagueFacts
 pub mod Orders
 pub mod Puts
+pub mod RunFacts
 pub mod Sheets
 pub mod Slots
 pub mod TeamsTold
+pub mod Worked

@@ -21,7 +21,7 @@ use Rattle.record_codec.proofs.ItemLaws.{item_back}
 use Rattle.record_codec.proofs.KeyLaws.{own_slot}
 use Rattle.season_records.specs.Records.{cup_item, entry_item, fixture_item, last_item, league_item, member_told, no_position, player_item, records, team_item, team_told, told, told_in, transfer_item, transfer_told}
 use Rattle.season_records.proofs.Finds.{none_in}
-use Rattle.season_records.specs.Told.{EmptyTellsNothing, RecordsTellSlots, SlotsTellOfThemselves, TellsItems}
+use Rattle.season_records.specs.Told.{EmptyTellsNothing, RecordsTellSlots, SlotsTellOfThemselves, TellsItem}
 
 -- What is told of a slot is an item of it.
 
@@ -96,18 +96,17 @@ same_items : (i j : Item) → IsItem i → IsItem j → slot_of_item i ≡ slot_
 same_items i j is also slot body =
     same_Some i j (sym (item_back i is) ∙ ap (λ s. item_of (key_of s) (body_of i)) slot ∙ ap (item_of (key_of_item j)) body ∙ item_back j also)
 
-module _ (book other : Book) (items : TellsItems book) (others : TellsItems other) (s : Slot) where
+module _ (book other : Book) (s : Slot) (item : TellsItem book s) (also : TellsItem other s) where
   same_told : (x y : Option Item) → told book s ≡ x → told other s ≡ y → option_map body_of x ≡ option_map body_of y → x ≡ y
-  same_told None None is also same = refl
-  same_told None (Some j) is also same = absurd (none-some (body_of j) same)
-  same_told (Some i) None is also same = absurd (none-some (body_of i) (sym same))
-  same_told (Some i) (Some j) is also same =
-      ap Some (same_items i j (items s i is) (others s j also)
-      (slots_tell_of_themselves book s i is ∙ sym (slots_tell_of_themselves other s j also)) (same_Some (body_of i) (body_of j) same))
+  same_told None None is are same = refl
+  same_told None (Some j) is are same = absurd (none-some (body_of j) same)
+  same_told (Some i) None is are same = absurd (none-some (body_of i) (sym same))
+  same_told (Some i) (Some j) is are same =
+      ap Some (same_items i j (item i is) (also j are) (slots_tell_of_themselves book s i is ∙ sym (slots_tell_of_themselves other s j are)) (same_Some (body_of i) (body_of j) same))
 
 pub records_tell_slots : RecordsTellSlots
-records_tell_slots book other items others same s =
-    same_told book other items others s (told book s) (told other s) refl refl
+records_tell_slots book other s item also same =
+    same_told book other s item also (told book s) (told other s) refl refl
     (sym (at_slot book) ∙ ap (λ (m : Map). m (key_of s)) same ∙ at_slot other)
   where
     at_slot : (book : Book) → records book (key_of s) ≡ option_map body_of (told book s)

@@ -8,7 +8,9 @@ use Rattle.rule_book.specs.HistoryRules.{NoneAfter}
 use Rattle.season_book.specs.Book.{Book, Facts, caller_number, empty_book}
 use Rattle.season_book.specs.Commands.{part_of}
 use Rattle.season_book.specs.LeagueViews.{history_of}
+use Rattle.season_book.specs.Runs.{Asked, Run}
 use Rattle.season_book.specs.Verdict.{IsVerdictIn, Outcome, Verdict, accepted, pass, ruled}
+use Rattle.season_book.specs.declared.answer.Answer.{Answer}
 use Rattle.season_book.specs.declared.command.Command.{Command}
 use Rattle.season_book.specs.declared.part.Part.TheVariants as part
 use Rattle.season_book.specs.declared.request.Request.{Request}
@@ -76,3 +78,9 @@ abbrev pub VerdictsAreEarly : Type 0
 VerdictsAreEarly =
     (operator : List ℕ) (book : Book) (caller : Caller) (now : ℕ) (asked : Request) (verdict : Verdict)
     → AreEarly book → IsVerdictIn operator book caller now asked verdict → AreEarly verdict.book
+
+-- so of every run from a book that is not late
+abbrev pub RunsAreEarly : Type 0
+RunsAreEarly =
+    (operator : List ℕ) (book after : Book) (asked : List Asked) (replies : List Answer)
+    → AreEarly book → Run operator book asked replies after → AreEarly after

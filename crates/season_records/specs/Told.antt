@@ -16,7 +16,9 @@ use Rattle.rule_book.specs.TeamOfHistory.{team_of}
 use Rattle.rule_book.specs.UpTo.{start_of}
 use Rattle.season_book.specs.Book.{Book, EntryFacts, Facts, Last, empty_book}
 use Rattle.season_book.specs.Commands.{has_fixture}
+use Rattle.season_book.specs.Runs.{Asked, Run}
 use Rattle.season_book.specs.Verdict.{IsVerdictIn, Verdict, pass}
+use Rattle.season_book.specs.declared.answer.Answer.{Answer}
 use Rattle.season_book.specs.declared.command.Command.{Command}
 use Rattle.season_book.specs.declared.command.Command.TheVariants as command
 use Rattle.season_book.specs.declared.made.Made.{Made}
@@ -36,16 +38,21 @@ SlotsTellOfThemselves = (book : Book) (s : Slot) (i : Item) → told book s ≡ 
 abbrev pub EmptyTellsNothing : Type 0
 EmptyTellsNothing = records empty_book ≡ no_records
 
--- the items that a book tells have values in their ranges
-abbrev pub TellsItems : Book → Type 0
-TellsItems book = (s : Slot) (i : Item) → told book s ≡ Some i → IsItem i
+-- what a book tells of a slot has values in their ranges; so of each slot
+abbrev pub TellsItem : Book → Slot → Type 0
+TellsItem book s = (i : Item) → told book s ≡ Some i → IsItem i
 
--- two such books with the same records tell the same of each slot
+abbrev pub TellsItems : Book → Type 0
+TellsItems book = (s : Slot) → TellsItem book s
+
+-- books with the same records tell the same of a slot, where the values are in their ranges
+abbrev pub RecordsTellSlots : Type 0
+RecordsTellSlots = (book other : Book) (s : Slot) → TellsItem book s → TellsItem other s → records book ≡ records other
+    → told book s ≡ told other s
+
+-- two books tell the same of each slot
 abbrev pub TellTheSame : Book → Book → Type 0
 TellTheSame book other = (s : Slot) → told book s ≡ told other s
-
-abbrev pub RecordsTellSlots : Type 0
-RecordsTellSlots = (book other : Book) → TellsItems book → TellsItems other → records book ≡ records other → TellTheSame book other
 
 -- two that are there and alike, or none
 abbrev pub BothAre : {X : Type 0} → (X → X → Type 0) → Option X → Option X → Type 0
@@ -127,7 +134,7 @@ abbrev pub RecordsTellBooks : Type 0
 RecordsTellBooks = (book other : Book) → TellsItems book → TellsItems other → IsInOrder book → IsInOrder other
     → records book ≡ records other → SameBook book other
 
--- every book of a run is in order: the empty one is, and moments and verdicts lead to none that is not
+-- every book of a run is in order: the empty one is, and moments, verdicts and runs lead from one in order to one in order
 abbrev pub EmptyIsInOrder : Type 0
 EmptyIsInOrder = IsInOrder empty_book
 
@@ -138,3 +145,8 @@ abbrev pub VerdictsKeepOrder : Type 0
 VerdictsKeepOrder =
     (operator : List ℕ) (book : Book) (caller : Caller) (now : ℕ) (asked : Request) (verdict : Verdict)
     → IsInOrder book → IsVerdictIn operator book caller now asked verdict → IsInOrder verdict.book
+
+abbrev pub RunsKeepOrder : Type 0
+RunsKeepOrder =
+    (operator : List ℕ) (book after : Book) (asked : List Asked) (replies : List Answer)
+    → IsInOrder book → Run operator book asked replies after → IsInOrder after

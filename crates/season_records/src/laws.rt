@@ -1,8 +1,8 @@
 ghost use Rattle.season_records.specs.Commits.{CommitsHoldOne, RequestsCommit};
 ghost use Rattle.season_records.specs.Keeping.{CommandsKeepRecords, LocksKeepRecords, NoLockLeavesBook};
-ghost use Rattle.season_records.specs.Keeping.{EmptyIsEarly, MomentsAreEarly, VerdictsAreEarly};
+ghost use Rattle.season_records.specs.Keeping.{EmptyIsEarly, MomentsAreEarly, RunsAreEarly, VerdictsAreEarly};
 ghost use Rattle.season_records.specs.Keeping.{RestsKeepRecords, VerdictsKeepRecords};
-ghost use Rattle.season_records.specs.Told.{EmptyIsInOrder, MomentsKeepOrder, VerdictsKeepOrder};
+ghost use Rattle.season_records.specs.Told.{EmptyIsInOrder, MomentsKeepOrder, RunsKeepOrder, VerdictsKeepOrder};
 ghost use Rattle.season_records.specs.Told.{EmptyTellsNothing, RecordsTellBooks, RecordsTellFacts};
 ghost use Rattle.season_records.specs.Told.{RecordsTellSlots, SlotsTellOfThemselves};
 
@@ -41,6 +41,7 @@ pub fn books_are_early()
     ensures empty { EmptyIsEarly }
     ensures moment { MomentsAreEarly }
     ensures verdict { VerdictsAreEarly }
+    ensures run { RunsAreEarly }
 {}
 
 /// A law on the definitions: of a slot an item of that slot is told, and of the empty book nothing.
@@ -58,11 +59,12 @@ pub fn records_tell_books()
     ensures books { RecordsTellBooks }
 {}
 
-/// A law on the definitions: the empty book is in order, and so is every book behind a moment or a verdict: its facts, the
+/// A law on the definitions: the empty book is in order, and so is every book behind a moment, a verdict or a run: its facts, the
 /// members of its leagues and its last commands stand by ascending id, lines and finished marks are of fixtures that are
 /// there, and each last command made what such a command makes.
 pub fn books_are_in_order()
     ensures empty { EmptyIsInOrder }
     ensures moment { MomentsKeepOrder }
     ensures verdict { VerdictsKeepOrder }
+    ensures run { RunsKeepOrder }
 {}
