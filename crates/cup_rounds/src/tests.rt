@@ -1,5 +1,5 @@
 use super::*;
-use fpl_base::Gw;
+use fpl_base::{EntryId, Gw};
 use std::alloc::Global;
 
 fn bracket(alloc: Global, start: u8, slots: &[u32], coins: u32) -> Option<Bracket> {
@@ -78,5 +78,36 @@ fn ties(rt: HostRuntime) {
         ((50, 3, 1), (50, 3, 1), 1, false),
     ] {
         assert_eq!(rt; tie(&side(a), &side(b), coin), wanted);
+    }
+}
+
+// Adds a cup that can be played.
+fn added(cups: &mut Cups, drawn: Bracket) -> Option<()> {
+    cups_have_shape();
+    if check(&drawn, 38, 5).is_err() || cups.add(drawn).is_err() {
+        return None;
+    }
+    Some(())
+}
+
+// The numbers of the cups in which an entry stands, of two cups, as the digits of one number; 0 of none.
+fn cups_told(alloc: Global, entry: u32) -> Option<u32> {
+    let mut cups = Cups::new(alloc);
+    added(&mut cups, bracket(alloc, 37, &[1, 0, 2, 3], 3)?)?;
+    added(&mut cups, bracket(alloc, 38, &[3, 4], 1)?)?;
+    let Ok(ids) = cups.cups_of(EntryId::new(entry)?) else {
+        return None;
+    };
+    let mut told = 0u32;
+    'ids: for id in ids.as_slice() {
+        told = told.wrapping_mul(10).wrapping_add(id.get());
+    }
+    Some(told)
+}
+
+#[test]
+fn cups_of_an_entry(rt: HostRuntime) {
+    for (entry, wanted) in [(1, 1), (4, 2), (3, 12), (5, 0)] {
+        assert_eq!(rt; cups_told(rt.alloc(), entry), Some(wanted));
     }
 }
