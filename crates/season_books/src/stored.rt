@@ -1,0 +1,82 @@
+// The records of a store, and what is found among them.
+ghost use Rattle.std.specs.Prelude.{◌≡◌, IfOk};
+ghost use Rattle.std.specs.Option.{option_map};
+ghost use Rattle.fpl_base.specs.Keeping.{KeysRise, map_of};
+ghost use Rattle.fpl_base.specs.Rows.{IsPlace};
+ghost use Rattle.season_books.specs.Stored.{between, is_there, told};
+
+use fpl_base::{Bytes, Memory, RecordKey};
+use record_codec::{Item, Slot, decode};
+use std::alloc::Global;
+use std::marker::Model;
+
+/// Records in the order of their keys.
+pub struct Stored<'a> {
+    rows: &'a [(RecordKey, Bytes)],
+}
+
+impl<'a> Model for Stored<'a> {
+    ghost use Rattle.season_books.specs.Stored.{Rows};
+    ghost use Rattle.fpl_base.specs.Keeping.{KeysRise};
+
+    ghost Value = { Rows };
+
+    ghost view = { λ s. s.rows.now };
+
+    ghost invariant = { λ s. KeysRise s.rows.now };
+}
+
+impl<'a> Stored<'a> {
+    /// These records.
+    pub fn new(rows: &'a [(RecordKey, Bytes)]) -> Self
+        requires { KeysRise rows.now }
+        ensures { result ≡ rows.now }
+    {
+        Stored { rows }
+    }
+
+    // Where the record of a key stands, or would stand.
+    fn place_of(&self, key: RecordKey) -> usize
+        ensures { IsPlace self.now key result }
+    {
+        self.rows.partition_point(|row| row.0.precedes(&key))
+    }
+
+    /// The body of the record of a key, if there is one.
+    pub fn body(&self, key: RecordKey) -> Option<&[u8]>
+        ensures { option_map (λ body. body.now) result ≡ map_of self.now key }
+    {
+        let place = self.place_of(key);
+        if place < self.rows.len() && self.rows[place].0 == key {
+            Some(self.rows[place].1.as_slice())
+        } else {
+            None
+        }
+    }
+
+    /// Whether there is a record of a slot.
+    pub fn has(&self, slot: Slot) -> bool
+        ensures { result ≡ is_there (map_of self.now) slot }
+    {
+        self.body(slot.key()).is_some()
+    }
+
+    /// What the record of a slot tells, if there is one that is spelled as it has to be.
+    pub fn item(&self, alloc: Global, slot: Slot) -> Result<Option<Item>, Memory>
+        ensures { IfOk result (λ item. item ≡ told (map_of self.now) slot) }
+    {
+        match self.body(slot.key()) {
+            Some(body) => decode(alloc, slot.key(), body),
+            None => Ok(None),
+        }
+    }
+
+    /// How many records have a key not before `low`, and before `high`.
+    pub fn between(&self, low: RecordKey, high: RecordKey) -> usize
+        ensures { result ≡ between self.now low high }
+    {
+        let first = self.place_of(low);
+        let end = self.place_of(high);
+        if first < end { end - first } else { 0 }
+    }
+}
