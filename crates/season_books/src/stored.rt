@@ -1,7 +1,8 @@
 // The records of a store, and what is found among them.
-ghost use Rattle.std.specs.Prelude.{◌≡◌, IfOk};
+ghost use Rattle.std.specs.Prelude.{◌≡◌, ◌<◌, IfOk, IsTrue, false, length};
+ghost use Rattle.std.specs.List.{HoldsAt};
 ghost use Rattle.std.specs.Option.{option_map};
-ghost use Rattle.fpl_base.specs.Keeping.{KeysRise, map_of};
+ghost use Rattle.fpl_base.specs.Keeping.{KeysRise, is_same_key, map_of};
 ghost use Rattle.fpl_base.specs.Rows.{IsPlace};
 ghost use Rattle.season_books.specs.Stored.{between, is_there, told};
 
@@ -26,6 +27,14 @@ impl<'a> Model for Stored<'a> {
     ghost invariant = { λ s. KeysRise s.rows.now };
 }
 
+// Whether the record of this key stands at the place.
+fn stands_at(rows: &[(RecordKey, Bytes)], at: usize, key: RecordKey) -> bool
+    ensures there { IsTrue result → (at < length rows.now) × HoldsAt (λ row. row.0 ≡ key) rows.now at }
+    ensures away { result ≡ false → at < length rows.now → HoldsAt (λ row. is_same_key row.0 key ≡ false) rows.now at }
+{
+    at < rows.len() && rows[at].0 == key
+}
+
 impl<'a> Stored<'a> {
     /// These records.
     pub fn new(rows: &'a [(RecordKey, Bytes)]) -> Self
@@ -47,7 +56,7 @@ impl<'a> Stored<'a> {
         ensures { option_map (λ body. body.now) result ≡ map_of self.now key }
     {
         let place = self.place_of(key);
-        if place < self.rows.len() && self.rows[place].0 == key {
+        if stands_at(self.rows, place, key) {
             Some(self.rows[place].1.as_slice())
         } else {
             None
