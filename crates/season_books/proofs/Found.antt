@@ -1,6 +1,8 @@
 -- What is found among records in the order of their keys, and how many stand between two.
-use Rattle.std.proofs.Common.{◌≡◌, ◌≢◌, ◌<◌, ◌≤◌, ◌+◌, ◌-◌, ℕ, zero, suc, Bool, true, false, not, ◌&&◌, List, [], ◌∷◌, length, get_or, take, drop, min, nat_le, nat_lt, Some, None, IsTrue, refl, sym, ap, ◌∙◌, subst, inl, inr, arith, add-one, if◌then◌else◌}
+use Rattle.std.proofs.Common.{◌≡◌, ◌≢◌, ◌<◌, ◌≤◌, ◌+◌, ◌-◌, ℕ, zero, suc, Bool, true, false, not, ◌&&◌, List, [], ◌∷◌, length, get_or, take, drop, filter, min, nat_le, nat_lt, Some, None, IsTrue, refl, sym, ap, ◌∙◌, subst, inl, inr, arith, add-one, if◌then◌else◌}
 use Rattle.std.specs.List.{All, AllPairs, HoldsAt, count_by}
+use Rattle.std.specs.List.Sorted.{IsPartitionPoint}
+use Rattle.std.proofs.Math.Seq.{drop-nil, take-nil}
 use Rattle.std.proofs.lemmas.Bool.{cases_eq}
 use Rattle.std.proofs.lemmas.Bool.Decides.{nat_tests}
 use Rattle.std.proofs.lemmas.List.Sums.{count_by_more_yes, count_by_more_no}
@@ -31,11 +33,11 @@ module _ (rows : Rows) (key : Key) (at : ℕ) (rise : KeysRise rows) (place : Is
   greater : (at < length rows → HoldsAt (λ row. is_same_key row.0 key ≡ false) rows at) → (k : ℕ) (d : Key × List ℕ) → at ≤ k → k < length rows → precedes key (get_or rows k d).0 ≡ true
   greater away k d le lt = elim (cases_eq k at) [
     | inl same ↦
-      let here : is_same_key (get_or rows k d).0 key ≡ false = subst (λ i. is_same_key (get_or rows i d).0 key ≡ false) (sym same) (away (omega (arith, same, lt)) d) in
-      precedes_or (get_or rows k d).0 key (place.behind k d le lt) here
+        let here : is_same_key (get_or rows k d).0 key ≡ false = subst (λ i. is_same_key (get_or rows i d).0 key ≡ false) (sym same) (away (omega (arith, same, lt)) d) in
+        precedes_or (get_or rows k d).0 key (place.behind k d le lt) here
     | inr other ↦
-      let here = precedes_or (get_or rows at d).0 key (place.behind at d (omega arith) (omega (arith, le, lt))) (away (omega (arith, le, lt)) d) in
-      precedes_trans key (get_or rows at d).0 (get_or rows k d).0 here (rise at k d (omega (arith, le, other)) lt)
+        let here = precedes_or (get_or rows at d).0 key (place.behind at d (omega arith) (omega (arith, le, lt))) (away (omega (arith, le, lt)) d) in
+        precedes_trans key (get_or rows at d).0 (get_or rows k d).0 here (rise at k d (omega (arith, le, other)) lt)
   ]
 
   pub absent : (at < length rows → HoldsAt (λ row. is_same_key row.0 key ≡ false) rows at) → map_of rows key ≡ None
@@ -73,3 +75,29 @@ between_places rows low high a b p q =
         by true true e f = rw (p.behind k d (grind (arith, nat_tests, e)) lt, q.before k d (omega arith) (grind (arith, nat_tests, f)), e, f) refl
         by true false e f = rw (p.behind k d (grind (arith, nat_tests, e)) lt, q.behind k d (grind (arith, nat_tests, f)) lt, e, f) refl
         by false t e f = rw (p.before k d (omega arith) (grind (arith, nat_tests, e)), e) refl
+
+-- what a filter keeps that keeps the places from a on and before b
+pub kept_part : {X : Type 0} (p : X → Bool) (xs : List X) (a b : ℕ) → ((k : ℕ) (d : X) → k < length xs → p (get_or xs k d) ≡ (nat_le a k && nat_lt k b)) → take (b - a) (drop a xs) ≡ filter p xs
+kept_part p [] a b at = nothing a (b - a)
+  where
+    nothing : {X : Type 0} (i n : ℕ) → take n (drop i ([] {A = X})) ≡ []
+    nothing i n = rw (drop-nil i, take-nil n) refl
+kept_part p (x ∷ xs) (suc a) b at =
+    let first : p x ≡ false = at 0 x (omega arith) ∙ grind (arith, nat_tests) in
+    let rest = kept_part p xs a (b - 1) (λ k d lt. at (suc k) d (omega (arith, lt)) ∙ grind (arith, nat_tests)) in
+    rw (first, ← rest) (ap (λ n. take n (drop a xs)) (omega arith))
+kept_part p (x ∷ xs) zero zero at =
+    let first : p x ≡ false = at 0 x (omega arith) ∙ grind (arith, nat_tests) in
+    rw first (kept_part p xs 0 0 (λ k d lt. at (suc k) d (omega (arith, lt)) ∙ grind (arith, nat_tests)))
+kept_part p (x ∷ xs) zero (suc b) at =
+    let first : p x ≡ true = at 0 x (omega arith) ∙ grind (arith, nat_tests) in
+    rw first (ap (λ r. x ∷ r) (kept_part p xs 0 b (λ k d lt. at (suc k) d (omega (arith, lt)) ∙ grind (arith, nat_tests))))
+
+-- where two tests hold in front of two places, what passes the second and not the first stands between them
+pub kept_between : {X : Type 0} (low high p : X → Bool) (xs : List X) (a b : ℕ) → ((x : X) → p x ≡ (not (low x) && high x)) → IsPartitionPoint (λ x. low x ≡ true) (λ x. low x ≡ false) xs a → IsPartitionPoint (λ x. high x ≡ true) (λ x. high x ≡ false) xs b → take (b - a) (drop a xs) ≡ filter p xs
+kept_between low high p xs a b is s t = kept_part p xs a b (λ k d lt. is (get_or xs k d) ∙ by k d lt (nat_le a k) (nat_lt k b) refl refl)
+  where
+    by : (k : ℕ) (d : _) → k < length xs → (u v : Bool) → nat_le a k ≡ u → nat_lt k b ≡ v → (not (low (get_or xs k d)) && high (get_or xs k d)) ≡ (nat_le a k && nat_lt k b)
+    by k d lt true true e f = rw (s.1 k d (grind (arith, nat_tests, e)) lt, t.0 k d (omega arith) (grind (arith, nat_tests, f)), e, f) refl
+    by k d lt true false e f = rw (s.1 k d (grind (arith, nat_tests, e)) lt, t.1 k d (grind (arith, nat_tests, f)) lt, e, f) refl
+    by k d lt false v e f = rw (s.0 k d (omega arith) (grind (arith, nat_tests, e)), e) refl
