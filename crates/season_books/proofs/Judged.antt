@@ -39,8 +39,8 @@ capped b g = ap (λ t. t && ((length b.coins + 1 == length b.slots) && (stands_o
 
     rounds : has_rounds b (min g (b.start + 10)) ≡ has_rounds b g
     rounds = any_same (λ r. (length b.slots == 2 ^ r) && nat_le (b.start + r) (min g (b.start + 10) + 1)) (λ r. (length b.slots == 2 ^ r) && nat_le (b.start + r) (g + 1)) (range_with_len 1 10) (λ k d lt.
-      let few : get_or (range_with_len 1 10) k d ≤ 10 = omega (arith, get_or-range_with_len 1 10 k d (omega (arith, lt, length-range_with_len 1 10)), lt, length-range_with_len 1 10) in
-      ap (λ t. (length b.slots == 2 ^ get_or (range_with_len 1 10) k d) && t) (fits (get_or (range_with_len 1 10) k d) few))
+        let few : get_or (range_with_len 1 10) k d ≤ 10 = omega (arith, get_or-range_with_len 1 10 k d (omega (arith, lt, length-range_with_len 1 10)), lt, length-range_with_len 1 10) in
+        ap (λ t. (length b.slots == 2 ^ get_or (range_with_len 1 10) k d) && t) (fits (get_or (range_with_len 1 10) k d) few))
 
 -- of as many members as places, two or more, an order is one where each member has a place
 pub places_had : (order : List ℕ) (members : List (RecordKey × List ℕ)) → 2 ≤ length members → length order ≡ length members

@@ -7,6 +7,7 @@ ghost use Rattle.rule_book.specs.Cups.{is_cup};
 ghost use Rattle.rule_book.specs.HeadToHead.{is_draw};
 ghost use Rattle.rule_book.specs.LeagueCalls.{is_head, most_members};
 ghost use Rattle.record_codec.specs.ItemReading.{item_of};
+ghost use Rattle.record_codec.specs.Laws.{IsBytes};
 ghost use Rattle.record_codec.specs.declared.slot.Slot.TheVariants as slot;
 ghost use Rattle.season_books.specs.LeagueRules.{cup_breaks, has_gap, has_key, has_other_key, is_answer, is_drawn_wrong, is_league_full, is_member_of, is_registered, issue_breaks, kind_in, last_breaks, league_breaks, leagues_before, member_breaks, plays_from, stands_at_two};
 ghost use Rattle.season_books.specs.SeasonRules.{misses, terms_told};
@@ -100,7 +101,7 @@ fn has_other_key(alloc: Global, stored: &Stored, entry: EntryId, key: &Key) -> R
 fn has_key(alloc: Global, row: &(RecordKey, Bytes), key: &Key) -> Result<bool, Memory>
     ensures { IfOk result (λ b. b ≡ has_key key.now (item_of row.now.0 row.now.1)) }
 {
-    if row.0.kind == 6 && !stands_at_two(row.1.as_slice(), key.bytes()) {
+    if !stands_at_two(row.1.as_slice(), key.bytes()) {
         return Ok(false);
     }
     let item = decode(alloc, row.0, row.1.as_slice())?;
@@ -109,7 +110,8 @@ fn has_key(alloc: Global, row: &(RecordKey, Bytes), key: &Key) -> Result<bool, M
 
 // Whether these bytes stand behind two others.
 fn stands_at_two(body: &[u8], bytes: &[u8]) -> bool
-    ensures { result ≡ stands_at_two body.now bytes.now }
+    ensures test { result ≡ stands_at_two body.now bytes.now }
+    ensures bytes { IsBytes body.now }
 {
     let end = bytes.len() + 2;
     end <= body.len() && &body[2..end] == bytes
@@ -353,12 +355,7 @@ pub(crate) fn cup_breaks(
     if has_gap(stored, cup.get(), Slot::Cup(cup.get() - 1)) {
         return Ok(true);
     }
-    Ok(is_full(
-        stored,
-        MOST_CUPS,
-        Slot::Cup(0),
-        Slot::Cup(cup.get()),
-    ))
+    Ok(is_full(stored, MOST_CUPS, Slot::Cup(0), Slot::Cup(cup.get())))
 }
 
 // Whether an entrant of a cup is not there.
