@@ -3,17 +3,24 @@
 
 mod bodies;
 mod commands;
+mod decoding;
 mod fields;
 mod item;
 mod laws;
 mod lists;
+mod orderable;
+mod read_commands;
+mod read_fields;
+mod read_items;
+mod read_lists;
 mod reading;
 mod slot;
+mod unread;
 mod writing;
 
+pub use decoding::{decode, decode_command};
 pub use item::Item;
 pub use laws::{commands_have_their_bytes, keys_are_of_slots, records_have_one_spelling};
-pub use reading::decode;
 pub use slot::Slot;
 pub use writing::{command_bytes, encode};
 

@@ -1,16 +1,100 @@
-ghost use Rattle.std.specs.Prelude.{◌≡◌, IfOk};
-ghost use Rattle.record_codec.specs.ItemReading.{item_of};
+// Reading bytes from left to right.
+ghost use Rattle.std.specs.Prelude.{◌≡◌, ◌==◌, length};
+ghost use Rattle.std.specs.Int.{w16, w32, w64};
+ghost use Rattle.record_codec.specs.Given.{Gives, IsRead};
+ghost use Rattle.record_codec.specs.Reading.{byte_at, number_at, front_at};
 
-use crate::Item;
-use fpl_base::{Memory, RecordKey};
-use std::alloc::Global;
+use crate::unread::Unread;
+use std::marker::Model;
 
-/// The record that has this key and this body; `Ok(None)` exactly where none has.
-pub fn decode(alloc: Global, key: RecordKey, body: &[u8]) -> Result<Option<Item>, Memory>
-    ensures { IfOk result (λ item. item ≡ item_of key body.now) }
-{
-    let _ = alloc;
-    let _ = key;
-    let _ = body;
-    Err(Memory)
+// The bytes that are not read yet. After an error it is not said which these are.
+#[derive(Drop)]
+pub struct Reading<'a> {
+    rest: &'a [u8],
+}
+
+impl<'a> Model for Reading<'a> {
+    ghost use Rattle.std.specs.Prelude.{List, ℕ};
+
+    ghost Value = { List ℕ };
+
+    ghost view = { λ r. r.rest.now };
+}
+
+impl<'a> Reading<'a> {
+    // All of the bytes, from the first.
+    pub fn of(bytes: &'a [u8]) -> Self
+        ensures { result ≡ bytes.now }
+    {
+        Reading { rest: bytes }
+    }
+
+    // Whether nothing is left.
+    pub fn is_done(&self) -> bool
+        ensures { result ≡ (length self.now == 0) }
+    {
+        self.rest.is_empty()
+    }
+
+    pub fn u8(&mut self) -> Result<u8, Unread>
+        ensures { IsRead result self.new (byte_at self.old) }
+    {
+        match self.rest {
+            [] => Err(Unread::Nothing),
+            [byte, rest @ ..] => {
+                self.rest = rest;
+                Ok(*byte)
+            }
+        }
+    }
+
+    #[tactic(auto, unfolding(crate::specs::Reading::front_at))]
+    pub fn front(&mut self, n: usize) -> Result<&'a [u8], Unread>
+        ensures { Gives (λ front. (front.now, self.new)) result (front_at n self.old) }
+    {
+        if self.rest.len() < n {
+            return Err(Unread::Nothing);
+        }
+        let (front, rest) = self.rest.split_at(n);
+        self.rest = rest;
+        Ok(front)
+    }
+
+    #[tactic(auto, unfolding(crate::specs::Reading::number_at))]
+    pub fn u16(&mut self) -> Result<u16, Unread>
+        ensures { IsRead result self.new (number_at w16 self.old) }
+    {
+        if self.rest.len() < 2 {
+            return Err(Unread::Nothing);
+        }
+        let (front, rest) = self.rest.split_at(2);
+        self.rest = rest;
+        Ok(u16::from_be_bytes([front[0], front[1]]))
+    }
+
+    #[tactic(auto, unfolding(crate::specs::Reading::number_at))]
+    pub fn u32(&mut self) -> Result<u32, Unread>
+        ensures { IsRead result self.new (number_at w32 self.old) }
+    {
+        if self.rest.len() < 4 {
+            return Err(Unread::Nothing);
+        }
+        let (front, rest) = self.rest.split_at(4);
+        self.rest = rest;
+        Ok(u32::from_be_bytes([front[0], front[1], front[2], front[3]]))
+    }
+
+    #[tactic(auto, unfolding(crate::specs::Reading::number_at))]
+    pub fn u64(&mut self) -> Result<u64, Unread>
+        ensures { IsRead result self.new (number_at w64 self.old) }
+    {
+        if self.rest.len() < 8 {
+            return Err(Unread::Nothing);
+        }
+        let (front, rest) = self.rest.split_at(8);
+        self.rest = rest;
+        Ok(u64::from_be_bytes([
+            front[0], front[1], front[2], front[3], front[4], front[5], front[6], front[7],
+        ]))
+    }
 }

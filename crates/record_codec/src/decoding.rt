@@ -1,0 +1,44 @@
+// Records and commands of bytes.
+ghost use Rattle.std.specs.Prelude.{◌≡◌, IfOk};
+ghost use Rattle.record_codec.specs.CommandReading.{command_of};
+ghost use Rattle.record_codec.specs.ItemReading.{item_of};
+
+use crate::read_items::item_in;
+use crate::reading::Reading;
+use crate::unread::Unread;
+use crate::{Item, Slot};
+use fpl_base::{Memory, RecordKey};
+use season_book::Command;
+use std::alloc::Global;
+
+/// The record of a key and a body; `Ok(None)` exactly where no item has them. It takes memory.
+pub fn decode(alloc: Global, key: RecordKey, body: &[u8]) -> Result<Option<Item>, Memory>
+    ensures { IfOk result (λ item. item ≡ item_of key body.now) }
+{
+    let Some(slot) = Slot::of(key) else {
+        return Ok(None);
+    };
+    match item_in(alloc, slot, body) {
+        Ok(item) => Ok(Some(item)),
+        Err(Unread::Nothing) => Ok(None),
+        Err(Unread::Memory) => Err(Memory),
+    }
+}
+
+/// The command of these bytes; `Ok(None)` exactly where no command that can be ordered has them. It takes memory.
+pub fn decode_command(alloc: Global, bytes: &[u8]) -> Result<Option<Command>, Memory>
+    ensures { IfOk result (λ command. command ≡ command_of bytes.now) }
+{
+    let mut reading = Reading::of(bytes);
+    match reading.command(alloc) {
+        Ok(command) => {
+            if reading.is_done() {
+                Ok(Some(command))
+            } else {
+                Ok(None)
+            }
+        }
+        Err(Unread::Nothing) => Ok(None),
+        Err(Unread::Memory) => Err(Memory),
+    }
+}
