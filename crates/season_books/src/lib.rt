@@ -1,4 +1,5 @@
 //! The records of a store, judged: which of them are lawful.
 #![tactic(auto)]
 
+mod entry_rules;
 mod stored;
