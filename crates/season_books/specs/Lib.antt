@@ -1,2 +1,5 @@
 pub mod Stored
 pub mod EntryRules
+pub mod Sequels
+pub mod TeamRules
+pub mod TransferRules

@@ -1,7 +1,8 @@
 // What records tell of an entry, and the rule on an entry's first team.
-ghost use Rattle.std.specs.Prelude.{◌≡◌, IfOk, is_some};
+ghost use Rattle.std.specs.Prelude.{◌≡◌, ◌==◌, IfOk, false, is_some};
+ghost use Rattle.std.specs.Option.{option_map_or};
 ghost use Rattle.fpl_base.specs.Keeping.{map_of};
-ghost use Rattle.season_books.specs.EntryRules.{entry_breaks, first_in, first_told, is_between_ends, last_open, sale_in, sale_told, span_in, span_told, team_in, team_told};
+ghost use Rattle.season_books.specs.EntryRules.{chip_told, entry_breaks, first_in, first_told, is_between_ends, last_open, sale_in, sale_told, span_in, span_told, team_in, team_told};
 
 use crate::stored::Stored;
 use fpl_base::{Chip, EntryId, Gw, Memory, PlayerId, Tenths};
@@ -13,7 +14,7 @@ use std::alloc::Global;
 /// the slots of captain and vice-captain, the bank, and the chip.
 #[derive(Clone, Copy)]
 pub(crate) struct RecordedTeam {
-    pub(crate) picks: [(u32, u16); 15],
+    pub(crate) picks: [(u32, u32); 15],
     pub(crate) captain: u8,
     pub(crate) vice: u8,
     pub(crate) bank: u32,
@@ -40,12 +41,14 @@ fn span_in(item: &Option<Item>) -> Span
     ensures { result ≡ span_in item.now }
 {
     match item {
-        Some(Item::Season {
-            split,
-            locked,
-            deadlines,
-            ..
-        }) => Span {
+        Some(
+            Item::Season {
+                split,
+                locked,
+                deadlines,
+                ..
+            },
+        ) => Span {
             gameweeks: deadlines.as_slice().len(),
             split: *split,
             locked: *locked,
@@ -59,11 +62,7 @@ fn span_in(item: &Option<Item>) -> Span
 }
 
 /// The first gameweek of an entry; `None` where it is not registered or not there.
-pub(crate) fn first_of(
-    alloc: Global,
-    stored: &Stored,
-    entry: EntryId,
-) -> Result<Option<Gw>, Memory>
+pub(crate) fn first_of(alloc: Global, stored: &Stored, entry: EntryId) -> Result<Option<Gw>, Memory>
     ensures { IfOk result (λ first. first ≡ first_told (map_of stored.now) entry) }
 {
     let item = stored.item(alloc, Slot::Entry(entry.get()))?;
@@ -96,14 +95,16 @@ fn team_in(item: &Option<Item>) -> Option<RecordedTeam>
     ensures { result ≡ team_in item.now }
 {
     match item {
-        Some(Item::Team {
-            picks,
-            captain,
-            vice,
-            bank,
-            chip,
-            ..
-        }) => Some(RecordedTeam {
+        Some(
+            Item::Team {
+                picks,
+                captain,
+                vice,
+                bank,
+                chip,
+                ..
+            },
+        ) => Some(RecordedTeam {
             picks: numbers_of(picks),
             captain: *captain,
             vice: *vice,
@@ -115,12 +116,12 @@ fn team_in(item: &Option<Item>) -> Option<RecordedTeam>
 }
 
 // The players by number, with their prices.
-pub(crate) fn numbers_of(picks: &[(PlayerId, u16); 15]) -> [(u32, u16); 15]
+pub(crate) fn numbers_of(picks: &[(PlayerId, u16); 15]) -> [(u32, u32); 15]
     ensures { result ≡ picks.now }
 {
     let mut numbers = [(0, 0); 15];
     for (place, pick) in picks.iter().enumerate() {
-        numbers[place] = (pick.0.get(), pick.1);
+        numbers[place] = (pick.0.get(), u32::from(pick.1));
     }
     numbers
 }
@@ -144,13 +145,15 @@ fn sale_in(item: &Option<Item>) -> Option<Sale>
     ensures { result ≡ sale_in item.now }
 {
     match item {
-        Some(Item::Transfer {
-            out,
-            into,
-            sold,
-            bought,
-            ..
-        }) => sale(*out, *into, *sold, *bought),
+        Some(
+            Item::Transfer {
+                out,
+                into,
+                sold,
+                bought,
+                ..
+            },
+        ) => sale(*out, *into, *sold, *bought),
         _ => None,
     }
 }
@@ -169,8 +172,43 @@ fn sale(out: PlayerId, into: PlayerId, sold: u16, bought: u16) -> Option<Sale>
     })
 }
 
-/// Whether a gameweek is there, not before an entry's first, and not after the last that may have teams and transfers.
-pub(crate) fn is_between_ends(span: Span, first: Gw, gameweek: Gw) -> bool
+/// The chip of a gameweek: none without a team.
+pub(crate) fn chip_of(
+    alloc: Global,
+    stored: &Stored,
+    entry: EntryId,
+    gameweek: u8,
+) -> Result<Chip, Memory>
+    ensures { IfOk result (λ chip. chip ≡ chip_told (map_of stored.now) entry gameweek) }
+{
+    match team_of(alloc, stored, entry, gameweek)? {
+        Some(team) => Ok(team.chip),
+        None => Ok(Chip::None),
+    }
+}
+
+/// Whether a team or a transfer may stand in a gameweek, by the first gameweek of its entry: the entry is registered, and
+/// the gameweek is there, not before its first and not after the last that may have one.
+pub(crate) fn is_in_time(span: Span, first: Option<Gw>, gameweek: Gw) -> bool
+    ensures { result ≡ option_map_or (λ first. is_between_ends span first gameweek) first false }
+{
+    match first {
+        Some(first) => is_between_ends(span, first, gameweek),
+        None => false,
+    }
+}
+
+/// Whether a gameweek is an entry's first.
+pub(crate) fn is_first(first: Option<Gw>, gameweek: Gw) -> bool
+    ensures { result ≡ option_map_or (λ first. first == gameweek) first false }
+{
+    match first {
+        Some(first) => first.get() == gameweek.get(),
+        None => false,
+    }
+}
+
+fn is_between_ends(span: Span, first: Gw, gameweek: Gw) -> bool
     ensures { result ≡ is_between_ends span first gameweek }
 {
     let g = gameweek.get();

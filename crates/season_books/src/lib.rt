@@ -2,4 +2,7 @@
 #![tactic(auto)]
 
 mod entry_rules;
+mod sequels;
 mod stored;
+mod team_rules;
+mod transfer_rules;

@@ -1,0 +1,118 @@
+// The rules on a transfer of an entry in a gameweek.
+ghost use Rattle.std.specs.Prelude.{◌≡◌, IfOk, is_some};
+ghost use Rattle.fpl_base.specs.Keeping.{map_of};
+ghost use Rattle.rule_book.specs.EntryCalls.{transfer_limit};
+ghost use Rattle.season_books.specs.EntryRules.{sale_told, span_told};
+ghost use Rattle.season_books.specs.TransferRules.{is_next_number, is_priced_sale, names_players, term_told, transfer_breaks};
+
+use crate::entry_rules::{Span, chip_of, first_of, has_team, is_first, is_in_time, sale_of};
+use crate::stored::Stored;
+use crate::team_rules::{is_price, makes_free};
+use fpl_base::{Chip, EntryId, Gw, Memory};
+use record_codec::Slot;
+use rule_book::Sale;
+use std::alloc::Global;
+
+/// What an entry's gameweek says of its transfers: whether it may have some, and at most how many. It is worked out once
+/// for all transfers of the gameweek.
+#[derive(Clone, Copy)]
+pub(crate) struct Term {
+    pub(crate) entry: u32,
+    pub(crate) gameweek: u8,
+    pub(crate) open_to_transfers: bool,
+    pub(crate) most: u32,
+}
+
+/// What an entry's gameweek says of its transfers.
+pub(crate) fn term_of(
+    alloc: Global,
+    stored: &Stored,
+    span: Span,
+    entry: EntryId,
+    gameweek: Gw,
+) -> Result<Term, Memory>
+    requires { span ≡ span_told (map_of stored.now) }
+    ensures { IfOk result (λ term. term ≡ term_told (map_of stored.now) entry gameweek) }
+{
+    let first = first_of(alloc, stored, entry)?;
+    let there = has_team(alloc, stored, entry, gameweek)?;
+    let chip = chip_of(alloc, stored, entry, gameweek.get())?;
+    Ok(Term {
+        entry: entry.get(),
+        gameweek: gameweek.get(),
+        open_to_transfers: is_in_time(span, first, gameweek) && there,
+        most: transfer_limit(is_first(first, gameweek), chip),
+    })
+}
+
+// So many transfers are made in a gameweek at most.
+fn transfer_limit(first: bool, chip: Chip) -> u32
+    ensures { result ≡ transfer_limit first chip }
+{
+    if first || makes_free(chip) { 1000 } else { 20 }
+}
+
+// Whether a number is 1, or the transfer before it is there.
+fn is_next_number(
+    alloc: Global,
+    stored: &Stored,
+    entry: EntryId,
+    gameweek: Gw,
+    number: u32,
+) -> Result<bool, Memory>
+    ensures { IfOk result (λ next. next ≡ is_next_number (map_of stored.now) entry gameweek number) }
+{
+    if number < 2 {
+        return Ok(number == 1);
+    }
+    has_sale(alloc, stored, entry, gameweek, number - 1)
+}
+
+fn has_sale(
+    alloc: Global,
+    stored: &Stored,
+    entry: EntryId,
+    gameweek: Gw,
+    number: u32,
+) -> Result<bool, Memory>
+    ensures { IfOk result (λ has. has ≡ is_some (sale_told (map_of stored.now) entry gameweek number)) }
+{
+    let sale = sale_of(alloc, stored, entry, gameweek, number)?;
+    Ok(sale.is_some())
+}
+
+// Whether who goes and who comes are there.
+fn names_players(stored: &Stored, sale: &Sale) -> bool
+    ensures { result ≡ names_players (map_of stored.now) sale.now }
+{
+    stored.has(Slot::Player(sale.out.get())) && stored.has(Slot::Player(sale.into.get()))
+}
+
+// Whether both prices can be.
+fn is_priced_sale(sale: &Sale) -> bool
+    ensures { result ≡ is_priced_sale sale.now }
+{
+    is_price(sale.sold.get()) && is_price(sale.bought.get())
+}
+
+/// Whether the record of a transfer breaks a rule, by what its gameweek says.
+pub(crate) fn transfer_breaks(
+    alloc: Global,
+    stored: &Stored,
+    term: Term,
+    entry: EntryId,
+    gameweek: Gw,
+    number: u32,
+    sale: &Sale,
+) -> Result<bool, Memory>
+    requires { term ≡ term_told (map_of stored.now) entry gameweek }
+    ensures { IfOk result (λ breaks. breaks ≡ transfer_breaks (map_of stored.now) entry gameweek number sale.now) }
+{
+    if !term.open_to_transfers || number > term.most {
+        return Ok(true);
+    }
+    if !is_next_number(alloc, stored, entry, gameweek, number)? {
+        return Ok(true);
+    }
+    Ok(!names_players(stored, sale) || !is_priced_sale(sale))
+}
