@@ -1,7 +1,7 @@
 -- The last team before a gameweek, gameweek by gameweek.
 use Rattle.std.proofs.Common.{◌≡◌, ℕ, suc, ◌+◌, ◌-◌, ◌<◌, Option, arith, ap, ◌∙◌}
 use Rattle.std.specs.Option.{option_or}
-use Rattle.season_books.specs.declared.entry_rules.RecordedTeam.{RecordedTeam}
+use Rattle.season_books.specs.declared.entry_told.RecordedTeam.{RecordedTeam}
 use Rattle.season_books.specs.Sequels.{lasting, last_before}
 
 pub one_before : (teams : ℕ → Option RecordedTeam) (g back : ℕ) → back < g

@@ -3,3 +3,4 @@ pub mod EntryRules
 pub mod Sequels
 pub mod TeamRules
 pub mod TransferRules
+pub mod EntryLaws

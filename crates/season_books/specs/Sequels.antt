@@ -7,9 +7,9 @@ use Rattle.rule_book.specs.declared.transfers.Sale.{Sale}
 use Rattle.rule_book.specs.EntryRecords.{after_sales, earned_for, paid_for, price_among}
 use Rattle.rule_book.specs.History.{Holding, is_free_hit}
 use Rattle.rule_book.specs.HistoryRules.{times}
-use Rattle.season_books.specs.declared.entry_rules.RecordedTeam.{RecordedTeam}
+use Rattle.season_books.specs.declared.entry_told.RecordedTeam.{RecordedTeam}
 use Rattle.season_books.specs.declared.sequels.Traded.{Traded}
-use Rattle.season_books.specs.EntryRules.{team_told, sale_told, is_first_of}
+use Rattle.season_books.specs.EntryTold.{team_told, sale_told, is_first_of}
 
 -- the team, unless it is one of a free hit
 abbrev pub lasting : Option RecordedTeam → Option RecordedTeam

@@ -13,8 +13,8 @@ use Rattle.record_codec.specs.declared.slot.Slot.TheVariants as slot
 use Rattle.rule_book.specs.HistoryTransfers.{is_same_chip, makes_free, used_before}
 use Rattle.rule_book.specs.Lineups.{lineup_refusal}
 use Rattle.rule_book.specs.Squads.{has_squad_shape}
-use Rattle.season_books.specs.declared.entry_rules.RecordedTeam.{RecordedTeam}
-use Rattle.season_books.specs.EntryRules.{chip_told, is_first_of, is_in_time, span_told}
+use Rattle.season_books.specs.declared.entry_told.RecordedTeam.{RecordedTeam}
+use Rattle.season_books.specs.EntryTold.{chip_told, is_first_of, is_in_time, span_told}
 use Rattle.season_books.specs.Sequels.{goes_on}
 use Rattle.season_books.specs.Stored.{is_there, told}
 
@@ -64,7 +64,7 @@ is_fit m t =
 abbrev pub is_playable : Map → ℕ → ℕ → Chip → Bool
 is_playable m e g chip = not (is_too_early m e g chip) && not (is_played_again m e g chip)
 
--- A team breaks a rule: its gameweek is not in its entry's time, its fifteen are no squad in a legal lineup, its chip
--- can't be played, or it does not follow from what was before it.
-abbrev pub team_breaks : Map → ℕ → ℕ → RecordedTeam → Bool
-team_breaks m e g t = not (is_in_time m e g && is_fit m t && is_playable m e g t.chip && goes_on m e g t)
+-- A team is lawful: its gameweek is in its entry's time, its fifteen are a squad in a legal lineup, its chip can be
+-- played, and it follows from what was before it.
+abbrev pub is_lawful_team : Map → ℕ → ℕ → RecordedTeam → Bool
+is_lawful_team m e g t = is_in_time m e g && is_fit m t && is_playable m e g t.chip && goes_on m e g t

@@ -1,12 +1,12 @@
 -- The rules on a transfer of an entry in a gameweek.
-use Rattle.std.specs.Prelude.{ℕ, ◌-◌, Bool, true, false, not, ◌&&◌, ◌||◌, ◌==◌, is_some, nat_le, nat_lt}
+use Rattle.std.specs.Prelude.{ℕ, ◌-◌, Bool, true, false, ◌&&◌, ◌||◌, ◌==◌, is_some, nat_le, nat_lt}
 use Rattle.fpl_base.specs.Keeping.{Map}
 use Rattle.record_codec.specs.Commands.{is_between}
 use Rattle.record_codec.specs.declared.slot.Slot.TheVariants as slot
 use Rattle.rule_book.specs.declared.transfers.Sale.{Sale}
 use Rattle.rule_book.specs.EntryCalls.{transfer_limit}
 use Rattle.season_books.specs.declared.transfer_rules.Term.{Term}
-use Rattle.season_books.specs.EntryRules.{chip_told, is_first_of, is_in_time, sale_told, team_told}
+use Rattle.season_books.specs.EntryTold.{chip_told, is_first_of, is_in_time, sale_told, team_told}
 use Rattle.season_books.specs.Stored.{is_there}
 
 -- What an entry's gameweek says of its transfers: whether it may have some, which it may in its entry's time and with a
@@ -31,13 +31,8 @@ names_players m s = is_there m (slot.Player s.out) && is_there m (slot.Player s.
 abbrev pub is_priced_sale : Sale → Bool
 is_priced_sale s = is_between 30 200 s.sold && is_between 30 200 s.bought
 
--- The record of a transfer breaks a rule: its gameweek is not in its entry's time or has no team or enough transfers
--- before it, the one before it is not there, a player is not there, or a price is none.
-abbrev pub transfer_breaks : Map → ℕ → ℕ → ℕ → Sale → Bool
-transfer_breaks m e g n s =
-    not (
-    (term_told m e g).open_to_transfers
-    && nat_le n (term_told m e g).most
-    && is_next_number m e g n
-    && names_players m s
-    && is_priced_sale s)
+-- A transfer is lawful: its gameweek is in its entry's time and has a team, it is none too many there, the one before it
+-- is there, its players are there, and its prices can be.
+abbrev pub is_lawful_sale : Map → ℕ → ℕ → ℕ → Sale → Bool
+is_lawful_sale m e g n s =
+    (term_told m e g).open_to_transfers && nat_le n (term_told m e g).most && is_next_number m e g n && names_players m s && is_priced_sale s

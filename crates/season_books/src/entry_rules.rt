@@ -1,243 +1,16 @@
-// What records tell of an entry, and the rule on an entry's first team.
-ghost use Rattle.std.specs.Prelude.{◌≡◌, ◌==◌, IfOk, false, is_some};
-ghost use Rattle.std.specs.Option.{option_map_or};
+// The rules on entries, their teams and their transfers, by what a record says.
+ghost use Rattle.std.specs.Prelude.{◌≡◌, IfOk};
 ghost use Rattle.fpl_base.specs.Keeping.{map_of};
-ghost use Rattle.season_books.specs.EntryRules.{chip_told, entry_breaks, first_in, first_told, is_between_ends, last_open, sale_in, sale_told, span_in, span_told, team_in, team_told};
+ghost use Rattle.season_books.specs.EntryRules.{entry_breaks, team_breaks, transfer_breaks};
 
+pub(crate) use crate::entry_told::first_of;
+
+use crate::entry_told::{RecordedTeam, has_team, numbers_of, sale, span_of};
 use crate::stored::Stored;
-use fpl_base::{Chip, EntryId, Gw, Memory, PlayerId, Tenths};
-use record_codec::{Item, Slot};
-use rule_book::Sale;
+use crate::team_rules::is_lawful_team;
+use crate::transfer_rules::{is_lawful_sale, term_of};
+use fpl_base::{Chip, EntryId, Gw, Memory, PlayerId};
 use std::alloc::Global;
-
-/// The team that a record tells: by slot the players, by number, with the prices at which they were bought, in tenths of a million,
-/// the slots of captain and vice-captain, the bank, and the chip.
-#[derive(Clone, Copy)]
-pub(crate) struct RecordedTeam {
-    pub(crate) picks: [(u32, u32); 15],
-    pub(crate) captain: u8,
-    pub(crate) vice: u8,
-    pub(crate) bank: u32,
-    pub(crate) chip: Chip,
-}
-
-/// How long a season is: how many gameweeks it has, the last of its first half, and how many are locked.
-#[derive(Clone, Copy)]
-pub(crate) struct Span {
-    pub(crate) gameweeks: usize,
-    pub(crate) split: u8,
-    pub(crate) locked: u8,
-}
-
-/// How long the season is; 0 gameweeks without a season.
-pub(crate) fn span_of(alloc: Global, stored: &Stored) -> Result<Span, Memory>
-    ensures { IfOk result (λ span. span ≡ span_told (map_of stored.now)) }
-{
-    let item = stored.item(alloc, Slot::Season)?;
-    Ok(span_in(&item))
-}
-
-fn span_in(item: &Option<Item>) -> Span
-    ensures { result ≡ span_in item.now }
-{
-    match item {
-        Some(
-            Item::Season {
-                split,
-                locked,
-                deadlines,
-                ..
-            },
-        ) => Span {
-            gameweeks: deadlines.as_slice().len(),
-            split: *split,
-            locked: *locked,
-        },
-        _ => Span {
-            gameweeks: 0,
-            split: 0,
-            locked: 0,
-        },
-    }
-}
-
-/// The first gameweek of an entry; `None` where it is not registered or not there.
-pub(crate) fn first_of(alloc: Global, stored: &Stored, entry: EntryId) -> Result<Option<Gw>, Memory>
-    ensures { IfOk result (λ first. first ≡ first_told (map_of stored.now) entry) }
-{
-    let item = stored.item(alloc, Slot::Entry(entry.get()))?;
-    Ok(first_in(&item))
-}
-
-fn first_in(item: &Option<Item>) -> Option<Gw>
-    ensures { result ≡ first_in item.now }
-{
-    match item {
-        Some(Item::Entry { first, .. }) => *first,
-        _ => None,
-    }
-}
-
-/// The team of an entry in a gameweek.
-pub(crate) fn team_of(
-    alloc: Global,
-    stored: &Stored,
-    entry: EntryId,
-    gameweek: u8,
-) -> Result<Option<RecordedTeam>, Memory>
-    ensures { IfOk result (λ team. team ≡ team_told (map_of stored.now) entry gameweek) }
-{
-    let item = stored.item(alloc, Slot::Team(entry.get(), u32::from(gameweek)))?;
-    Ok(team_in(&item))
-}
-
-fn team_in(item: &Option<Item>) -> Option<RecordedTeam>
-    ensures { result ≡ team_in item.now }
-{
-    match item {
-        Some(
-            Item::Team {
-                picks,
-                captain,
-                vice,
-                bank,
-                chip,
-                ..
-            },
-        ) => Some(RecordedTeam {
-            picks: numbers_of(picks),
-            captain: *captain,
-            vice: *vice,
-            bank: *bank,
-            chip: *chip,
-        }),
-        _ => None,
-    }
-}
-
-// The players by number, with their prices.
-pub(crate) fn numbers_of(picks: &[(PlayerId, u16); 15]) -> [(u32, u32); 15]
-    ensures { result ≡ picks.now }
-{
-    let mut numbers = [(0, 0); 15];
-    for (place, pick) in picks.iter().enumerate() {
-        numbers[place] = (pick.0.get(), u32::from(pick.1));
-    }
-    numbers
-}
-
-/// A transfer of an entry in a gameweek, by its number.
-pub(crate) fn sale_of(
-    alloc: Global,
-    stored: &Stored,
-    entry: EntryId,
-    gameweek: Gw,
-    number: u32,
-) -> Result<Option<Sale>, Memory>
-    ensures { IfOk result (λ sale. sale ≡ sale_told (map_of stored.now) entry gameweek number) }
-{
-    let slot = Slot::Transfer(entry.get(), u32::from(gameweek.get()), number);
-    let item = stored.item(alloc, slot)?;
-    Ok(sale_in(&item))
-}
-
-fn sale_in(item: &Option<Item>) -> Option<Sale>
-    ensures { result ≡ sale_in item.now }
-{
-    match item {
-        Some(
-            Item::Transfer {
-                out,
-                into,
-                sold,
-                bought,
-                ..
-            },
-        ) => sale(*out, *into, *sold, *bought),
-        _ => None,
-    }
-}
-
-// A transfer at prices of a record.
-fn sale(out: PlayerId, into: PlayerId, sold: u16, bought: u16) -> Option<Sale>
-    ensures { result ≡ Some (record { out = out; into = into; sold = sold; bought = bought }) }
-{
-    let sold = Tenths::new(u32::from(sold))?;
-    let bought = Tenths::new(u32::from(bought))?;
-    Some(Sale {
-        out,
-        into,
-        sold,
-        bought,
-    })
-}
-
-/// The chip of a gameweek: none without a team.
-pub(crate) fn chip_of(
-    alloc: Global,
-    stored: &Stored,
-    entry: EntryId,
-    gameweek: u8,
-) -> Result<Chip, Memory>
-    ensures { IfOk result (λ chip. chip ≡ chip_told (map_of stored.now) entry gameweek) }
-{
-    match team_of(alloc, stored, entry, gameweek)? {
-        Some(team) => Ok(team.chip),
-        None => Ok(Chip::None),
-    }
-}
-
-/// Whether a team or a transfer may stand in a gameweek, by the first gameweek of its entry: the entry is registered, and
-/// the gameweek is there, not before its first and not after the last that may have one.
-pub(crate) fn is_in_time(span: Span, first: Option<Gw>, gameweek: Gw) -> bool
-    ensures { result ≡ option_map_or (λ first. is_between_ends span first gameweek) first false }
-{
-    match first {
-        Some(first) => is_between_ends(span, first, gameweek),
-        None => false,
-    }
-}
-
-/// Whether a gameweek is an entry's first.
-pub(crate) fn is_first(first: Option<Gw>, gameweek: Gw) -> bool
-    ensures { result ≡ option_map_or (λ first. first == gameweek) first false }
-{
-    match first {
-        Some(first) => first.get() == gameweek.get(),
-        None => false,
-    }
-}
-
-fn is_between_ends(span: Span, first: Gw, gameweek: Gw) -> bool
-    ensures { result ≡ is_between_ends span first gameweek }
-{
-    let g = gameweek.get();
-    usize::from(g) <= span.gameweeks && first.get() <= g && usize::from(g) <= last_open(span)
-}
-
-// The last gameweek that may have teams and transfers.
-fn last_open(span: Span) -> usize
-    ensures { result ≡ last_open span }
-{
-    if usize::from(span.locked) < span.gameweeks {
-        usize::from(span.locked) + 1
-    } else {
-        span.gameweeks
-    }
-}
-
-/// Whether an entry has a team in a gameweek.
-pub(crate) fn has_team(
-    alloc: Global,
-    stored: &Stored,
-    entry: EntryId,
-    gameweek: Gw,
-) -> Result<bool, Memory>
-    ensures { IfOk result (λ has. has ≡ is_some (team_told (map_of stored.now) entry gameweek)) }
-{
-    let team = team_of(alloc, stored, entry, gameweek.get())?;
-    Ok(team.is_some())
-}
 
 /// Whether a registered entry has no team in its first gameweek; `first` is what its record says.
 pub(crate) fn entry_breaks(
@@ -251,5 +24,56 @@ pub(crate) fn entry_breaks(
     match first {
         Some(gameweek) => Ok(!has_team(alloc, stored, entry, gameweek)?),
         None => Ok(false),
+    }
+}
+
+/// Whether a team is not lawful; its fields are those of its record.
+pub(crate) fn team_breaks(
+    alloc: Global,
+    stored: &Stored,
+    entry: EntryId,
+    gameweek: Gw,
+    picks: &[(PlayerId, u16); 15],
+    captain: u8,
+    vice: u8,
+    bank: u32,
+    chip: Chip,
+) -> Result<bool, Memory>
+    ensures { IfOk result (λ b. b ≡ team_breaks (map_of stored.now) entry gameweek picks.now captain vice bank chip) }
+{
+    let team = RecordedTeam {
+        picks: numbers_of(picks),
+        captain,
+        vice,
+        bank,
+        chip,
+    };
+    let span = span_of(alloc, stored)?;
+    let lawful = is_lawful_team(alloc, stored, span, entry, gameweek, &team)?;
+    Ok(!lawful)
+}
+
+/// Whether a transfer is not lawful; its fields are those of its record.
+pub(crate) fn transfer_breaks(
+    alloc: Global,
+    stored: &Stored,
+    entry: EntryId,
+    gameweek: Gw,
+    number: u32,
+    out: PlayerId,
+    into: PlayerId,
+    sold: u16,
+    bought: u16,
+) -> Result<bool, Memory>
+    ensures { IfOk result (λ b. b ≡ transfer_breaks (map_of stored.now) entry gameweek number out into sold bought) }
+{
+    let span = span_of(alloc, stored)?;
+    let term = term_of(alloc, stored, span, entry, gameweek)?;
+    match sale(out, into, sold, bought) {
+        Some(sale) => {
+            let lawful = is_lawful_sale(alloc, stored, term, entry, gameweek, number, &sale)?;
+            Ok(!lawful)
+        }
+        None => Ok(true),
     }
 }

@@ -5,10 +5,10 @@ ghost use Rattle.fpl_base.specs.Keeping.{map_of};
 ghost use Rattle.rule_book.specs.EntryRecords.{after_sales, earned_for, paid_for, price_among};
 ghost use Rattle.rule_book.specs.History.{is_free_hit};
 ghost use Rattle.rule_book.specs.HistoryRules.{times};
-ghost use Rattle.season_books.specs.EntryRules.{is_first_of, sale_told, team_told};
+ghost use Rattle.season_books.specs.EntryTold.{is_first_of, sale_told, team_told};
 ghost use Rattle.season_books.specs.Sequels.{are_same_holdings, base_told, comes_of, follows, goes_on, holdings_told, is_alike, lasting, opens_with, pick_after, sales_told, HasFew, IsTraded, Trades};
 
-use crate::entry_rules::{RecordedTeam, sale_of, team_of};
+use crate::entry_told::{RecordedTeam, sale_of, team_of};
 use crate::stored::Stored;
 use fpl_base::{Chip, EntryId, Gw, Memory};
 use rule_book::Sale;

@@ -6,10 +6,10 @@ ghost use Rattle.record_codec.specs.Commands.{is_between};
 ghost use Rattle.rule_book.specs.HistoryTransfers.{half_of, is_same_chip, makes_free};
 ghost use Rattle.rule_book.specs.Positions.{keepers, defenders, midfielders, forwards};
 ghost use Rattle.rule_book.specs.Squads.{has_squad_shape};
-ghost use Rattle.season_books.specs.EntryRules.{is_first_of, span_told};
-ghost use Rattle.season_books.specs.TeamRules.{has_players, is_distinct, is_fit, is_lined_up, is_playable, is_played_again, is_priced, position_in, position_told, positions_told, team_breaks};
+ghost use Rattle.season_books.specs.EntryTold.{is_first_of, span_told};
+ghost use Rattle.season_books.specs.TeamRules.{has_players, is_distinct, is_fit, is_lined_up, is_playable, is_played_again, is_priced, position_in, position_told, positions_told, is_lawful_team};
 
-use crate::entry_rules::{RecordedTeam, Span, chip_of, first_of, is_first, is_in_time};
+use crate::entry_told::{RecordedTeam, Span, chip_of, first_of, is_first, is_in_time};
 use crate::sequels::goes_on;
 use crate::stored::Stored;
 use fpl_base::{Chip, EntryId, Gw, Memory, Position};
@@ -255,8 +255,8 @@ fn is_playable(
     Ok(!again)
 }
 
-/// Whether the record of a team breaks a rule.
-pub(crate) fn team_breaks(
+/// Whether a team is lawful.
+pub(crate) fn is_lawful_team(
     alloc: Global,
     stored: &Stored,
     span: Span,
@@ -265,16 +265,15 @@ pub(crate) fn team_breaks(
     team: &RecordedTeam,
 ) -> Result<bool, Memory>
     requires { span ≡ span_told (map_of stored.now) }
-    ensures { IfOk result (λ breaks. breaks ≡ team_breaks (map_of stored.now) entry gameweek team.now) }
+    ensures { IfOk result (λ lawful. lawful ≡ is_lawful_team (map_of stored.now) entry gameweek team.now) }
 {
-    let first = first_of(alloc, stored, entry)?;
+    let first = first_of(alloc, stored, entry.get())?;
     if !is_in_time(span, first, gameweek) || !is_fit(alloc, stored, team)? {
-        return Ok(true);
+        return Ok(false);
     }
     let opens = is_first(first, gameweek);
     if !is_playable(alloc, stored, span.split, opens, entry, gameweek, team.chip)? {
-        return Ok(true);
+        return Ok(false);
     }
-    let follows = goes_on(alloc, stored, opens, entry, gameweek, team)?;
-    Ok(!follows)
+    goes_on(alloc, stored, opens, entry, gameweek, team)
 }

@@ -2,10 +2,10 @@
 ghost use Rattle.std.specs.Prelude.{◌≡◌, IfOk, is_some};
 ghost use Rattle.fpl_base.specs.Keeping.{map_of};
 ghost use Rattle.rule_book.specs.EntryCalls.{transfer_limit};
-ghost use Rattle.season_books.specs.EntryRules.{sale_told, span_told};
-ghost use Rattle.season_books.specs.TransferRules.{is_next_number, is_priced_sale, names_players, term_told, transfer_breaks};
+ghost use Rattle.season_books.specs.EntryTold.{sale_told, span_told};
+ghost use Rattle.season_books.specs.TransferRules.{is_next_number, is_priced_sale, names_players, is_lawful_sale, term_told};
 
-use crate::entry_rules::{Span, chip_of, first_of, has_team, is_first, is_in_time, sale_of};
+use crate::entry_told::{Span, chip_of, first_of, has_team, is_first, is_in_time, sale_of};
 use crate::stored::Stored;
 use crate::team_rules::{is_price, makes_free};
 use fpl_base::{Chip, EntryId, Gw, Memory};
@@ -34,7 +34,7 @@ pub(crate) fn term_of(
     requires { span ≡ span_told (map_of stored.now) }
     ensures { IfOk result (λ term. term ≡ term_told (map_of stored.now) entry gameweek) }
 {
-    let first = first_of(alloc, stored, entry)?;
+    let first = first_of(alloc, stored, entry.get())?;
     let there = has_team(alloc, stored, entry, gameweek)?;
     let chip = chip_of(alloc, stored, entry, gameweek.get())?;
     Ok(Term {
@@ -95,8 +95,8 @@ fn is_priced_sale(sale: &Sale) -> bool
     is_price(sale.sold.get()) && is_price(sale.bought.get())
 }
 
-/// Whether the record of a transfer breaks a rule, by what its gameweek says.
-pub(crate) fn transfer_breaks(
+/// Whether a transfer is lawful, by what its gameweek says.
+pub(crate) fn is_lawful_sale(
     alloc: Global,
     stored: &Stored,
     term: Term,
@@ -106,13 +106,13 @@ pub(crate) fn transfer_breaks(
     sale: &Sale,
 ) -> Result<bool, Memory>
     requires { term ≡ term_told (map_of stored.now) entry gameweek }
-    ensures { IfOk result (λ breaks. breaks ≡ transfer_breaks (map_of stored.now) entry gameweek number sale.now) }
+    ensures { IfOk result (λ lawful. lawful ≡ is_lawful_sale (map_of stored.now) entry gameweek number sale.now) }
 {
     if !term.open_to_transfers || number > term.most {
-        return Ok(true);
+        return Ok(false);
     }
     if !is_next_number(alloc, stored, entry, gameweek, number)? {
-        return Ok(true);
+        return Ok(false);
     }
-    Ok(!names_players(stored, sale) || !is_priced_sale(sale))
+    Ok(names_players(stored, sale) && is_priced_sale(sale))
 }

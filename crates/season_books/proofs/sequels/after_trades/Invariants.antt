@@ -1,6 +1,6 @@
 use Rattle.std.proofs.Common.{◌≡◌, ◌≤◌, ◌*◌}
 use Rattle.fpl_base.specs.Keeping.{map_of}
-use Rattle.season_books.specs.EntryRules.{sale_told}
+use Rattle.season_books.specs.EntryTold.{sale_told}
 use Rattle.season_books.specs.Sequels.{sales_told}
 use Rattle.season_books.proofs.Trading.{IsPartWay, left_from}
 use Rattle.season_books.proofs.sequels.after_trades.Given as goal

@@ -1,7 +1,7 @@
 use Rattle.std.proofs.Common.{◌≡◌, ◌-◌, ◌+◌, Some, None, arith, ap, sym, ◌∙◌}
 use Rattle.std.specs.Option.{option_or}
 use Rattle.fpl_base.specs.Keeping.{map_of}
-use Rattle.season_books.specs.EntryRules.{team_told}
+use Rattle.season_books.specs.EntryTold.{team_told}
 use Rattle.season_books.specs.Sequels.{lasting, last_before}
 use Rattle.season_books.proofs.Bases.{one_before}
 use Rattle.season_books.proofs.sequels.base_of.Goals as goal
