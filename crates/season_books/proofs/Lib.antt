@@ -1,7 +1,9 @@
-pub mod Trading
+pub mod Alike
 pub mod Bases
 pub mod Chips
-pub mod Alike
+pub mod Deadlines
+pub mod Found
+pub mod Lawful
 pub mod Listed
 pub mod Numbered
-pub mod Lawful
+pub mod Trading

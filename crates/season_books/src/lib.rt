@@ -2,7 +2,14 @@
 #![tactic(auto)]
 
 mod entry_rules;
+mod entry_told;
+mod judging;
+mod league_rules;
+mod season_rules;
 mod sequels;
 mod stored;
 mod team_rules;
+mod terms;
 mod transfer_rules;
+
+pub use judging::judge;
