@@ -27,7 +27,7 @@ at_one : (T : ℕ → Bool) (k : Holding) (squad : List Holding) (p : ℕ) (b : 
     → T k.player ≡ true → PassesOrAbsent T p squad → PassesOrAbsent T p (k ∷ squad)
 at_one T k squad p true e here rest = inl (sym (ap T (eqb-true k.player p e)) ∙ here)
 at_one T k squad p false e here rest =
-    elim rest [ inl yes ↦ inl yes | inr absent ↦ inr (rw e absent.0, rw e absent.1) ]
+    elim rest [ inl holds ↦ inl holds | inr absent ↦ inr (rw e (omega (arith, absent.0)), rw e absent.1) ]
 
 passes_or_absent : (T : ℕ → Bool) (squad : List Holding) (p : ℕ) → list_all (λ k. T k.player) squad ≡ true → PassesOrAbsent T p squad
 passes_or_absent T [] p all = inr (refl, refl)
@@ -44,8 +44,8 @@ alike_from a b p e =
     (eqb-true _ _ parts.0, eqb-true _ _ parts.1)
 
 alike_either : (a b : List Holding) (p : ℕ) → PassesOrAbsent (is_alike a b) p a → PassesOrAbsent (is_alike a b) p b → IsAlike a b p
-alike_either a b p (inl yes) other = alike_from a b p yes
-alike_either a b p (inr none) (inl yes) = alike_from a b p yes
+alike_either a b p (inl holds) other = alike_from a b p holds
+alike_either a b p (inr none) (inl holds) = alike_from a b p holds
 alike_either a b p (inr none) (inr neither) = (none.0 ∙ sym neither.0, none.1 ∙ sym neither.1)
 
 -- the test of the same holdings tells that they are
@@ -53,7 +53,7 @@ pub same_from : (a b : List Holding) → are_same_holdings a b ≡ true → Same
 same_from a b e =
     let parts = and_parts (list_all (λ k. is_alike a b k.player) a) (list_all (λ k. is_alike a b k.player) b) e in
     let each : (p : ℕ) → IsAlike a b p
-          = λ p. alike_either a b p (passes_or_absent (is_alike a b) a p parts.0) (passes_or_absent (is_alike a b) b p parts.1) in
+    = λ p. alike_either a b p (passes_or_absent (is_alike a b) a p parts.0) (passes_or_absent (is_alike a b) b p parts.1) in
     record { players = λ p. (each p).0; prices = λ p. (each p).1 }
 
 -- picks of numbers, each player at his position
@@ -78,7 +78,7 @@ all_each P (x ∷ xs) each (suc i) d inside = all_each P xs each.1 i d (omega ar
 
 -- no player stands twice
 pub different_from : (position : ℕ → Position) (picks : List (ℕ × ℕ)) → is_distinct picks ≡ true → AreDifferent (picks_at position picks)
-different_from position [] e i j d less inside = absurd (omega arith)
+different_from position [] e = λ i j d less inside. absurd (omega arith)
 different_from position (pick ∷ picks) e =
     let parts = and_parts (not (list_any (λ y. eqb y pick.0) (map (λ pick. pick.0) picks))) (is_distinct picks) e in
     AllPairs-cons (λ (one : Pick) (other : Pick). one.player ≢ other.player) _ (picks_at position picks)

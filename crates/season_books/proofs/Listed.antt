@@ -22,7 +22,7 @@ some_not_none x o some none = absurd (cc)
 found_later : (teams : List (ℕ × Team)) (a g : ℕ) (x : Team) → AllLater a teams → team_recorded teams g ≡ Some x → a < g
 found_later teams a g x later found =
     elim (cases_order a g) [
-      inl same ↦ absurd (some_not_none x _ found (none_later teams a g later (omega arith)))
+      | inl same ↦ absurd (some_not_none x _ found (none_later teams a g later (omega arith)))
       | inr (inl less) ↦ less
       | inr (inr more) ↦ absurd (some_not_none x _ found (none_later teams a g later (omega arith)))
     ]
@@ -34,15 +34,16 @@ found_behind t teams g x later found =
     let apart : eqb t.0 g ≡ false = ne_eqb t.0 g (λ same. omega arith) in
     ap (λ b. cond b (Some t.1) (team_recorded teams g)) apart ∙ found
 
-found_first : (t : ℕ × Team) (teams : List (ℕ × Team)) → team_recorded (t ∷ teams) t.0 ≡ Some t.1
+pub found_first : (t : ℕ × Team) (teams : List (ℕ × Team)) → team_recorded (t ∷ teams) t.0 ≡ Some t.1
 found_first t teams = ap (λ b. cond b (Some t.1) (team_recorded teams t.0)) (eq-eqb t.0 t.0 refl)
 
 -- where each team that is found is of gameweek 1 or later, so is each of the list
 pub all_from_one : (teams : List (ℕ × Team)) → TeamsRise teams → ((g : ℕ) (x : Team) → team_recorded teams g ≡ Some x → 1 ≤ g) → AllLater 0 teams
 all_from_one [] rise each = tt
-all_from_one (t ∷ teams) rise each =
-    (omega (arith, each t.0 t.1 (found_first t teams)),
-    all_from_one teams rise.1 (λ g x found. each g x (found_behind t teams g x rise.0 found)))
+all_from_one (t ∷ teams) rise each = (
+  omega (arith, each t.0 t.1 (found_first t teams)),
+  all_from_one teams rise.1 (λ g x found. each g x (found_behind t teams g x rise.0 found)),
+)
 
 -- the first team of the list is that of the gameweek before which none is found
 pub first_is : (teams : List (ℕ × Team)) (s : ℕ) (x : Team) → TeamsRise teams → team_recorded teams s ≡ Some x
@@ -50,13 +51,13 @@ pub first_is : (teams : List (ℕ × Team)) (s : ℕ) (x : Team) → TeamsRise t
 first_is [] s x rise found least = absurd (cc)
 first_is (t ∷ teams) s x rise found least =
     elim (cases_order t.0 s) [
-      inl same ↦ ap Some same
+      | inl same ↦ ap Some same
       | inr (inl less) ↦ absurd (let low = least t.0 t.1 (found_first t teams) in omega arith)
       | inr (inr more) ↦ absurd (
-        let apart : eqb t.0 s ≡ false = ne_eqb t.0 s (λ same. omega arith) in
-        let behind : team_recorded teams s ≡ Some x = sym (ap (λ b. cond b (Some t.1) (team_recorded teams s)) apart) ∙ found in
-        let less = found_later teams t.0 s x rise.0 behind in
-        omega arith)
+          let apart : eqb t.0 s ≡ false = ne_eqb t.0 s (λ same. omega arith) in
+          let behind : team_recorded teams s ≡ Some x = sym (ap (λ b. cond b (Some t.1) (team_recorded teams s)) apart) ∙ found in
+          let less = found_later teams t.0 s x rise.0 behind in
+          omega arith)
     ]
 
 -- where none is found the list is empty
@@ -83,8 +84,6 @@ not_chosen : (b : Bool) (t : Team) → cond (not b) (Some t) None ≡ option_or 
 not_chosen true t = refl
 not_chosen false t = refl
 
--- the last team before the next gameweek is that of this one, or the last before it
-before_next : (teams : List (ℕ × Team)) (g : ℕ) → TeamsRise teams → team_before teams (suc g) ≡ option_or (kept_team (team_recorded teams g)) (team_before teams g)
 apart_next : (t : ℕ × Team) (teams : List (ℕ × Team)) (g : ℕ) → eqb t.0 g ≡ false → nat_lt t.0 (suc g) ≡ nat_lt t.0 g
     → team_before teams (suc g) ≡ option_or (kept_team (team_recorded teams g)) (team_before teams g)
     → team_before (t ∷ teams) (suc g) ≡ option_or (kept_team (team_recorded (t ∷ teams) g)) (team_before (t ∷ teams) g)
@@ -104,15 +103,17 @@ same_next t teams g later same =
     let not_yet : nat_lt t.0 g ≡ false = le-ltb t.0 g (omega arith) in
     let found : team_recorded (t ∷ teams) g ≡ Some t.1 = ap (λ b. cond b (Some t.1) (team_recorded teams g)) (eq-eqb t.0 g same) in
     let left : team_before (t ∷ teams) (suc g) ≡ cond (not (is_free_hit t.1.chip)) (Some t.1) None
-          = ap₂ later_of rest (ap (λ b. cond (b && not (is_free_hit t.1.chip)) (Some t.1) None) now) in
+    = ap₂ later_of rest (ap (λ b. cond (b && not (is_free_hit t.1.chip)) (Some t.1) None) now) in
     let right : team_before (t ∷ teams) g ≡ None
-          = ap₂ later_of none (ap (λ b. cond (b && not (is_free_hit t.1.chip)) (Some t.1) None) not_yet) in
+    = ap₂ later_of none (ap (λ b. cond (b && not (is_free_hit t.1.chip)) (Some t.1) None) not_yet) in
     left ∙ not_chosen (is_free_hit t.1.chip) t.1 ∙ sym (ap₂ (λ o p. option_or (kept_team o) p) found right)
 
+-- the last team before the next gameweek is that of this one, or the last before it
+before_next : (teams : List (ℕ × Team)) (g : ℕ) → TeamsRise teams → team_before teams (suc g) ≡ option_or (kept_team (team_recorded teams g)) (team_before teams g)
 before_next [] g rise = refl
 before_next (t ∷ teams) g rise =
     elim (cases_order t.0 g) [
-      inl same ↦ same_next t teams g rise.0 same
+      | inl same ↦ same_next t teams g rise.0 same
       | inr (inl less) ↦ apart_next t teams g (ne_eqb t.0 g (λ same. omega arith)) (lt-ltb t.0 (suc g) (omega arith) ∙ sym (lt-ltb t.0 g less)) (before_next teams g rise.1)
       | inr (inr more) ↦ apart_next t teams g (ne_eqb t.0 g (λ same. omega arith)) (le-ltb t.0 (suc g) (omega arith) ∙ sym (le-ltb t.0 g (omega arith))) (before_next teams g rise.1)
     ]

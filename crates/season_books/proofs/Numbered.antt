@@ -26,10 +26,10 @@ reached : (told : ℕ → Option Sale) → IsGapless told → (j n k : ℕ) (s :
 reached told gapless zero n k s low sum found = (s, subst (λ v. told v ≡ Some s) (sym (omega (arith, sum))) found)
 reached told gapless (suc j) n k s low sum found =
     elim (gapless.behind n s found) [
-      inl one ↦ absurd (omega arith)
+      | inl one ↦ absurd (omega arith)
       | inr less ↦ (
-        let before = some_from (told (n - 1)) less.1 in
-        reached told gapless j (n - 1) k before.0 low (omega arith) before.1)
+          let before = some_from (told (n - 1)) less.1 in
+          reached told gapless j (n - 1) k before.0 low (omega arith) before.1)
     ]
 
 -- each of a list's transfers in a gameweek is of this number or a later one
@@ -48,9 +48,9 @@ not_numbered : (g n k : ℕ) (rows : List NumberedSale) → n < k → FromNumber
 not_numbered g n k [] less from = refl
 not_numbered g n k (r ∷ rows) less from =
     elim (cases_eq r.gw g) [
-      inl same ↦ (
-        let low = from.0 same in
-        skip_row r rows g n (and_right (eqb r.gw g) (eqb r.number n) (ne_eqb r.number n (λ e. omega arith))) ∙ not_numbered g n k rows less from.1)
+      | inl same ↦ (
+          let low = from.0 same in
+          skip_row r rows g n (and_right (eqb r.gw g) (eqb r.number n) (ne_eqb r.number n (λ e. omega arith))) ∙ not_numbered g n k rows less from.1)
       | inr apart ↦ skip_row r rows g n (and_left (eqb r.gw g) (eqb r.number n) (ne_eqb r.gw g apart)) ∙ not_numbered g n k rows less from.1
     ]
 
@@ -82,14 +82,14 @@ first_number : (told : ℕ → Option Sale) → IsGapless told → (g : ℕ) (r 
     → AllBehind r.gw r.number rows → ((n : ℕ) → k ≤ n → sale_numbered (r ∷ rows) g n ≡ told n) → r.number ≡ k
 first_number told gapless g r rows k low from here behind same =
     elim (cases_order r.number k) [
-      inl equal ↦ equal
+      | inl equal ↦ equal
       | inr (inl less) ↦ absurd (omega arith)
       | inr (inr more) ↦ absurd (
-        let found : told r.number ≡ Some r.sale = sym (same r.number from) ∙ numbered_here r rows g here in
-        let there = reached told gapless (r.number - k) r.number k r.sale low (omega arith) found in
-        let none : sale_numbered (r ∷ rows) g k ≡ None
-              = other_number r rows g k (λ e. omega arith) ∙ not_numbered g k (r.number + 1) rows (omega arith) (behind_here r rows g here behind) in
-        some_not_none there.0 (told k) there.1 (sym (same k (omega arith)) ∙ none))
+          let found : told r.number ≡ Some r.sale = sym (same r.number from) ∙ numbered_here r rows g here in
+          let there = reached told gapless (r.number - k) r.number k r.sale low (omega arith) found in
+          let none : sale_numbered (r ∷ rows) g k ≡ None
+          = other_number r rows g k (λ e. omega arith) ∙ not_numbered g k (r.number + 1) rows (omega arith) (behind_here r rows g here behind) in
+          some_not_none there.0 (told k) there.1 (sym (same k (omega arith)) ∙ none))
     ]
 
 sales_here : (r : NumberedSale) (rows : List NumberedSale) (g : ℕ) → r.gw ≡ g → sales_in (sales_of_rows (r ∷ rows)) g ≡ r.sale ∷ sales_in (sales_of_rows rows) g
@@ -107,19 +107,19 @@ runs_on : (told : ℕ → Option Sale) → IsGapless told → (g : ℕ) (rows : 
 runs_on told gapless g [] fuel k low sum rise from same = sym (nothing_from told fuel k (sym (same k (omega arith))))
 runs_on told gapless g (r ∷ rows) fuel k low sum rise from same =
     elim (cases_eq r.gw g) [
-      inl here ↦ (
-        let first : r.number ≡ k = first_number told gapless g r rows k low (from.0 here) here rise.0 same in
-        let found : told k ≡ Some r.sale = sym (same k (omega arith)) ∙ ap (sale_numbered (r ∷ rows) g) (sym first) ∙ numbered_here r rows g here in
-        let few : k ≤ 1000 = gapless.few k r.sale found in
-        let left : fuel ≡ suc (fuel - 1) = omega arith in
-        let more : FromNumber g (k + 1) rows = subst (λ n. FromNumber g (n + 1) rows) first (behind_here r rows g here rise.0) in
-        let rest = runs_on told gapless g rows (fuel - 1) (k + 1) (omega arith) (omega arith) rise.1 more
-              (λ n up. sym (other_number r rows g n (λ e. omega arith)) ∙ same n (omega arith)) in
-        sales_here r rows g here ∙ ap (λ more. r.sale ∷ more) rest ∙ sym (taken_from told (fuel - 1) k r.sale found)
-        ∙ ap (λ f. sales_from told f k) (sym left))
+      | inl here ↦ (
+          let first : r.number ≡ k = first_number told gapless g r rows k low (from.0 here) here rise.0 same in
+          let found : told k ≡ Some r.sale = sym (same k (omega arith)) ∙ ap (sale_numbered (r ∷ rows) g) (sym first) ∙ numbered_here r rows g here in
+          let few : k ≤ 1000 = gapless.few k r.sale found in
+          let left : fuel ≡ suc (fuel - 1) = omega arith in
+          let more : FromNumber g (k + 1) rows = subst (λ n. FromNumber g (n + 1) rows) first (behind_here r rows g here rise.0) in
+          let rest = runs_on told gapless g rows (fuel - 1) (k + 1) (omega arith) (omega arith) rise.1 more
+          (λ n up. sym (other_number r rows g n (λ e. omega arith)) ∙ same n (omega arith)) in
+          sales_here r rows g here ∙ ap (λ more. r.sale ∷ more) rest ∙ sym (taken_from told (fuel - 1) k r.sale found)
+          ∙ ap (λ f. sales_from told f k) (sym left))
       | inr apart ↦ (
-        sales_apart r rows g apart
-        ∙ runs_on told gapless g rows fuel k low sum rise.1 from.1
+          sales_apart r rows g apart
+          ∙ runs_on told gapless g rows fuel k low sum rise.1 from.1
           (λ n up. sym (skip_row r rows g n (and_left (eqb r.gw g) (eqb r.number n) (ne_eqb r.gw g apart))) ∙ same n up))
     ]
 
@@ -131,18 +131,18 @@ found_behind : (a b : ℕ) (rows : List NumberedSale) (g n : ℕ) (s : Sale) →
 found_behind a b [] g n s behind found = absurd (cc)
 found_behind a b (r ∷ rows) g n s behind found =
     elim (cases_Bool (eqb r.gw g && eqb r.number n)) [
-      inl yes ↦ (
-        let parts = and_parts (eqb r.gw g) (eqb r.number n) yes in
-        let gw : r.gw ≡ g = eqb-true r.gw g parts.0 in
-        let number : r.number ≡ n = eqb-true r.number n parts.1 in
-        elim behind.0 [ inl later ↦ inl (omega arith) | inr after ↦ inr (omega (arith, after.0), omega (arith, after.1)) ])
-      | inr no ↦ found_behind a b rows g n s behind.1 (sym (skip_row r rows g n no) ∙ found)
+      | inl both ↦ (
+          let parts = and_parts (eqb r.gw g) (eqb r.number n) both in
+          let gw : r.gw ≡ g = eqb-true r.gw g parts.0 in
+          let number : r.number ≡ n = eqb-true r.number n parts.1 in
+          elim behind.0 [ inl later ↦ inl (omega arith) | inr after ↦ inr (omega (arith, after.0), omega (arith, after.1)) ])
+      | inr fails ↦ found_behind a b rows g n s behind.1 (sym (skip_row r rows g n fails) ∙ found)
     ]
 
 of_rest : (P : ℕ → ℕ → Sale → Type 0) (r : NumberedSale) (rows : List NumberedSale) → AllBehind r.gw r.number rows → HoldsOfFound P (r ∷ rows) → HoldsOfFound P rows
 of_rest P r rows behind holds g n s found =
     elim (found_behind r.gw r.number rows g n s behind found) [
-      inl later ↦ holds g n s (skip_row r rows g n (and_left (eqb r.gw g) (eqb r.number n) (ne_eqb r.gw g (λ e. omega arith))) ∙ found)
+      | inl later ↦ holds g n s (skip_row r rows g n (and_left (eqb r.gw g) (eqb r.number n) (ne_eqb r.gw g (λ e. omega arith))) ∙ found)
       | inr after ↦ holds g n s (other_number r rows g n (λ e. omega (arith, after.1)) ∙ found)
     ]
 

@@ -42,11 +42,11 @@ all_made all picks t way = record { squad = way.squad; paid = omega (arith, way.
 abbrev pub left_from : (ℕ → Option Sale) → ℕ → List Sale
 left_from told n = sales_from told (1001 - n) n
 
-one_ahead : (told : ℕ → Option Sale) (k n : ℕ) → sales_from told (suc k) n ≡ and_then_those (told n) (sales_from told k (n + 1))
+pub one_ahead : (told : ℕ → Option Sale) (k n : ℕ) → sales_from told (suc k) n ≡ and_then_those (told n) (sales_from told k (n + 1))
 unfolding sales_from
 one_ahead told k n = refl
 
-none_ahead : (told : ℕ → Option Sale) (n : ℕ) → sales_from told zero n ≡ []
+pub none_ahead : (told : ℕ → Option Sale) (n : ℕ) → sales_from told zero n ≡ []
 unfolding sales_from
 none_ahead told n = refl
 

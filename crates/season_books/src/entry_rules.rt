@@ -4,7 +4,6 @@ ghost use Rattle.fpl_base.specs.Keeping.{map_of};
 ghost use Rattle.season_books.specs.EntryRules.{entry_breaks, team_breaks, transfer_breaks};
 
 pub(crate) use crate::entry_told::first_of;
-
 use crate::entry_told::{RecordedTeam, has_team, numbers_of, sale, span_of};
 use crate::stored::Stored;
 use crate::team_rules::is_lawful_team;

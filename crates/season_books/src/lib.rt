@@ -4,6 +4,7 @@
 mod entry_rules;
 mod entry_told;
 mod judging;
+mod laws;
 mod league_rules;
 mod season_rules;
 mod sequels;
@@ -13,3 +14,4 @@ mod terms;
 mod transfer_rules;
 
 pub use judging::judge;
+pub use laws::lawful_entries_are_restored;

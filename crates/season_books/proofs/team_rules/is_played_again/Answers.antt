@@ -18,6 +18,6 @@ returns-then-is_same_chip-2 c =
     let there = among_found chips chip from c.loop-w.w c.args.gameweek low high same in
     let e : from ≡ half_of (span_told (map_of c.args.stored.now)).split chip c.args.gameweek = search rules in
     let some : is_some (chip_among chips chip (half_of (span_told (map_of c.args.stored.now)).split chip c.args.gameweek) (c.args.gameweek - half_of (span_told (map_of c.args.stored.now)).split chip c.args.gameweek)) ≡ true
-          = subst (λ f. is_some (chip_among chips chip f (c.args.gameweek - f)) ≡ true) e there in
+    = subst (λ f. is_some (chip_among chips chip f (c.args.gameweek - f)) ≡ true) e there in
     let one : not (is_same_chip chip NoChip) ≡ true = search rules in
     sym (ap₂ (λ a b. a && b) one some)

@@ -1,0 +1,8 @@
+// Laws on lawful records.
+ghost use Rattle.season_books.specs.EntryLaws.{LawfulEntriesAreRestored};
+
+/// Where no record of an entry breaks a rule, its teams and transfers, in the order of gameweeks and numbers, are
+/// records from which a book restores the entry.
+pub fn lawful_entries_are_restored()
+    ensures { LawfulEntriesAreRestored }
+{}
