@@ -18,7 +18,8 @@ use Rattle.rule_book.specs.HistoryTeam.{holdings}
 use Rattle.rule_book.specs.HistoryTransfers.{makes_free}
 use Rattle.season_books.specs.declared.entry_told.RecordedTeam.{RecordedTeam}
 use Rattle.season_books.specs.EntryRules.{entry_breaks}
-use Rattle.season_books.specs.EntryTold.{chip_told, first_told, is_between_ends, is_first_of, is_in_time, last_open, sale_told, span_told, team_told}
+use Rattle.season_books.specs.EntryTold.{chip_told, first_told, is_between_ends, is_first_of, is_in_time, last_open, sale_told, team_told}
+use Rattle.season_books.specs.SeasonRules.{terms_told}
 use Rattle.season_books.specs.Sequels.{are_same_holdings, base_told, follows, goes_on, holdings_told, last_before, opens_with, sales_from, sales_told}
 use Rattle.season_books.specs.TeamRules.{is_distinct, is_fit, is_lined_up, is_playable, is_played_again, is_priced, is_too_early, has_players, is_lawful_team, position_told, positions_told}
 use Rattle.season_books.specs.TransferRules.{is_next_number, is_priced_sale, names_players, term_told, is_lawful_sale}
@@ -35,12 +36,12 @@ pub record IsInTime (first : Option ℕ) (g : ℕ) : Type 0 where
   pub from_one : 1 ≤ g
   pub from_start : start ≤ g
 
-time_from : (m : Map) (g : ℕ) (first : Option ℕ) → option_map_or (λ s. is_between_ends (span_told m) s g) first false ≡ true → IsInTime first g
+time_from : (m : Map) (g : ℕ) (first : Option ℕ) → option_map_or (λ s. is_between_ends (terms_told m) s g) first false ≡ true → IsInTime first g
 time_from m g None e = absurd (true≢false (sym e))
 time_from m g (Some s) e =
-    let last = and_parts (nat_le 1 g && nat_le g (span_told m).gameweeks && nat_le s g) (nat_le g (last_open (span_told m))) e in
-    let low = and_parts (nat_le 1 g && nat_le g (span_told m).gameweeks) (nat_le s g) last.0 in
-    let one = and_parts (nat_le 1 g) (nat_le g (span_told m).gameweeks) low.0 in
+    let last = and_parts (nat_le 1 g && nat_le g (length (terms_told m).deadlines) && nat_le s g) (nat_le g (last_open (terms_told m))) e in
+    let low = and_parts (nat_le 1 g && nat_le g (length (terms_told m).deadlines)) (nat_le s g) last.0 in
+    let one = and_parts (nat_le 1 g) (nat_le g (length (terms_told m).deadlines)) low.0 in
     record { start = s; first_is = refl; from_one = leb-true 1 g one.0; from_start = leb-true s g low.1 }
 
 -- What a lawful team keeps.

@@ -9,8 +9,9 @@ use Rattle.record_codec.specs.declared.item.Item.{Item}
 use Rattle.record_codec.specs.declared.item.Item.TheVariants as item
 use Rattle.record_codec.specs.declared.slot.Slot.TheVariants as slot
 use Rattle.season_books.specs.declared.entry_told.RecordedTeam.{RecordedTeam}
-use Rattle.season_books.specs.declared.entry_told.Span.{Span}
-use Rattle.season_books.specs.Stored.{told, deadlines_in, split_in, locked_in}
+use Rattle.season_books.specs.declared.terms.Terms.{Terms}
+use Rattle.season_books.specs.SeasonRules.{terms_told}
+use Rattle.season_books.specs.Stored.{told}
 
 -- the first gameweek of an entry; none where it is not registered or not there
 abbrev pub first_in : Option Item → Option ℕ
@@ -46,24 +47,18 @@ sale_in other = None
 abbrev pub sale_told : Map → ℕ → ℕ → ℕ → Option Sale
 sale_told m e g n = sale_in (told m (slot.Transfer e g n))
 
--- how many gameweeks there are, the last of the first half, and how many are locked
-abbrev pub span_in : Option Item → Span
-span_in i = record { gameweeks = length (deadlines_in i); split = split_in i; locked = locked_in i }
-
-abbrev pub span_told : Map → Span
-span_told m = span_in (told m slot.Season)
-
 -- the last gameweek that may have teams and transfers: the next one, or the last one where all are locked
-abbrev pub last_open : Span → ℕ
-last_open span = if nat_lt span.locked span.gameweeks then span.locked + 1 else span.gameweeks
+abbrev pub last_open : Terms → ℕ
+last_open terms = if nat_lt terms.locked (length terms.deadlines) then terms.locked + 1 else length terms.deadlines
 
 -- a gameweek is there, not before an entry's first, and not after the last that may have teams and transfers
-abbrev pub is_between_ends : Span → ℕ → ℕ → Bool
-is_between_ends span first g = nat_le 1 g && nat_le g span.gameweeks && nat_le first g && nat_le g (last_open span)
+abbrev pub is_between_ends : Terms → ℕ → ℕ → Bool
+is_between_ends terms first g =
+    nat_le 1 g && nat_le g (length terms.deadlines) && nat_le first g && nat_le g (last_open terms)
 
 -- a team or a transfer of this entry and gameweek may stand: the entry is registered, and the gameweek is in its time
 abbrev pub is_in_time : Map → ℕ → ℕ → Bool
-is_in_time m e g = option_map_or (λ first. is_between_ends (span_told m) first g) (first_told m e) false
+is_in_time m e g = option_map_or (λ first. is_between_ends (terms_told m) first g) (first_told m e) false
 
 -- the gameweek is the entry's first
 abbrev pub is_first_of : Map → ℕ → ℕ → Bool

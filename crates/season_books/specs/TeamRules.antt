@@ -14,9 +14,9 @@ use Rattle.rule_book.specs.HistoryTransfers.{is_same_chip, makes_free, used_befo
 use Rattle.rule_book.specs.Lineups.{lineup_refusal}
 use Rattle.rule_book.specs.Squads.{has_squad_shape}
 use Rattle.season_books.specs.declared.entry_told.RecordedTeam.{RecordedTeam}
-use Rattle.season_books.specs.EntryTold.{chip_told, is_first_of, is_in_time, span_told}
+use Rattle.season_books.specs.EntryTold.{chip_told, is_first_of, is_in_time}
 use Rattle.season_books.specs.Sequels.{goes_on}
-use Rattle.season_books.specs.Stored.{is_there, told}
+use Rattle.season_books.specs.Stored.{is_there, split_told, told}
 
 -- the position of a player; that of a goalkeeper where he is not there
 abbrev pub position_in : Option Item → Position
@@ -53,7 +53,7 @@ is_too_early m e g chip = is_first_of m e g && makes_free chip
 -- a chip that an earlier team has: a wildcard in the same half
 abbrev pub is_played_again : Map → ℕ → ℕ → Chip → Bool
 is_played_again m e g chip =
-    not (is_same_chip chip NoChip) && is_some (used_before (span_told m).split (chip_told m e) chip g)
+    not (is_same_chip chip NoChip) && is_some (used_before (split_told m) (chip_told m e) chip g)
 
 -- the fifteen are there, at prices that can be, each once, and a squad in a legal lineup
 abbrev pub is_fit : Map → RecordedTeam → Bool

@@ -2,11 +2,13 @@
 ghost use Rattle.std.specs.Prelude.{◌≡◌, IfOk};
 ghost use Rattle.fpl_base.specs.Keeping.{map_of};
 ghost use Rattle.season_books.specs.EntryRules.{entry_breaks, team_breaks, transfer_breaks};
+ghost use Rattle.season_books.specs.SeasonRules.{terms_told};
 
 pub(crate) use crate::entry_told::first_of;
-use crate::entry_told::{RecordedTeam, has_team, numbers_of, sale, span_of};
+use crate::entry_told::{RecordedTeam, has_team, numbers_of, sale};
 use crate::stored::Stored;
 use crate::team_rules::is_lawful_team;
+use crate::terms::Terms;
 use crate::transfer_rules::{is_lawful_sale, term_of};
 use fpl_base::{Chip, EntryId, Gw, Memory, PlayerId};
 use std::alloc::Global;
@@ -30,6 +32,7 @@ pub(crate) fn entry_breaks(
 pub(crate) fn team_breaks(
     alloc: Global,
     stored: &Stored,
+    terms: &Terms,
     entry: EntryId,
     gameweek: Gw,
     picks: &[(PlayerId, u16); 15],
@@ -38,6 +41,7 @@ pub(crate) fn team_breaks(
     bank: u32,
     chip: Chip,
 ) -> Result<bool, Memory>
+    requires { terms.now ≡ terms_told (map_of stored.now) }
     ensures { IfOk result (λ b. b ≡ team_breaks (map_of stored.now) entry gameweek picks.now captain vice bank chip) }
 {
     let team = RecordedTeam {
@@ -47,8 +51,7 @@ pub(crate) fn team_breaks(
         bank,
         chip,
     };
-    let span = span_of(alloc, stored)?;
-    let lawful = is_lawful_team(alloc, stored, span, entry, gameweek, &team)?;
+    let lawful = is_lawful_team(alloc, stored, terms, entry, gameweek, &team)?;
     Ok(!lawful)
 }
 
@@ -56,6 +59,7 @@ pub(crate) fn team_breaks(
 pub(crate) fn transfer_breaks(
     alloc: Global,
     stored: &Stored,
+    terms: &Terms,
     entry: EntryId,
     gameweek: Gw,
     number: u32,
@@ -64,10 +68,10 @@ pub(crate) fn transfer_breaks(
     sold: u16,
     bought: u16,
 ) -> Result<bool, Memory>
+    requires { terms.now ≡ terms_told (map_of stored.now) }
     ensures { IfOk result (λ b. b ≡ transfer_breaks (map_of stored.now) entry gameweek number out into sold bought) }
 {
-    let span = span_of(alloc, stored)?;
-    let term = term_of(alloc, stored, span, entry, gameweek)?;
+    let term = term_of(alloc, stored, terms, entry, gameweek)?;
     match sale(out, into, sold, bought) {
         Some(sale) => {
             let lawful = is_lawful_sale(alloc, stored, term, entry, gameweek, number, &sale)?;

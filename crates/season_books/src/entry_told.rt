@@ -2,9 +2,10 @@
 ghost use Rattle.std.specs.Prelude.{◌≡◌, ◌==◌, IfOk, false, is_some};
 ghost use Rattle.std.specs.Option.{option_map_or};
 ghost use Rattle.fpl_base.specs.Keeping.{map_of};
-ghost use Rattle.season_books.specs.EntryTold.{chip_told, first_in, first_told, is_between_ends, last_open, sale_in, sale_told, span_in, span_told, team_in, team_told};
+ghost use Rattle.season_books.specs.EntryTold.{chip_in, chip_told, first_in, first_told, is_between_ends, last_open, sale_in, sale_told, team_in, team_told};
 
 use crate::stored::Stored;
+use crate::terms::Terms;
 use fpl_base::{Chip, EntryId, Gw, Memory, PlayerId, Tenths};
 use record_codec::{Item, Slot};
 use rule_book::Sale;
@@ -19,46 +20,6 @@ pub(crate) struct RecordedTeam {
     pub(crate) vice: u8,
     pub(crate) bank: u32,
     pub(crate) chip: Chip,
-}
-
-/// How long a season is: how many gameweeks it has, the last of its first half, and how many are locked.
-#[derive(Clone, Copy)]
-pub(crate) struct Span {
-    pub(crate) gameweeks: usize,
-    pub(crate) split: u8,
-    pub(crate) locked: u8,
-}
-
-/// How long the season is; 0 gameweeks without a season.
-pub(crate) fn span_of(alloc: Global, stored: &Stored) -> Result<Span, Memory>
-    ensures { IfOk result (λ span. span ≡ span_told (map_of stored.now)) }
-{
-    let item = stored.item(alloc, Slot::Season)?;
-    Ok(span_in(&item))
-}
-
-fn span_in(item: &Option<Item>) -> Span
-    ensures { result ≡ span_in item.now }
-{
-    match item {
-        Some(
-            Item::Season {
-                split,
-                locked,
-                deadlines,
-                ..
-            },
-        ) => Span {
-            gameweeks: deadlines.as_slice().len(),
-            split: *split,
-            locked: *locked,
-        },
-        _ => Span {
-            gameweeks: 0,
-            split: 0,
-            locked: 0,
-        },
-    }
 }
 
 /// The first gameweek of an entry; `None` where it is not registered or not there.
@@ -172,6 +133,16 @@ pub(crate) fn sale(out: PlayerId, into: PlayerId, sold: u16, bought: u16) -> Opt
     })
 }
 
+/// The chip of a team: none without a team.
+pub(crate) fn chip_in(team: &Option<RecordedTeam>) -> Chip
+    ensures { result ≡ chip_in team.now }
+{
+    match team {
+        Some(team) => team.chip,
+        None => Chip::None,
+    }
+}
+
 /// The chip of a gameweek: none without a team.
 pub(crate) fn chip_of(
     alloc: Global,
@@ -181,19 +152,17 @@ pub(crate) fn chip_of(
 ) -> Result<Chip, Memory>
     ensures { IfOk result (λ chip. chip ≡ chip_told (map_of stored.now) entry gameweek) }
 {
-    match team_of(alloc, stored, entry, gameweek)? {
-        Some(team) => Ok(team.chip),
-        None => Ok(Chip::None),
-    }
+    let team = team_of(alloc, stored, entry, gameweek)?;
+    Ok(chip_in(&team))
 }
 
 /// Whether a team or a transfer may stand in a gameweek, by the first gameweek of its entry: the entry is registered, and
 /// the gameweek is there, not before its first and not after the last that may have one.
-pub(crate) fn is_in_time(span: Span, first: Option<Gw>, gameweek: Gw) -> bool
-    ensures { result ≡ option_map_or (λ first. is_between_ends span first gameweek) first false }
+pub(crate) fn is_in_time(terms: &Terms, first: Option<Gw>, gameweek: Gw) -> bool
+    ensures { result ≡ option_map_or (λ first. is_between_ends terms.now first gameweek) first false }
 {
     match first {
-        Some(first) => is_between_ends(span, first, gameweek),
+        Some(first) => is_between_ends(terms, first, gameweek),
         None => false,
     }
 }
@@ -208,21 +177,24 @@ pub(crate) fn is_first(first: Option<Gw>, gameweek: Gw) -> bool
     }
 }
 
-fn is_between_ends(span: Span, first: Gw, gameweek: Gw) -> bool
-    ensures { result ≡ is_between_ends span first gameweek }
+fn is_between_ends(terms: &Terms, first: Gw, gameweek: Gw) -> bool
+    ensures { result ≡ is_between_ends terms.now first gameweek }
 {
     let g = gameweek.get();
-    usize::from(g) <= span.gameweeks && first.get() <= g && usize::from(g) <= last_open(span)
+    let gameweeks = terms.deadlines.as_slice().len();
+    usize::from(g) <= gameweeks && first.get() <= g && usize::from(g) <= last_open(terms)
 }
 
 // The last gameweek that may have teams and transfers.
-fn last_open(span: Span) -> usize
-    ensures { result ≡ last_open span }
+fn last_open(terms: &Terms) -> usize
+    ensures { result ≡ last_open terms.now }
 {
-    if usize::from(span.locked) < span.gameweeks {
-        usize::from(span.locked) + 1
+    let gameweeks = terms.deadlines.as_slice().len();
+    let locked = usize::from(terms.locked);
+    if locked < gameweeks {
+        locked + 1
     } else {
-        span.gameweeks
+        gameweeks
     }
 }
 

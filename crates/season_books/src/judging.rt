@@ -183,7 +183,7 @@ fn rules_broken(alloc: Global, stored: &Stored, terms: &Terms, item: &Item) -> R
             bank,
             chip,
         } => team_breaks(
-            alloc, stored, *entry, *gameweek, picks, *captain, *vice, *bank, *chip,
+            alloc, stored, terms, *entry, *gameweek, picks, *captain, *vice, *bank, *chip,
         ),
         Item::Transfer {
             entry,
@@ -194,7 +194,7 @@ fn rules_broken(alloc: Global, stored: &Stored, terms: &Terms, item: &Item) -> R
             sold,
             bought,
         } => transfer_breaks(
-            alloc, stored, *entry, *gameweek, *number, *out, *into, *sold, *bought,
+            alloc, stored, terms, *entry, *gameweek, *number, *out, *into, *sold, *bought,
         ),
         Item::League {
             league,

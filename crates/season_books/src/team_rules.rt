@@ -6,12 +6,15 @@ ghost use Rattle.record_codec.specs.Commands.{is_between};
 ghost use Rattle.rule_book.specs.HistoryTransfers.{half_of, is_same_chip, makes_free};
 ghost use Rattle.rule_book.specs.Positions.{keepers, defenders, midfielders, forwards};
 ghost use Rattle.rule_book.specs.Squads.{has_squad_shape};
-ghost use Rattle.season_books.specs.EntryTold.{is_first_of, span_told};
+ghost use Rattle.season_books.specs.EntryTold.{is_first_of};
+ghost use Rattle.season_books.specs.SeasonRules.{terms_told};
+ghost use Rattle.season_books.specs.Stored.{split_told};
 ghost use Rattle.season_books.specs.TeamRules.{has_players, is_distinct, is_fit, is_lined_up, is_playable, is_played_again, is_priced, position_in, position_told, positions_told, is_lawful_team};
 
-use crate::entry_told::{RecordedTeam, Span, chip_of, first_of, is_first, is_in_time};
+use crate::entry_told::{RecordedTeam, chip_of, first_of, is_first, is_in_time};
 use crate::sequels::goes_on;
 use crate::stored::Stored;
+use crate::terms::Terms;
 use fpl_base::{Chip, EntryId, Gw, Memory, Position};
 use record_codec::{Item, Slot};
 use squad_rules::check_lineup;
@@ -207,7 +210,7 @@ fn is_played_again(
     gameweek: Gw,
     chip: Chip,
 ) -> Result<bool, Memory>
-    requires { split ≡ (span_told (map_of stored.now)).split }
+    requires { split ≡ split_told (map_of stored.now) }
     ensures { IfOk result (λ again. again ≡ is_played_again (map_of stored.now) entry gameweek chip) }
 {
     if is_same_chip(chip, Chip::None) {
@@ -244,7 +247,7 @@ fn is_playable(
     gameweek: Gw,
     chip: Chip,
 ) -> Result<bool, Memory>
-    requires split { split ≡ (span_told (map_of stored.now)).split }
+    requires split { split ≡ split_told (map_of stored.now) }
     requires first { first ≡ is_first_of (map_of stored.now) entry gameweek }
     ensures { IfOk result (λ playable. playable ≡ is_playable (map_of stored.now) entry gameweek chip) }
 {
@@ -259,20 +262,28 @@ fn is_playable(
 pub(crate) fn is_lawful_team(
     alloc: Global,
     stored: &Stored,
-    span: Span,
+    terms: &Terms,
     entry: EntryId,
     gameweek: Gw,
     team: &RecordedTeam,
 ) -> Result<bool, Memory>
-    requires { span ≡ span_told (map_of stored.now) }
+    requires { terms.now ≡ terms_told (map_of stored.now) }
     ensures { IfOk result (λ lawful. lawful ≡ is_lawful_team (map_of stored.now) entry gameweek team.now) }
 {
     let first = first_of(alloc, stored, entry.get())?;
-    if !is_in_time(span, first, gameweek) || !is_fit(alloc, stored, team)? {
+    if !is_in_time(terms, first, gameweek) || !is_fit(alloc, stored, team)? {
         return Ok(false);
     }
     let opens = is_first(first, gameweek);
-    if !is_playable(alloc, stored, span.split, opens, entry, gameweek, team.chip)? {
+    if !is_playable(
+        alloc,
+        stored,
+        terms.split,
+        opens,
+        entry,
+        gameweek,
+        team.chip,
+    )? {
         return Ok(false);
     }
     goes_on(alloc, stored, opens, entry, gameweek, team)

@@ -2,12 +2,14 @@
 ghost use Rattle.std.specs.Prelude.{◌≡◌, IfOk, is_some};
 ghost use Rattle.fpl_base.specs.Keeping.{map_of};
 ghost use Rattle.rule_book.specs.EntryCalls.{transfer_limit};
-ghost use Rattle.season_books.specs.EntryTold.{sale_told, span_told};
+ghost use Rattle.season_books.specs.EntryTold.{first_told, sale_told, team_told};
+ghost use Rattle.season_books.specs.SeasonRules.{terms_told};
 ghost use Rattle.season_books.specs.TransferRules.{is_next_number, is_priced_sale, names_players, is_lawful_sale, term_told};
 
-use crate::entry_told::{Span, chip_of, first_of, has_team, is_first, is_in_time, sale_of};
+use crate::entry_told::{chip_in, first_of, is_first, is_in_time, sale_of, team_of};
 use crate::stored::Stored;
 use crate::team_rules::{is_price, makes_free};
+use crate::terms::Terms;
 use fpl_base::{Chip, EntryId, Gw, Memory};
 use record_codec::Slot;
 use rule_book::Sale;
@@ -27,21 +29,20 @@ pub(crate) struct Term {
 pub(crate) fn term_of(
     alloc: Global,
     stored: &Stored,
-    span: Span,
+    terms: &Terms,
     entry: EntryId,
     gameweek: Gw,
 ) -> Result<Term, Memory>
-    requires { span ≡ span_told (map_of stored.now) }
+    requires { terms.now ≡ terms_told (map_of stored.now) }
     ensures { IfOk result (λ term. term ≡ term_told (map_of stored.now) entry gameweek) }
 {
     let first = first_of(alloc, stored, entry.get())?;
-    let there = has_team(alloc, stored, entry, gameweek)?;
-    let chip = chip_of(alloc, stored, entry, gameweek.get())?;
+    let team = team_of(alloc, stored, entry, gameweek.get())?;
     Ok(Term {
         entry: entry.get(),
         gameweek: gameweek.get(),
-        open_to_transfers: is_in_time(span, first, gameweek) && there,
-        most: transfer_limit(is_first(first, gameweek), chip),
+        open_to_transfers: is_in_time(terms, first, gameweek) && team.is_some(),
+        most: transfer_limit(is_first(first, gameweek), chip_in(&team)),
     })
 }
 
