@@ -15,3 +15,6 @@ mod transfer_rules;
 
 pub use judging::judge;
 pub use laws::lawful_entries_are_restored;
+
+#[cfg(test)]
+mod entry_tests;
