@@ -1,5 +1,5 @@
 -- The rules on a transfer of an entry in a gameweek.
-use Rattle.std.specs.Prelude.{ℕ, ◌-◌, Bool, true, false, ◌&&◌, ◌||◌, ◌==◌, is_some, nat_le, nat_lt}
+use Rattle.std.specs.Prelude.{◌≡◌, ℕ, ◌-◌, Bool, true, false, ◌&&◌, ◌||◌, ◌==◌, Option, Some, None, is_some, nat_le, nat_lt, ⊤}
 use Rattle.fpl_base.specs.Keeping.{Map}
 use Rattle.record_codec.specs.Commands.{is_between}
 use Rattle.record_codec.specs.declared.slot.Slot.TheVariants as slot
@@ -18,6 +18,11 @@ term_told m e g = record {
   open_to_transfers = is_in_time m e g && is_some (team_told m e g);
   most = transfer_limit (is_first_of m e g) (chip_told m e g);
 }
+
+-- what is known of one gameweek is what it says
+abbrev pub IsKnown : Map → Option Term → Type 0
+IsKnown m None = ⊤
+IsKnown m (Some term) = term ≡ term_told m term.entry term.gameweek
 
 -- numbers are 1, 2, 3 and so on: the one before is there
 abbrev pub is_next_number : Map → ℕ → ℕ → ℕ → Bool

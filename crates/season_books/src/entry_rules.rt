@@ -3,13 +3,14 @@ ghost use Rattle.std.specs.Prelude.{◌≡◌, IfOk};
 ghost use Rattle.fpl_base.specs.Keeping.{map_of};
 ghost use Rattle.season_books.specs.EntryRules.{entry_breaks, team_breaks, transfer_breaks};
 ghost use Rattle.season_books.specs.SeasonRules.{terms_told};
+ghost use Rattle.season_books.specs.TransferRules.{IsKnown};
 
 pub(crate) use crate::entry_told::first_of;
 use crate::entry_told::{RecordedTeam, has_team, numbers_of, sale};
 use crate::stored::Stored;
 use crate::team_rules::is_lawful_team;
 use crate::terms::Terms;
-use crate::transfer_rules::{is_lawful_sale, term_of};
+use crate::transfer_rules::{Term, is_lawful_sale, known_term};
 use fpl_base::{Chip, EntryId, Gw, Memory, PlayerId};
 use std::alloc::Global;
 
@@ -55,11 +56,13 @@ pub(crate) fn team_breaks(
     Ok(!lawful)
 }
 
-/// Whether a transfer is not lawful; its fields are those of its record.
+/// Whether a transfer is not lawful; its fields are those of its record. What its gameweek says is worked out once for
+/// all transfers of the gameweek: it is known from the first of them on.
 pub(crate) fn transfer_breaks(
     alloc: Global,
     stored: &Stored,
     terms: &Terms,
+    known: &mut Option<Term>,
     entry: EntryId,
     gameweek: Gw,
     number: u32,
@@ -68,10 +71,12 @@ pub(crate) fn transfer_breaks(
     sold: u16,
     bought: u16,
 ) -> Result<bool, Memory>
-    requires { terms.now ≡ terms_told (map_of stored.now) }
-    ensures { IfOk result (λ b. b ≡ transfer_breaks (map_of stored.now) entry gameweek number out into sold bought) }
+    requires terms { terms.now ≡ terms_told (map_of stored.now) }
+    requires known { IsKnown (map_of stored.now) known.old }
+    ensures breaks { IfOk result (λ b. b ≡ transfer_breaks (map_of stored.now) entry gameweek number out into sold bought) }
+    ensures known { IsKnown (map_of stored.now) known.new }
 {
-    let term = term_of(alloc, stored, terms, entry, gameweek)?;
+    let term = known_term(alloc, stored, terms, known, entry, gameweek)?;
     match sale(out, into, sold, bought) {
         Some(sale) => {
             let lawful = is_lawful_sale(alloc, stored, term, entry, gameweek, number, &sale)?;

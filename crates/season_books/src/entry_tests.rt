@@ -49,11 +49,7 @@ fn put_season(alloc: Global, ops: &mut Vec<Op>, split: u8) -> Result<(), Fail> {
 
 // A team: its gameweek, whether player 16 has the place of player 15, the captain, the bank, and the number of its chip.
 // The vice-captain is in slot 4.
-fn put_team(
-    alloc: Global,
-    ops: &mut Vec<Op>,
-    team: &(u32, bool, u8, u32, u8),
-) -> Result<(), Fail> {
+fn put_team(alloc: Global, ops: &mut Vec<Op>, team: &(u32, bool, u8, u32, u8)) -> Result<(), Fail> {
     let mut body = Bytes::new(alloc);
     for slot in 1..16u32 {
         let changed = team.1 && slot == 15;
@@ -99,21 +95,76 @@ fn told(
 fn teams_and_transfers(rt: HostRuntime) -> Result<(), Fail> {
     for (split, teams, sales, wanted) in [
         // A transfer and chips that may be, a free hit among them, whose team does not stay.
-        (3, &[(2, false, 2, 250, 3), (3, true, 3, 240, 1), (4, true, 3, 240, 1)][..], &[(3, 1)][..], (0, 0, 0, 0)),
-        (3, &[(2, false, 2, 250, 0), (3, true, 3, 240, 2), (4, false, 2, 250, 0)][..], &[(3, 1)][..], (0, 0, 0, 0)),
+        (
+            3,
+            &[
+                (2, false, 2, 250, 3),
+                (3, true, 3, 240, 1),
+                (4, true, 3, 240, 1),
+            ][..],
+            &[(3, 1)][..],
+            (0, 0, 0, 0),
+        ),
+        (
+            3,
+            &[
+                (2, false, 2, 250, 0),
+                (3, true, 3, 240, 2),
+                (4, false, 2, 250, 0),
+            ][..],
+            &[(3, 1)][..],
+            (0, 0, 0, 0),
+        ),
         // It stays.
-        (3, &[(2, false, 2, 250, 0), (3, true, 3, 240, 2), (4, true, 2, 240, 0)][..], &[(3, 1)][..], (7, 1, 4, 0)),
+        (
+            3,
+            &[
+                (2, false, 2, 250, 0),
+                (3, true, 3, 240, 2),
+                (4, true, 2, 240, 0),
+            ][..],
+            &[(3, 1)][..],
+            (7, 1, 4, 0),
+        ),
         // A bank that is 0.1 million too much, and a first one of fifteen that cost less than 45.0 million.
-        (3, &[(2, false, 2, 250, 0), (3, true, 3, 241, 0)][..], &[(3, 1)][..], (7, 1, 3, 0)),
+        (
+            3,
+            &[(2, false, 2, 250, 0), (3, true, 3, 241, 0)][..],
+            &[(3, 1)][..],
+            (7, 1, 3, 0),
+        ),
         (3, &[(2, false, 2, 551, 0)][..], &[][..], (7, 1, 2, 0)),
         // The captain is the vice-captain.
         (3, &[(2, false, 4, 250, 0)][..], &[][..], (7, 1, 2, 0)),
         // A bench boost twice; a wildcard twice in the first half.
-        (3, &[(2, false, 2, 250, 3), (3, false, 2, 250, 0), (4, false, 2, 250, 3)][..], &[][..], (7, 1, 4, 0)),
-        (4, &[(2, false, 2, 250, 0), (3, false, 2, 250, 1), (4, false, 2, 250, 1)][..], &[][..], (7, 1, 4, 0)),
+        (
+            3,
+            &[
+                (2, false, 2, 250, 3),
+                (3, false, 2, 250, 0),
+                (4, false, 2, 250, 3),
+            ][..],
+            &[][..],
+            (7, 1, 4, 0),
+        ),
+        (
+            4,
+            &[
+                (2, false, 2, 250, 0),
+                (3, false, 2, 250, 1),
+                (4, false, 2, 250, 1),
+            ][..],
+            &[][..],
+            (7, 1, 4, 0),
+        ),
         // A transfer before the first gameweek, and one whose number is not the next.
         (3, &[(2, false, 2, 250, 0)][..], &[(1, 1)][..], (8, 1, 1, 1)),
-        (3, &[(2, false, 2, 250, 0), (3, false, 2, 250, 0)][..], &[(3, 2)][..], (8, 1, 3, 2)),
+        (
+            3,
+            &[(2, false, 2, 250, 0), (3, false, 2, 250, 0)][..],
+            &[(3, 2)][..],
+            (8, 1, 3, 2),
+        ),
         // No team in the first gameweek.
         (3, &[(3, false, 2, 250, 0)][..], &[][..], (6, 1, 0, 0)),
     ] {

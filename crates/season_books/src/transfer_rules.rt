@@ -4,7 +4,7 @@ ghost use Rattle.fpl_base.specs.Keeping.{map_of};
 ghost use Rattle.rule_book.specs.EntryCalls.{transfer_limit};
 ghost use Rattle.season_books.specs.EntryTold.{first_told, sale_told, team_told};
 ghost use Rattle.season_books.specs.SeasonRules.{terms_told};
-ghost use Rattle.season_books.specs.TransferRules.{is_next_number, is_priced_sale, names_players, is_lawful_sale, term_told};
+ghost use Rattle.season_books.specs.TransferRules.{IsKnown, is_next_number, is_priced_sale, names_players, is_lawful_sale, term_told};
 
 use crate::entry_told::{chip_in, first_of, is_first, is_in_time, sale_of, team_of};
 use crate::stored::Stored;
@@ -15,8 +15,7 @@ use record_codec::Slot;
 use rule_book::Sale;
 use std::alloc::Global;
 
-/// What an entry's gameweek says of its transfers: whether it may have some, and at most how many. It is worked out once
-/// for all transfers of the gameweek.
+/// What an entry's gameweek says of its transfers: whether it may have some, and at most how many.
 #[derive(Clone, Copy)]
 pub(crate) struct Term {
     pub(crate) entry: u32,
@@ -44,6 +43,31 @@ pub(crate) fn term_of(
         open_to_transfers: is_in_time(terms, first, gameweek) && team.is_some(),
         most: transfer_limit(is_first(first, gameweek), chip_in(&team)),
     })
+}
+
+/// The same, as it is known of this gameweek already or else is known from now on. Transfers stand by gameweek, so one is
+/// known at a time.
+pub(crate) fn known_term(
+    alloc: Global,
+    stored: &Stored,
+    terms: &Terms,
+    known: &mut Option<Term>,
+    entry: EntryId,
+    gameweek: Gw,
+) -> Result<Term, Memory>
+    requires terms { terms.now ≡ terms_told (map_of stored.now) }
+    requires known { IsKnown (map_of stored.now) known.old }
+    ensures term { IfOk result (λ term. term ≡ term_told (map_of stored.now) entry gameweek) }
+    ensures known { IsKnown (map_of stored.now) known.new }
+{
+    if let Some(term) = *known {
+        if term.entry == entry.get() && term.gameweek == gameweek.get() {
+            return Ok(term);
+        }
+    }
+    let term = term_of(alloc, stored, terms, entry, gameweek)?;
+    *known = Some(term);
+    Ok(term)
 }
 
 // So many transfers are made in a gameweek at most.
