@@ -2,6 +2,7 @@ pub mod Alike
 pub mod Bases
 pub mod Chips
 pub mod Deadlines
+pub mod EntriesJudged
 pub mod Found
 pub mod Lawful
 pub mod Listed

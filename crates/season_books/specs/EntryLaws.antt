@@ -1,13 +1,15 @@
 -- The lawful records of an entry are those from which its book is restored.
 use Rattle.std.specs.Prelude.{◌≡◌, ◌<◌, ℕ, ◌&&◌, ◌==◌, false, List, [], ◌∷◌, map, Option, Some, None, if◌then◌else◌, ⊤, ◌⊎◌}
 use Rattle.std.specs.Option.{option_map}
-use Rattle.fpl_base.specs.Keeping.{Map}
+use Rattle.fpl_base.specs.Keeping.{Map, map_of}
 use Rattle.rule_book.specs.declared.team.Team.{Team}
 use Rattle.rule_book.specs.declared.transfers.Sale.{Sale}
 use Rattle.rule_book.specs.EntryRecords.{AreEntryRecords, TeamsRise, team_recorded}
 use Rattle.season_books.specs.declared.entry_told.RecordedTeam.{RecordedTeam}
 use Rattle.season_books.specs.EntryTold.{first_told, sale_told, team_told}
 use Rattle.season_books.specs.EntryRules.{entry_breaks, team_breaks, transfer_breaks}
+use Rattle.season_books.specs.Lawful.{judged}
+use Rattle.season_books.specs.Stored.{Rows}
 use Rattle.season_books.specs.TeamRules.{position_told}
 
 -- no record of an entry breaks a rule: not its own, no team's, and no transfer's
@@ -68,3 +70,9 @@ abbrev pub LawfulEntriesAreRestored : Type 0
 LawfulEntriesAreRestored = (m : Map) (e : ℕ) (teams : List (ℕ × Team)) (rows : List NumberedSale)
     → IsLawfulEntry m e → AreItsTeams m e teams → AreItsSales m e rows
     → AreEntryRecords (first_told m e) teams (sales_of_rows rows)
+
+-- the same of each entry of a store in which nothing is found wrong
+abbrev pub JudgedEntriesAreRestored : Type 0
+JudgedEntriesAreRestored = (rows : Rows) (e : ℕ) (teams : List (ℕ × Team)) (sales : List NumberedSale)
+    → judged rows ≡ None → AreItsTeams (map_of rows) e teams → AreItsSales (map_of rows) e sales
+    → AreEntryRecords (first_told (map_of rows) e) teams (sales_of_rows sales)

@@ -50,9 +50,13 @@ abbrev pub is_alike : List Holding → List Holding → ℕ → Bool
 is_alike a b p =
     times p (map (λ k. k.player) a) == times p (map (λ k. k.player) b) && price_among p a == price_among p b
 
+-- each of these players does
+abbrev pub are_alike : List Holding → List Holding → List Holding → Bool
+are_alike a b squad = list_all (λ k. is_alike a b k.player) squad
+
 -- the same players at the same prices, in any order
 abbrev pub are_same_holdings : List Holding → List Holding → Bool
-are_same_holdings a b = list_all (λ k. is_alike a b k.player) a && list_all (λ k. is_alike a b k.player) b
+are_same_holdings a b = are_alike a b a && are_alike a b b
 
 -- The bank of a first team is what 1000, the transfers and some first prices give, whose sum is from 450 to 1000.
 abbrev pub opens_with : ℕ → ℕ → ℕ → Bool
@@ -62,12 +66,17 @@ opens_with paid earned bank = nat_le (bank + paid + 450) (1000 + earned) && nat_
 abbrev pub follows : Option RecordedTeam → List Sale → RecordedTeam → Bool
 follows None sales t = false
 follows (Some base) sales t =
-    are_same_holdings (holdings_told t.picks) (after_sales sales (holdings_told base.picks)) && t.bank + paid_for sales == base.bank + earned_for sales
+    are_same_holdings (holdings_told t.picks) (after_sales sales (holdings_told base.picks))
+    && t.bank + paid_for sales == base.bank + earned_for sales
+
+-- the same by what records tell of the entry
+abbrev pub follows_told : Map → ℕ → ℕ → RecordedTeam → Bool
+follows_told m e g t = follows (base_told m e g) (sales_told m e g) t
 
 -- the team of a gameweek follows from what its entry has before it
 abbrev pub goes_on : Map → ℕ → ℕ → RecordedTeam → Bool
 goes_on m e g t =
-    if is_first_of m e g then opens_with (paid_for (sales_told m e g)) (earned_for (sales_told m e g)) t.bank else follows (base_told m e g) (sales_told m e g) t
+    if is_first_of m e g then opens_with (paid_for (sales_told m e g)) (earned_for (sales_told m e g)) t.bank else follows_told m e g t
 
 -- a pick after a transfer: the incomer takes the place of the one who goes
 abbrev pub pick_after : Sale → ℕ × ℕ → ℕ × ℕ

@@ -43,7 +43,8 @@ pub(crate) fn team_breaks(
     chip: Chip,
 ) -> Result<bool, Memory>
     requires { terms.now ≡ terms_told (map_of stored.now) }
-    ensures { IfOk result (λ b. b ≡ team_breaks (map_of stored.now) entry gameweek picks.now captain vice bank chip) }
+    ensures { IfOk result (λ b.
+        b ≡ team_breaks (map_of stored.now) entry gameweek picks.now captain vice bank chip) }
 {
     let team = RecordedTeam {
         picks: numbers_of(picks),
@@ -73,7 +74,8 @@ pub(crate) fn transfer_breaks(
 ) -> Result<bool, Memory>
     requires terms { terms.now ≡ terms_told (map_of stored.now) }
     requires known { IsKnown (map_of stored.now) known.old }
-    ensures breaks { IfOk result (λ b. b ≡ transfer_breaks (map_of stored.now) entry gameweek number out into sold bought) }
+    ensures breaks { IfOk result (λ b.
+        b ≡ transfer_breaks (map_of stored.now) entry gameweek number out into sold bought) }
     ensures known { IsKnown (map_of stored.now) known.new }
 {
     let term = known_term(alloc, stored, terms, known, entry, gameweek)?;

@@ -11,8 +11,8 @@ use record_codec::{Item, Slot};
 use rule_book::Sale;
 use std::alloc::Global;
 
-/// The team that a record tells: by slot the players, by number, with the prices at which they were bought, in tenths of a million,
-/// the slots of captain and vice-captain, the bank, and the chip.
+/// The team that a record tells: by slot the players, by number, with the prices at which they were bought, in tenths of
+/// a million, the slots of captain and vice-captain, the bank, and the chip.
 #[derive(Clone, Copy)]
 pub(crate) struct RecordedTeam {
     pub(crate) picks: [(u32, u32); 15],

@@ -14,7 +14,7 @@ mod terms;
 mod transfer_rules;
 
 pub use judging::judge;
-pub use laws::lawful_entries_are_restored;
+pub use laws::{judged_entries_are_restored, lawful_entries_are_restored};
 
 #[cfg(test)]
 mod entry_tests;

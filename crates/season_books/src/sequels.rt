@@ -1,12 +1,12 @@
 // What the team of a gameweek follows from.
 ghost use Rattle.std.specs.Prelude.{◌≡◌, ◌≤◌, ◌+◌, IfOk, Some, map, true};
-ghost use Rattle.std.specs.List.{list_all};
 ghost use Rattle.fpl_base.specs.Keeping.{map_of};
 ghost use Rattle.rule_book.specs.EntryRecords.{after_sales, earned_for, paid_for, price_among};
 ghost use Rattle.rule_book.specs.History.{is_free_hit};
 ghost use Rattle.rule_book.specs.HistoryRules.{times};
 ghost use Rattle.season_books.specs.EntryTold.{is_first_of, sale_told, team_told};
-ghost use Rattle.season_books.specs.Sequels.{are_same_holdings, base_told, comes_of, follows, goes_on, holdings_told, is_alike, lasting, opens_with, pick_after, sales_told, HasFew, IsTraded, Trades};
+ghost use Rattle.season_books.specs.Sequels.{HasFew, IsTraded, Trades, are_alike, are_same_holdings, base_told, comes_of};
+ghost use Rattle.season_books.specs.Sequels.{follows_told, goes_on, holdings_told, is_alike, lasting, opens_with, pick_after, sales_told};
 
 use crate::entry_told::{RecordedTeam, sale_of, team_of};
 use crate::stored::Stored;
@@ -124,7 +124,8 @@ fn trade(
     requires earned { traded.old.earned ≤ 10000000000 }
     ensures paid_most { traded.new.paid ≤ traded.old.paid + 10000000 }
     ensures earned_most { traded.new.earned ≤ traded.old.earned + 10000000 }
-    ensures trades { IfOk result (λ there. Trades (sale_told (map_of stored.now) entry gameweek number) there traded.old traded.new) }
+    ensures trades { IfOk result (λ there.
+        Trades (sale_told (map_of stored.now) entry gameweek number) there traded.old traded.new) }
 {
     match sale_of(alloc, stored, entry, gameweek, number)? {
         Some(sale) => {
@@ -143,7 +144,8 @@ fn after_trades(
     gameweek: Gw,
     picks: [(u32, u32); 15],
 ) -> Result<Traded, Memory>
-    ensures traded { IfOk result (λ traded. IsTraded (sales_told (map_of stored.now) entry gameweek) picks traded) }
+    ensures traded { IfOk result (λ traded.
+        IsTraded (sales_told (map_of stored.now) entry gameweek) picks traded) }
     ensures few { IfOk result HasFew }
 {
     let mut traded = Traded {
@@ -198,7 +200,7 @@ fn are_alike(
     others: &[(u32, u32); 15],
     players: &[(u32, u32); 15],
 ) -> bool
-    ensures { result ≡ list_all (λ k. is_alike (holdings_told picks.now) (holdings_told others.now) k.player) (holdings_told players.now) }
+    ensures { result ≡ are_alike (holdings_told picks.now) (holdings_told others.now) (holdings_told players.now) }
 {
     'players: for pick in players {
         if !is_alike(picks, others, pick.0) {
@@ -243,7 +245,7 @@ fn follows(
     gameweek: Gw,
     team: &RecordedTeam,
 ) -> Result<bool, Memory>
-    ensures { IfOk result (λ holds. holds ≡ follows (base_told (map_of stored.now) entry gameweek) (sales_told (map_of stored.now) entry gameweek) team.now) }
+    ensures { IfOk result (λ holds. holds ≡ follows_told (map_of stored.now) entry gameweek team.now) }
 {
     match base_of(alloc, stored, entry, gameweek)? {
         Some(base) => {

@@ -268,7 +268,8 @@ pub(crate) fn is_lawful_team(
     team: &RecordedTeam,
 ) -> Result<bool, Memory>
     requires { terms.now ≡ terms_told (map_of stored.now) }
-    ensures { IfOk result (λ lawful. lawful ≡ is_lawful_team (map_of stored.now) entry gameweek team.now) }
+    ensures { IfOk result (λ lawful.
+        lawful ≡ is_lawful_team (map_of stored.now) entry gameweek team.now) }
 {
     let first = first_of(alloc, stored, entry.get())?;
     if !is_in_time(terms, first, gameweek) || !is_fit(alloc, stored, team)? {

@@ -131,7 +131,8 @@ pub(crate) fn is_lawful_sale(
     sale: &Sale,
 ) -> Result<bool, Memory>
     requires { term ≡ term_told (map_of stored.now) entry gameweek }
-    ensures { IfOk result (λ lawful. lawful ≡ is_lawful_sale (map_of stored.now) entry gameweek number sale.now) }
+    ensures { IfOk result (λ lawful.
+        lawful ≡ is_lawful_sale (map_of stored.now) entry gameweek number sale.now) }
 {
     if !term.open_to_transfers || number > term.most {
         return Ok(false);
