@@ -78,10 +78,7 @@ between_places rows low high a b p q =
 
 -- what a filter keeps that keeps the places from a on and before b
 pub kept_part : {X : Type 0} (p : X → Bool) (xs : List X) (a b : ℕ) → ((k : ℕ) (d : X) → k < length xs → p (get_or xs k d) ≡ (nat_le a k && nat_lt k b)) → take (b - a) (drop a xs) ≡ filter p xs
-kept_part p [] a b at = nothing a (b - a)
-  where
-    nothing : {X : Type 0} (i n : ℕ) → take n (drop i ([] {A = X})) ≡ []
-    nothing i n = rw (drop-nil i, take-nil n) refl
+kept_part p [] a b at = rw (drop-nil a) (take-nil (b - a))
 kept_part p (x ∷ xs) (suc a) b at =
     let first : p x ≡ false = at 0 x (omega arith) ∙ grind (arith, nat_tests) in
     let rest = kept_part p xs a (b - 1) (λ k d lt. at (suc k) d (omega (arith, lt)) ∙ grind (arith, nat_tests)) in
@@ -91,7 +88,10 @@ kept_part p (x ∷ xs) zero zero at =
     rw first (kept_part p xs 0 0 (λ k d lt. at (suc k) d (omega (arith, lt)) ∙ grind (arith, nat_tests)))
 kept_part p (x ∷ xs) zero (suc b) at =
     let first : p x ≡ true = at 0 x (omega arith) ∙ grind (arith, nat_tests) in
-    rw first (ap (λ r. x ∷ r) (kept_part p xs 0 b (λ k d lt. at (suc k) d (omega (arith, lt)) ∙ grind (arith, nat_tests))))
+    let rest = kept_part p xs 0 b (λ k d lt. at (suc k) d (omega (arith, lt)) ∙ grind (arith, nat_tests)) in
+    let whole : suc b - 0 ≡ suc b = omega arith in
+    let less : b ≡ b - 0 = omega arith in
+    rw first (ap (λ n. take n (x ∷ xs)) whole ∙ ap (λ r. x ∷ r) (ap (λ n. take n xs) less ∙ rest))
 
 -- where two tests hold in front of two places, what passes the second and not the first stands between them
 pub kept_between : {X : Type 0} (low high p : X → Bool) (xs : List X) (a b : ℕ) → ((x : X) → p x ≡ (not (low x) && high x)) → IsPartitionPoint (λ x. low x ≡ true) (λ x. low x ≡ false) xs a → IsPartitionPoint (λ x. high x ≡ true) (λ x. high x ≡ false) xs b → take (b - a) (drop a xs) ≡ filter p xs

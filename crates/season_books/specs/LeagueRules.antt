@@ -102,11 +102,18 @@ league_breaks rows league kind start creator order =
 abbrev pub leagues_before : Map → ℕ → ℕ → ℕ
 leagues_before m league e = count_by (λ l. is_there m (slot.Member l e)) (range_with_len 1 (league - 1))
 
+-- the kind of a league
+abbrev pub kind_in : Option Item → Option LeagueKind
+kind_in (Some (item.League league kind start creator order code name)) = Some kind
+kind_in other = None
+
+abbrev pub kind_told : Map → ℕ → Option LeagueKind
+kind_told m league = kind_in (told m (slot.League league))
+
 -- as many entries of smaller ids are members of the league as its kind allows
-abbrev pub is_league_full : Rows → ℕ → ℕ → Option Item → Bool
-is_league_full rows league e (Some (item.League own kind start creator order code name)) =
-    is_full rows (most_members kind) (slot.Member league 0) (slot.Member league e)
-is_league_full rows league e other = false
+abbrev pub is_league_full : Rows → ℕ → ℕ → Option LeagueKind → Bool
+is_league_full rows league e None = false
+is_league_full rows league e (Some kind) = is_full rows (most_members kind) (slot.Member league 0) (slot.Member league e)
 
 -- the league or the entry is not there; the entry is in as many leagues of smaller ids as it can be in; the league is full
 -- without it
@@ -116,7 +123,7 @@ member_breaks rows league e =
     misses m (slot.League league)
     || misses m (slot.Entry e)
     || nat_le most_leagues_of_one (leagues_before m league e)
-    || is_league_full rows league e (told m (slot.League league))
+    || is_league_full rows league e (kind_told m league)
 
 -- Cups.
 

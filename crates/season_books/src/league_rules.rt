@@ -1,5 +1,5 @@
 // The rules on entries, leagues, members, cups and last commands.
-ghost use Rattle.std.specs.Prelude.{◌≡◌, ◌==◌, IfOk, map, not};
+ghost use Rattle.std.specs.Prelude.{◌≡◌, ◌==◌, ◌&&◌, IfOk, map, not};
 ghost use Rattle.std.specs.List.{list_all, list_any};
 ghost use Rattle.fpl_base.specs.Keeping.{map_of};
 ghost use Rattle.rule_book.specs.CupCalls.{entrants};
@@ -8,7 +8,7 @@ ghost use Rattle.rule_book.specs.HeadToHead.{is_draw};
 ghost use Rattle.rule_book.specs.LeagueCalls.{is_head, most_members};
 ghost use Rattle.record_codec.specs.ItemReading.{item_of};
 ghost use Rattle.record_codec.specs.declared.slot.Slot.TheVariants as slot;
-ghost use Rattle.season_books.specs.LeagueRules.{cup_breaks, has_gap, has_key, has_other_key, is_answer, is_drawn_wrong, is_league_full, is_member_of, is_registered, issue_breaks, last_breaks, league_breaks, leagues_before, member_breaks, plays_from, stands_at_two};
+ghost use Rattle.season_books.specs.LeagueRules.{cup_breaks, has_gap, has_key, has_other_key, is_answer, is_drawn_wrong, is_league_full, is_member_of, is_registered, issue_breaks, kind_in, last_breaks, league_breaks, leagues_before, member_breaks, plays_from, stands_at_two};
 ghost use Rattle.season_books.specs.SeasonRules.{misses, terms_told};
 
 use crate::entry_rules::{entry_breaks, first_of};
@@ -162,11 +162,15 @@ pub(crate) fn league_breaks(
     if has_latecomer(alloc, stored, start, order)? {
         return Ok(true);
     }
-    let l = league.get();
-    Ok(
-        has_gap(stored, l, Slot::League(l - 1))
-            || is_full(stored, MOST_LEAGUES, Slot::League(0), Slot::League(l)),
-    )
+    if has_gap(stored, league.get(), Slot::League(league.get() - 1)) {
+        return Ok(true);
+    }
+    Ok(is_full(
+        stored,
+        MOST_LEAGUES,
+        Slot::League(0),
+        Slot::League(league.get()),
+    ))
 }
 
 // Whether an entry of an order is not there.
@@ -217,7 +221,7 @@ fn is_draw(order: &[EntryId], members: &[(RecordKey, Bytes)]) -> bool
 
 // Whether each member has a place in the order.
 fn have_places(order: &[EntryId], members: &[(RecordKey, Bytes)]) -> bool
-    ensures { result ≡ list_all (λ member. list_any (λ place. member == place) order.now) (map (λ row. row.0.b) members.now) }
+    ensures { result ≡ list_all (λ row. list_any (λ place. row.0.b == place) order.now) members.now }
 {
     members.iter().all(|row| has_place(order, row.0.b))
 }
@@ -266,7 +270,7 @@ pub(crate) fn member_breaks(
         return Ok(true);
     }
     let item = stored.item(alloc, Slot::League(league.get()))?;
-    Ok(is_league_full(stored, league, entry, &item))
+    Ok(is_league_full(stored, league, entry, kind_in(&item)))
 }
 
 // In how many leagues of smaller ids an entry is.
@@ -282,18 +286,32 @@ fn leagues_before(stored: &Stored, league: LeagueId, entry: EntryId) -> usize
     count
 }
 
-// Whether as many entries of smaller ids are members of the league as its kind allows.
-fn is_league_full(stored: &Stored, league: LeagueId, entry: EntryId, item: &Option<Item>) -> bool
-    ensures { result ≡ is_league_full stored.now league entry item.now }
+fn kind_in(item: &Option<Item>) -> Option<LeagueKind>
+    ensures { result ≡ kind_in item.now }
 {
     match item {
-        Some(Item::League { kind, .. }) => is_full(
+        Some(Item::League { kind, .. }) => Some(*kind),
+        _ => None,
+    }
+}
+
+// Whether as many entries of smaller ids are members of a league of this kind as it allows.
+fn is_league_full(
+    stored: &Stored,
+    league: LeagueId,
+    entry: EntryId,
+    kind: Option<LeagueKind>,
+) -> bool
+    ensures { result ≡ is_league_full stored.now league entry kind }
+{
+    match kind {
+        Some(kind) => is_full(
             stored,
-            most_members(*kind),
+            most_members(kind),
             Slot::Member(league.get(), 0),
             Slot::Member(league.get(), entry.get()),
         ),
-        _ => false,
+        None => false,
     }
 }
 
@@ -332,16 +350,27 @@ pub(crate) fn cup_breaks(
     if has_late_entrant(alloc, stored, start, slots)? {
         return Ok(true);
     }
-    let c = cup.get();
-    Ok(
-        has_gap(stored, c, Slot::Cup(c - 1))
-            || is_full(stored, MOST_CUPS, Slot::Cup(0), Slot::Cup(c)),
-    )
+    if has_gap(stored, cup.get(), Slot::Cup(cup.get() - 1)) {
+        return Ok(true);
+    }
+    Ok(is_full(
+        stored,
+        MOST_CUPS,
+        Slot::Cup(0),
+        Slot::Cup(cup.get()),
+    ))
 }
 
 // Whether an entrant of a cup is not there.
 fn misses_entrant(stored: &Stored, slots: &[u32]) -> bool
     ensures { result ≡ list_any (λ e. misses (map_of stored.now) (slot.Entry e)) (entrants slots.now) }
+{
+    has_lost_slot(stored, slots)
+}
+
+// Whether a slot that is no bye has no entry.
+fn has_lost_slot(stored: &Stored, slots: &[u32]) -> bool
+    ensures { result ≡ list_any (λ e. not (e == 0) && misses (map_of stored.now) (slot.Entry e)) slots.now }
 {
     slots
         .iter()
@@ -365,17 +394,13 @@ fn has_late_entrant(
     Ok(false)
 }
 
-// Whether a draw can be played in a season of so many gameweeks. More than 255 make no difference: the last round of a cup
-// is at most its tenth.
+// Whether a draw can be played in a season of so many gameweeks. A cup has at most ten rounds, so no more are counted.
 fn is_cup(start: Gw, slots: &[u32], coins: &[u8], gameweeks: usize) -> bool
     ensures { result ≡ is_cup (record { start = start; slots = slots.now; coins = coins.now }) gameweeks }
 {
-    let gameweeks = if gameweeks < 255 {
-        gameweeks as u8
-    } else {
-        255
-    };
-    check_draw(start, slots, coins, gameweeks, 0).is_ok()
+    let most = start.get() as usize + 10;
+    let gameweeks = if gameweeks < most { gameweeks } else { most };
+    check_draw(start, slots, coins, gameweeks as u8, 0).is_ok()
 }
 
 /// Whether a last command breaks a rule: its caller is neither the operator nor an entry that is there, its number is 0, or

@@ -1,5 +1,5 @@
 // The records of a store, and what is found among them.
-ghost use Rattle.std.specs.Prelude.{◌≡◌, ◌<◌, IfOk, IsTrue, false, filter, length};
+ghost use Rattle.std.specs.Prelude.{◌≡◌, ◌<◌, ◌≤◌, ◌-◌, IfOk, IsTrue, drop, false, filter, length, take};
 ghost use Rattle.std.specs.List.{HoldsAt};
 ghost use Rattle.std.specs.Option.{option_map};
 ghost use Rattle.fpl_base.specs.Keeping.{KeysRise, is_same_key, map_of};
@@ -35,6 +35,14 @@ fn stands_at(rows: &[(RecordKey, Bytes)], at: usize, key: RecordKey) -> bool
     ensures away { result ≡ false → at < length rows.now → HoldsAt (λ row. is_same_key row.0 key ≡ false) rows.now at }
 {
     at < rows.len() && rows[at].0 == key
+}
+
+// The records from one place on and before another.
+fn cut(rows: &[(RecordKey, Bytes)], first: usize, end: usize) -> &[(RecordKey, Bytes)]
+    requires { end ≤ length rows.now }
+    ensures { result.now ≡ take (end - first) (drop first rows.now) }
+{
+    if first < end { &rows[first..end] } else { &[] }
 }
 
 // Whether a record stands before all members of a league.
@@ -102,11 +110,7 @@ impl<'a> Stored<'a> {
     {
         let first = self.place_of(low);
         let end = self.place_of(high);
-        if first < end {
-            &self.rows[first..end]
-        } else {
-            &[]
-        }
+        cut(self.rows, first, end)
     }
 
     /// The records of the members of a league.
@@ -117,11 +121,7 @@ impl<'a> Stored<'a> {
         let first = self.rows.partition_point(|row| stands_before(&row.0, l));
         let end = self.rows.partition_point(|row| stands_before(&row.0, l)
             || row.0.kind == 10 && row.0.a == l);
-        if first < end {
-            &self.rows[first..end]
-        } else {
-            &[]
-        }
+        cut(self.rows, first, end)
     }
 
     /// How many records have a key not before `low`, and before `high`.
