@@ -4,6 +4,7 @@ ghost use Rattle.std.specs.List.{list_all};
 ghost use Rattle.fpl_base.specs.Keeping.{KeysRise, map_of};
 ghost use Rattle.season_books.specs.Lawful.{breaks, first_not_spelled, first_wrong, is_in_range, is_spelled, is_wrong, judged, rules_broken};
 ghost use Rattle.season_books.specs.SeasonRules.{terms_told};
+ghost use Rattle.season_books.specs.TransferRules.{IsKnown};
 
 use crate::entry_rules::{team_breaks, transfer_breaks};
 use crate::league_rules::{cup_breaks, issue_breaks, last_breaks, league_breaks, member_breaks};
@@ -12,6 +13,7 @@ use crate::season_rules::{
 };
 use crate::stored::Stored;
 use crate::terms::{Terms, terms_of};
+use crate::transfer_rules::Term;
 use fpl_base::{Bytes, Memory, RecordKey};
 use match_facts::line_ok;
 use record_codec::{Item, Slot, decode};
@@ -92,8 +94,9 @@ fn first_wrong(alloc: Global, stored: &Stored) -> Result<Option<RecordKey>, Memo
     ensures { IfOk result (λ key. key ≡ first_wrong stored.now) }
 {
     let terms = terms_of(alloc, stored)?;
+    let mut known = None;
     for row in stored.as_slice() {
-        if is_wrong(alloc, stored, &terms, row)? {
+        if is_wrong(alloc, stored, &terms, &mut known, row)? {
             return Ok(Some(row.0));
         }
     }
@@ -105,32 +108,51 @@ fn is_wrong(
     alloc: Global,
     stored: &Stored,
     terms: &Terms,
+    known: &mut Option<Term>,
     row: &(RecordKey, Bytes),
 ) -> Result<bool, Memory>
-    requires { terms.now ≡ terms_told (map_of stored.now) }
-    ensures { IfOk result (λ b. b ≡ is_wrong stored.now row.now) }
+    requires terms { terms.now ≡ terms_told (map_of stored.now) }
+    requires known { IsKnown (map_of stored.now) known.old }
+    ensures wrong { IfOk result (λ b. b ≡ is_wrong stored.now row.now) }
+    ensures known { IsKnown (map_of stored.now) known.new }
 {
     match &decode(alloc, row.0, row.1.as_slice())? {
-        Some(item) => breaks(alloc, stored, terms, item),
+        Some(item) => breaks(alloc, stored, terms, known, item),
         None => Ok(false),
     }
 }
 
 // Whether an item breaks a rule.
-fn breaks(alloc: Global, stored: &Stored, terms: &Terms, item: &Item) -> Result<bool, Memory>
-    requires { terms.now ≡ terms_told (map_of stored.now) }
-    ensures { IfOk result (λ b. b ≡ breaks stored.now item.now) }
+fn breaks(
+    alloc: Global,
+    stored: &Stored,
+    terms: &Terms,
+    known: &mut Option<Term>,
+    item: &Item,
+) -> Result<bool, Memory>
+    requires terms { terms.now ≡ terms_told (map_of stored.now) }
+    requires known { IsKnown (map_of stored.now) known.old }
+    ensures breaks { IfOk result (λ b. b ≡ breaks stored.now item.now) }
+    ensures known { IsKnown (map_of stored.now) known.new }
 {
     if misses(stored, Slot::Season) {
         return Ok(true);
     }
-    rules_broken(alloc, stored, terms, item)
+    rules_broken(alloc, stored, terms, known, item)
 }
 
 // What an item breaks of the rules on what it tells of.
-fn rules_broken(alloc: Global, stored: &Stored, terms: &Terms, item: &Item) -> Result<bool, Memory>
-    requires { terms.now ≡ terms_told (map_of stored.now) }
-    ensures { IfOk result (λ b. b ≡ rules_broken stored.now item.now) }
+fn rules_broken(
+    alloc: Global,
+    stored: &Stored,
+    terms: &Terms,
+    known: &mut Option<Term>,
+    item: &Item,
+) -> Result<bool, Memory>
+    requires terms { terms.now ≡ terms_told (map_of stored.now) }
+    requires known { IsKnown (map_of stored.now) known.old }
+    ensures broken { IfOk result (λ b. b ≡ rules_broken stored.now item.now) }
+    ensures known { IsKnown (map_of stored.now) known.new }
 {
     match item {
         Item::Season {
@@ -183,7 +205,7 @@ fn rules_broken(alloc: Global, stored: &Stored, terms: &Terms, item: &Item) -> R
             bank,
             chip,
         } => team_breaks(
-            alloc, stored, *entry, *gameweek, picks, *captain, *vice, *bank, *chip,
+            alloc, stored, terms, *entry, *gameweek, picks, *captain, *vice, *bank, *chip,
         ),
         Item::Transfer {
             entry,
@@ -194,7 +216,7 @@ fn rules_broken(alloc: Global, stored: &Stored, terms: &Terms, item: &Item) -> R
             sold,
             bought,
         } => transfer_breaks(
-            alloc, stored, *entry, *gameweek, *number, *out, *into, *sold, *bought,
+            alloc, stored, terms, known, *entry, *gameweek, *number, *out, *into, *sold, *bought,
         ),
         Item::League {
             league,
