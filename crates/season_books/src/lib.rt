@@ -18,3 +18,5 @@ pub use laws::{judged_entries_are_restored, lawful_entries_are_restored};
 
 #[cfg(test)]
 mod entry_tests;
+#[cfg(test)]
+mod tests;
