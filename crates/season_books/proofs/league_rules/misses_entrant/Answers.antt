@@ -1,0 +1,9 @@
+use Rattle.std.proofs.Common.{◌∙◌, sym}
+use Rattle.fpl_base.specs.Keeping.{map_of}
+use Rattle.record_codec.specs.declared.slot.Slot.TheVariants as slot
+use Rattle.season_books.specs.SeasonRules.{misses}
+use Rattle.season_books.proofs.Loops.{any_entrant}
+use Rattle.season_books.proofs.league_rules.misses_entrant.Goals as goal
+
+pub returns : goal.returns
+returns c = c.has_lost_slot.ensures ∙ sym (any_entrant (λ e. misses (map_of c.args.stored.now) (slot.Entry e)) c.args.slots.now)

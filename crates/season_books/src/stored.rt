@@ -1,0 +1,135 @@
+// The records of a store, and what is found among them.
+ghost use Rattle.std.specs.Prelude.{◌≡◌, ◌<◌, ◌≤◌, ◌-◌, IfOk, IsTrue, drop, false, filter, length, take};
+ghost use Rattle.std.specs.List.{HoldsAt};
+ghost use Rattle.std.specs.Option.{option_map};
+ghost use Rattle.fpl_base.specs.Keeping.{KeysRise, is_same_key, map_of};
+ghost use Rattle.fpl_base.specs.Rows.{IsPlace};
+ghost use Rattle.season_books.specs.LeagueRules.{is_member_of, stands_before};
+ghost use Rattle.season_books.specs.Stored.{between, is_there, is_within, told};
+
+use fpl_base::{Bytes, LeagueId, Memory, RecordKey};
+use record_codec::{Item, Slot, decode};
+use std::alloc::Global;
+use std::marker::Model;
+
+/// Records in the order of their keys.
+#[derive(Drop)]
+pub struct Stored<'a> {
+    rows: &'a [(RecordKey, Bytes)],
+}
+
+impl<'a> Model for Stored<'a> {
+    ghost use Rattle.season_books.specs.Stored.{Rows};
+    ghost use Rattle.fpl_base.specs.Keeping.{KeysRise};
+
+    ghost Value = { Rows };
+
+    ghost view = { λ s. s.rows.now };
+
+    ghost invariant = { λ s. KeysRise s.rows.now };
+}
+
+// Whether the record of this key stands at the place.
+fn stands_at(rows: &[(RecordKey, Bytes)], at: usize, key: RecordKey) -> bool
+    ensures there { IsTrue result → (at < length rows.now) × HoldsAt (λ row. row.0 ≡ key) rows.now at }
+    ensures away { result ≡ false → at < length rows.now → HoldsAt (λ row. is_same_key row.0 key ≡ false) rows.now at }
+{
+    at < rows.len() && rows[at].0 == key
+}
+
+// The records from one place on and before another.
+fn cut(rows: &[(RecordKey, Bytes)], first: usize, end: usize) -> &[(RecordKey, Bytes)]
+    requires { end ≤ length rows.now }
+    ensures { result.now ≡ take (end - first) (drop first rows.now) }
+{
+    if first < end { &rows[first..end] } else { &[] }
+}
+
+// Whether a record stands before all members of a league.
+fn stands_before(key: &RecordKey, league: u32) -> bool
+    ensures { result ≡ stands_before league key.now }
+{
+    key.kind < 10 || key.kind == 10 && key.a < league
+}
+
+impl<'a> Stored<'a> {
+    /// These records.
+    pub fn new(rows: &'a [(RecordKey, Bytes)]) -> Self
+        requires { KeysRise rows.now }
+        ensures { result ≡ rows.now }
+    {
+        Stored { rows }
+    }
+
+    /// The records themselves.
+    pub fn as_slice(&self) -> &'a [(RecordKey, Bytes)]
+        ensures { result.now ≡ self.now }
+    {
+        self.rows
+    }
+
+    // Where the record of a key stands, or would stand.
+    fn place_of(&self, key: RecordKey) -> usize
+        ensures { IsPlace self.now key result }
+    {
+        self.rows.partition_point(|row| row.0.precedes(&key))
+    }
+
+    /// The body of the record of a key, if there is one.
+    pub fn body(&self, key: RecordKey) -> Option<&[u8]>
+        ensures { option_map (λ body. body.now) result ≡ map_of self.now key }
+    {
+        let place = self.place_of(key);
+        if stands_at(self.rows, place, key) {
+            Some(self.rows[place].1.as_slice())
+        } else {
+            None
+        }
+    }
+
+    /// Whether there is a record of a slot.
+    pub fn has(&self, slot: Slot) -> bool
+        ensures { result ≡ is_there (map_of self.now) slot }
+    {
+        self.body(slot.key()).is_some()
+    }
+
+    /// What the record of a slot tells, if there is one that is spelled as it has to be.
+    pub fn item(&self, alloc: Global, slot: Slot) -> Result<Option<Item>, Memory>
+        ensures { IfOk result (λ item. item ≡ told (map_of self.now) slot) }
+    {
+        match self.body(slot.key()) {
+            Some(body) => decode(alloc, slot.key(), body),
+            None => Ok(None),
+        }
+    }
+
+    /// The records that have a key not before `low`, and before `high`.
+    pub fn part(&self, low: RecordKey, high: RecordKey) -> &[(RecordKey, Bytes)]
+        ensures { result.now ≡ filter (λ row. is_within low high row.0) self.now }
+    {
+        let first = self.place_of(low);
+        let end = self.place_of(high);
+        cut(self.rows, first, end)
+    }
+
+    /// The records of the members of a league.
+    pub fn members(&self, league: LeagueId) -> &[(RecordKey, Bytes)]
+        ensures { result.now ≡ filter (is_member_of league) self.now }
+    {
+        let l = league.get();
+        let first = self.rows.partition_point(|row| stands_before(&row.0, l));
+        let end = self.rows.partition_point(|row| stands_before(&row.0, l)
+            || row.0.kind == 10 && row.0.a == l);
+        cut(self.rows, first, end)
+    }
+
+    /// How many records have a key not before `low`, and before `high`.
+    pub fn between(&self, low: RecordKey, high: RecordKey) -> usize
+        ensures { result ≡ between self.now low high }
+    {
+        let first = self.place_of(low);
+        let end = self.place_of(high);
+        if first < end { end - first } else { 0 }
+    }
+}
