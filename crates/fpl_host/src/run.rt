@@ -34,19 +34,27 @@ pub fn run<S: Source, W: Sink, C: Clock, K: Keeper, D: Doors, F: Shelf, L: Ledge
     steps: &mut Steps<L>,
 ) -> u8
     // Doors that tell their connections have as many as the words ask for, and doors that tell none never will.
-    requires { MatchOption (D.coming doors.old) ((d : D) → D.coming d ≡ None) (λ all. connections_in (ordered words.now) ≤ length all) }
+    requires { MatchOption (D.coming doors.old) ((d : D) → D.coming d ≡ None)
+        (λ all. connections_in (ordered words.now) ≤ length all) }
 
     // The command `score` ends as is due for the bytes that the input had.
-    ensures score { (profile : Profile) → ordered words.now ≡ Some (order.Score profile) → IfSome (S.left input.old) (λ bytes. Ends (IsScoreDue profile bytes) result (W.taken output.old) (W.taken output.new)) }
-    ensures score_end { (profile : Profile) → ordered words.now ≡ Some (order.Score profile) → result ≡ 0 → IsAtEnd (S.left input.new) }
-    ensures score_statuses { (profile : Profile) → ordered words.now ≡ Some (order.Score profile) → (result ≡ 0) ⊎ (result ≡ 1) ⊎ (result ≡ 3) ⊎ (result ≡ 6) ⊎ (result ≡ 10) ⊎ (result ≡ 11) }
-    ensures score_memory { (profile : Profile) → ordered words.now ≡ Some (order.Score profile) → result ≡ 6 → Keeps (W.taken output.old) (W.taken output.new) }
+    ensures score { (profile : Profile) → ordered words.now ≡ Some (order.Score profile)
+        → IfSome (S.left input.old) (λ bytes. Ends (IsScoreDue profile bytes) result (W.taken output.old) (W.taken output.new)) }
+    ensures score_end { (profile : Profile) → ordered words.now ≡ Some (order.Score profile)
+        → result ≡ 0 → IsAtEnd (S.left input.new) }
+    ensures score_statuses { (profile : Profile) → ordered words.now ≡ Some (order.Score profile)
+        → (result ≡ 0) ⊎ (result ≡ 1) ⊎ (result ≡ 3) ⊎ (result ≡ 6) ⊎ (result ≡ 10) ⊎ (result ≡ 11) }
+    ensures score_memory { (profile : Profile) → ordered words.now ≡ Some (order.Score profile)
+        → result ≡ 6 → Keeps (W.taken output.old) (W.taken output.new) }
 
     // The command `pipe` is one session of the host, over all that the input had.
-    ensures pipe { (key : List ℕ) → ordered words.now ≡ Some (order.Pipe key None) → Pipes key (S.left input.old) (S.left input.new) (C.left clock.old) (C.left clock.new) (K.faults keeper.old) (K.faults keeper.new) (W.taken output.old) (W.taken output.new) result }
+    ensures pipe { (key : List ℕ) → ordered words.now ≡ Some (order.Pipe key None)
+        → Pipes key (S.left input.old) (S.left input.new) (C.left clock.old) (C.left clock.new)
+        (K.faults keeper.old) (K.faults keeper.new) (W.taken output.old) (W.taken output.new) result }
 
     // The command `serve` is one session of the host with each connection, the books following on.
-    ensures serve { (key : List ℕ) (port connections : ℕ) → ordered words.now ≡ Some (order.Serve key port connections None) → Serves key connections
+    ensures serve { (key : List ℕ) (port connections : ℕ) → ordered words.now ≡ Some (order.Serve key port connections None)
+        → Serves key connections
         (record { coming = D.coming doors.old; given_back = D.given_back doors.old; faults = D.faults doors.old })
         (record { coming = D.coming doors.new; given_back = D.given_back doors.new; faults = D.faults doors.new })
         (C.left clock.old) (C.left clock.new) (K.faults keeper.old) (K.faults keeper.new) result }
