@@ -62,7 +62,6 @@ fn serve_all<C: Clock, K: Keeper, D: Doors, L: Ledger>(
         (record { host = host.old.host; moments = C.left clock.old; failed = K.faults keeper.old })
         (record { host = host.new.host; moments = C.left clock.new; failed = K.faults keeper.new }) }
     ensures statuses { (result ≡ 0) ⊎ (result ≡ 6) ⊎ (result ≡ 8) }
-    ensures statuses { (result ≡ 0) ⊎ (result ≡ 6) ⊎ (result ≡ 8) }
     ensures doors { result ≡ 8 → Rose (D.faults doors.old) (D.faults doors.new) }
 {
     for _ in 0..connections {
