@@ -1,8 +1,8 @@
 -- Connections that are served one after another.
-use Rattle.std.proofs.Common.{◌≡◌, ◌≢◌, ◌∙◌, ◌<◌, ◌≤◌, ◌-◌, ◌+◌, ℕ, zero, suc, List, [], ◌∷◌, length, Option, Some, None, IfSome, MatchOption, inl, inr, refl, sym, ap, subst, arith, length-drop}
+use Rattle.std.proofs.Common.{◌≡◌, ◌≢◌, ◌∙◌, ◌<◌, ◌≤◌, ℕ, zero, suc, List, [], ◌∷◌, length, Option, Some, None, IfSome, MatchOption, inl, inr, refl, sym, subst, arith, length-drop}
 use Rattle.std.specs.Prelude.{Ok, Err, drop}
 use Rattle.fpl_base.specs.Causes.{Rose}
-use Rattle.fpl_base.specs.Doors.{Ended, GivesBack, Opens}
+use Rattle.fpl_base.specs.Doors.{GivesBack, Opens}
 use Rattle.fpl_base.specs.Moments.{Moments}
 use Rattle.fpl_session.specs.Lifts.{Lifts, SessionsLift}
 use Rattle.fpl_session.specs.Replies.{Speaks}
@@ -13,7 +13,7 @@ use Rattle.season_host.specs.Standing.{empty_rows}
 use Rattle.fpl_host.specs.Kept.{Kept, Leads, StandsAs}
 use Rattle.fpl_host.specs.Pipe.{opened}
 use Rattle.fpl_host.specs.Replying.{IsReply, Served}
-use Rattle.fpl_host.specs.Serve.{DoorState, Fails, IsAskedOnce, IsVisit, OneFewer, Serves, ServesOn}
+use Rattle.fpl_host.specs.Serve.{DoorState, Fails, IsAskedOnce, OneFewer, Serves, ServesOn}
 use Rattle.fpl_host.proofs.KeptLemmas.{leads_same, left_is, opened_stands}
 
 -- ---- one connection

@@ -1,6 +1,4 @@
 use Rattle.std.proofs.Common.{◌≡◌, ◌≤◌, ◌-◌, MatchOption, None, length}
-use Rattle.fpl_host.specs.Kept.{Kept}
-use Rattle.fpl_host.specs.Serve.{DoorState}
 use Rattle.fpl_host.proofs.ServeLemmas.{Underway}
 use Rattle.fpl_host.proofs.serve.serve_all.Given as goal
 
