@@ -4,5 +4,6 @@ pub mod KeptLemmas
 pub mod OnceFacts
 pub mod PipeLemmas
 pub mod RunLemmas
+pub mod ServeLemmas
 pub mod Taken
-pub mod Words
+pub mod WordLemmas

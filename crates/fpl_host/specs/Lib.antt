@@ -6,5 +6,6 @@ pub mod Once
 pub mod Pipe
 pub mod Replying
 pub mod Run
+pub mod Serve
 pub mod Words
 pub mod Isolation

@@ -1,7 +1,6 @@
 -- The command that runs a session of the host.
-use Rattle.std.specs.Prelude.{◌≡◌, ℕ, List, [], ◌∷◌, Option, IfSome, IsTrue, codes}
+use Rattle.std.specs.Prelude.{◌≡◌, ℕ, List, Option, IfSome}
 use Rattle.fpl_base.specs.Moments.{Moments}
-use Rattle.fpl_base.specs.Texts.{is_key}
 use Rattle.fpl_session.specs.Replies.{Speaks}
 use Rattle.fpl_session.specs.Sessions.{EndsAs, SessionOf, SessionOver}
 use Rattle.fpl_session.specs.declared.ending.Ending.{Ending}
@@ -20,14 +19,6 @@ status_of Memory = 6
 status_of Cut = 7
 status_of Long = 10
 status_of (Refused k) = 12
-
--- the words of the command that runs a session for the operator with this key
-abbrev pub IsPipe : List (List ℕ) → List ℕ → Type 0
-IsPipe words key = (words ≡ codes "pipe" ∷ codes "--key" ∷ key ∷ []) × IsTrue (is_key key)
-
--- the words are those of some such command
-abbrev pub IsSomePipe : List (List ℕ) → Type 0
-IsSomePipe words = (key : List ℕ) × IsPipe words key
 
 -- where a session begins: a host of this operator without a season, all the moments of the clock, and how often the
 -- keeper has failed

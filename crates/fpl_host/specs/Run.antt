@@ -4,19 +4,9 @@ use Rattle.std.specs.Fmt.{decimal}
 use Rattle.std.specs.Io.KnownBytes.{Appends, Keeps}
 use Rattle.fpl_base.specs.Causes.{AppendsFront}
 use Rattle.fpl_base.specs.declared.kinds.Profile.{Profile}
-use Rattle.fpl_base.specs.declared.kinds.Profile.TheVariants as profile
 use Rattle.score_sheet.specs.Sheets.{Scores, HasWrongRow}
 
--- the words of the command that scores a match by the rules of a profile: A where none is named, or by its number
-abbrev pub IsScore : List (List ℕ) → Profile → Type 0
-IsScore words profile.A = (words ≡ codes "score" ∷ []) ⊎ (words ≡ codes "score" ∷ codes "--profile" ∷ codes "1" ∷ [])
-IsScore words profile.B = words ≡ codes "score" ∷ codes "--profile" ∷ codes "2" ∷ []
-
--- the words are those of some such command
-abbrev pub IsSomeScore : List (List ℕ) → Type 0
-IsSomeScore words = (profile : Profile) × IsScore words profile
-
--- the text for words that are no command
+-- the text for words that are not read
 abbrev pub not_read_text : List ℕ
 not_read_text = codes "words not read" ++ 10 ∷ []
 
@@ -24,7 +14,7 @@ not_read_text = codes "words not read" ++ 10 ∷ []
 abbrev pub row_text : ℕ → List ℕ
 row_text n = codes "row " ++ (decimal n ++ 10 ∷ [])
 
--- what is due for words that are no command: a line that says so, and status 2
+-- what is due for words that are not read: a line that says so, and status 2
 abbrev pub IsNotReadDue : ℕ → List ℕ → Type 0
 IsNotReadDue status text = (status ≡ 2) × (text ≡ not_read_text)
 

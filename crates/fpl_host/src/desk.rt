@@ -7,11 +7,12 @@ ghost use Rattle.fpl_session.specs.Lifts.{Lifts};
 ghost use Rattle.fpl_session.specs.Replies.{answer_in};
 ghost use Rattle.fpl_bodies.specs.Requests.{request_of};
 ghost use Rattle.season_book.specs.Hosts.{IsRequest};
+ghost use Rattle.season_host.specs.Standing.{empty_rows};
 ghost use Rattle.fpl_host.specs.Desks.{Asks};
 ghost use Rattle.fpl_host.specs.Kept.{Kept, Leads, StandsAs, asked_in, caller_in};
 ghost use Rattle.fpl_host.specs.Replying.{IsReply, Judges, RepliesTo, Served, asked_by, reply_of, unless_malformed};
 
-use fpl_base::{Caller, Clock, Keeper, Memory, Steps};
+use fpl_base::{Caller, Clock, Keeper, Key, Memory, Steps};
 use fpl_http::{Message, Reply};
 use fpl_json::{
     Found, ReadFault, Route, Routes, Scratch, answer_text, caller_text, key_text, malformed_text,
@@ -49,6 +50,29 @@ impl Desk {
         Ok(Desk {
             routes: Routes::new(alloc)?,
         })
+    }
+}
+
+/// A desk, and a host without a season, with nothing kept. They take memory.
+pub fn opened<K: Keeper, L: Ledger>(
+    alloc: Global,
+    key: &Key,
+    keeper: &mut K,
+    steps: &mut Steps<L>,
+) -> Result<(Desk, HostWithScratch), Memory>
+    ensures opened { IfOk result (λ opened. opened.1.host ≡ empty_rows key.now) }
+    ensures keeper { keeper.new ≡ keeper.old }
+{
+    let desk = Desk::new(alloc)?;
+    match Host::open(alloc, keeper, key, steps) {
+        Ok(host) => Ok((
+            desk,
+            HostWithScratch {
+                host,
+                scratch: Scratch::new(alloc),
+            },
+        )),
+        Err(_) => Err(Memory),
     }
 }
 

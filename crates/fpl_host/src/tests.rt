@@ -1,9 +1,12 @@
-ghost use Rattle.std.specs.Prelude.{◌≡◌, ◌<◌};
+ghost use Rattle.std.specs.Prelude.{◌≡◌, ◌<◌, ◌≤◌, length};
 
 use crate::run::run;
+use crate::serve::serve;
 use fpl_base::{
-    FaultySink, FaultySource, Memory, MemoryClock, Moment, Plan, Quiet, Sink, Source, Steps, Text,
+    FaultySink, FaultySource, Key, Memory, MemoryClock, Moment, Plan, Quiet, Sink, Source, Steps,
+    Text,
 };
+use fpl_doors::{FaultyDoors, MemoryDoors};
 use std::alloc::Global;
 use std::marker::Brand;
 use std::sync::ledger::{Blank, Ledger};
@@ -97,6 +100,48 @@ fn faults_come_in_mid_stream(rt: HostRuntime) -> Result<(), Fail> {
         (pipe, THREE, (0, 0, 122), ANSWERS, (3, 122)),
     ] {
         assert!(rt; ends(&rt, words, bytes, faults, text, wanted)?);
+    }
+    Ok(())
+}
+
+fn serving<L: Ledger>(alloc: Global, key: &Key, doors: &mut FaultyDoors<'_>, blank: Blank) -> u8
+    requires coming { 2 ≤ length doors.old.coming }
+    requires name { blank.name ≡ L.name }
+    requires parts { blank.parts ≡ L.parts }
+    requires some { 0 < blank.parts }
+{
+    let mut steps: Steps<L> = Steps::open(blank);
+    let mut clock = MemoryClock::new(Moment::new(0).unwrap(), &[]);
+    serve(alloc, key, 2, &mut clock, &mut Quiet, doors, &mut steps)
+}
+
+// Two connections with three messages each, of doors whose call of this number fails (none for 0), and whose sinks have
+// this much room: the exit status, and how many of the connections were given back with all their answers.
+fn served(rt: &HostRuntime, failing: u64, room: usize) -> Result<(u8, u8), Fail> {
+    let alloc = rt.alloc();
+    let key = Key::new(alloc, b"operator1")?.ok_or("a key")?;
+    let doors = MemoryDoors::new(alloc, &[THREE, THREE], 7, room)?;
+    let mut doors = FaultyDoors::new(doors, plan_of(alloc, failing)?);
+    let status = serving::<Brand>(alloc, &key, &mut doors, Blank::new(1));
+    let mut answered = 0;
+    for _ in 0..2 {
+        if let Some((_, sink)) = doors.take_last() {
+            answered += u8::from(sink.bytes() == ANSWERS);
+        }
+    }
+    Ok((status, answered))
+}
+
+// A session that fails ends its connection alone, and doors that fail end the service.
+#[test]
+fn connections_are_served_until_the_doors_fail(rt: HostRuntime) -> Result<(), Fail> {
+    for (failing, room, wanted) in [
+        (0, 306, (0, 2)),
+        (0, 305, (0, 0)),
+        (1, 306, (8, 0)),
+        (2, 306, (8, 1)),
+    ] {
+        assert!(rt; served(&rt, failing, room)? == wanted);
     }
     Ok(())
 }

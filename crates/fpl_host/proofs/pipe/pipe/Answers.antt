@@ -17,7 +17,7 @@ returns-in-Ok-clause-session g c =
     let last : Kept = record { host = c.session.new.host.host; moments = told; failed = fails } in
     subst (λ failed. Pipes c.args.key.now left later moments told failed fails before after c.ended.result) (ap g.K.Keeper.faults c.opened.ensures.keeper)
     (one_session c.args.key.now left later first last before after c.ended.result c.session.result c.sessions_lift.ensures.sessions
-    c.in-Ok.ensures.opened c.ended.ensures c.session.ensures.session c.session.ensures.exact)
+    c.in-Ok.ensures.opened c.ended.ensures.status c.session.ensures.session c.session.ensures.exact)
 
 pub returns-in-Err-clause-session : goal.returns-in-Err-clause-session
 returns-in-Err-clause-session g c =

@@ -1,0 +1,114 @@
+// The command that serves connections, one after another.
+ghost use Rattle.std.specs.Prelude.{◌≡◌, ◌≤◌, ◌<◌, ◌⊎◌, IfSome, MatchOption, None, OnErr, OnOk, length};
+ghost use Rattle.fpl_base.specs.Causes.{Rose};
+ghost use Rattle.fpl_host.specs.Kept.{Leads};
+ghost use Rattle.fpl_host.specs.Serve.{IsAskedOnce, OneFewer, Serves, ServesOn};
+
+use crate::desk::{Desk, HostWithScratch, opened};
+use crate::status::{DONE, DOORS, MEMORY};
+use fpl_base::{Clock, Doors, Failed, Keeper, Key, Memory, Steps};
+use fpl_session::{Ending, session, sessions_lift};
+use std::alloc::Global;
+use std::sync::ledger::Ledger;
+
+/// Serves so many connections for the operator with this key, and answers the exit status.
+pub fn serve<C: Clock, K: Keeper, D: Doors, L: Ledger>(
+    alloc: Global,
+    key: &Key,
+    connections: u16,
+    clock: &mut C,
+    keeper: &mut K,
+    doors: &mut D,
+    steps: &mut Steps<L>,
+) -> u8
+    requires { MatchOption (D.coming doors.old) ((d : D) → D.coming d ≡ None) (λ all. connections ≤ length all) }
+    ensures served { Serves key.now connections
+        (record { coming = D.coming doors.old; given_back = D.given_back doors.old; faults = D.faults doors.old })
+        (record { coming = D.coming doors.new; given_back = D.given_back doors.new; faults = D.faults doors.new })
+        (C.left clock.old) (C.left clock.new) (K.faults keeper.old) (K.faults keeper.new) result }
+    ensures statuses { (result ≡ 0) ⊎ (result ≡ 6) ⊎ (result ≡ 8) }
+    ensures doors { result ≡ 8 → Rose (D.faults doors.old) (D.faults doors.new) }
+{
+    match opened(alloc, key, keeper, steps) {
+        Ok((desk, mut host)) => serve_all(
+            alloc,
+            &desk,
+            &mut host,
+            connections,
+            clock,
+            keeper,
+            doors,
+            steps,
+        ),
+        Err(Memory) => MEMORY,
+    }
+}
+
+// Serves so many connections, one after another.
+fn serve_all<C: Clock, K: Keeper, D: Doors, L: Ledger>(
+    alloc: Global,
+    desk: &Desk,
+    host: &mut HostWithScratch,
+    connections: u16,
+    clock: &mut C,
+    keeper: &mut K,
+    doors: &mut D,
+    steps: &mut Steps<L>,
+) -> u8
+    requires { MatchOption (D.coming doors.old) ((d : D) → D.coming d ≡ None) (λ all. connections ≤ length all) }
+    ensures served { Leads (λ served behind. ServesOn connections
+        (record { coming = D.coming doors.old; given_back = D.given_back doors.old; faults = D.faults doors.old })
+        (record { coming = D.coming doors.new; given_back = D.given_back doors.new; faults = D.faults doors.new }) served behind result)
+        (record { host = host.old.host; moments = C.left clock.old; failed = K.faults keeper.old })
+        (record { host = host.new.host; moments = C.left clock.new; failed = K.faults keeper.new }) }
+    ensures statuses { (result ≡ 0) ⊎ (result ≡ 6) ⊎ (result ≡ 8) }
+    ensures doors { result ≡ 8 → Rose (D.faults doors.old) (D.faults doors.new) }
+{
+    for _ in 0..connections {
+        match serve_one(alloc, desk, host, clock, keeper, doors, steps) {
+            Ok(ending) => {
+                if ending == Ending::Memory {
+                    return MEMORY;
+                }
+            }
+            Err(Failed) => return DOORS,
+        }
+    }
+    DONE
+}
+
+// Serves the next connection, and gives it back.
+fn serve_one<C: Clock, K: Keeper, D: Doors, L: Ledger>(
+    alloc: Global,
+    desk: &Desk,
+    host: &mut HostWithScratch,
+    clock: &mut C,
+    keeper: &mut K,
+    doors: &mut D,
+    steps: &mut Steps<L>,
+) -> Result<Ending, Failed>
+    requires { IfSome (D.coming doors.old) (λ all. 0 < length all) }
+    ensures served { Leads (λ served behind. IsAskedOnce
+        (record { coming = D.coming doors.old; given_back = D.given_back doors.old; faults = D.faults doors.old })
+        (record { coming = D.coming doors.new; given_back = D.given_back doors.new; faults = D.faults doors.new }) served behind result)
+        (record { host = host.old.host; moments = C.left clock.old; failed = K.faults keeper.old })
+        (record { host = host.new.host; moments = C.left clock.new; failed = K.faults keeper.new }) }
+    ensures coming { OnOk result (OneFewer (D.coming doors.old) (D.coming doors.new)) }
+    ensures kept { OnOk result (D.faults doors.new ≡ D.faults doors.old) }
+    ensures cause { OnErr result (Rose (D.faults doors.old) (D.faults doors.new)) }
+{
+    sessions_lift::<Desk>();
+    let (mut source, mut sink) = doors.next()?;
+    let ending = session(
+        alloc,
+        desk,
+        host,
+        keeper,
+        &mut source,
+        &mut sink,
+        clock,
+        steps,
+    );
+    doors.give_back(source, sink);
+    Ok(ending)
+}
