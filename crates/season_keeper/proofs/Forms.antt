@@ -187,9 +187,9 @@ pub line_there : (first : Bool) → slice_get (schema_of (two first)).tables (li
 line_there false = refl
 line_there true = refl
 
-pub free_of : (first : Bool) (tree : ℕ) (keys : Keys) (gone news : List Row) → works (schema_of (two first)) keys 0 tree gone news ≡ []
-free_of false tree keys gone news = refl
-free_of true tree keys gone news = refl
+pub free_of : (first : Bool) (at : ℕ) (keys : Keys) (gone news : List Row) → works (schema_of (two first)) keys 0 at gone news ≡ []
+free_of false at keys gone news = refl
+free_of true at keys gone news = refl
 
 pub record_bare : (first : Bool) (trees : Trees) → overlay trees [] (record_tree first) ≡ trees (record_tree first)
 record_bare false trees = refl
