@@ -13,9 +13,10 @@ returns-then-branch c =
     ∙ sym (sym (ap (λ all. option_map (λ row. row.0) (find (is_wrong c.args.stored.now) all)) c.as_slice-row-items.ensures) ∙ ap (option_map (λ row. row.0)) (found_first (is_wrong c.args.stored.now) rows c.loop-row.row-index row c.loop-row-test.true c.loop-row.invariant.0 wrong))
 
 pub loop-row-preserved : goal.loop-row-preserved
-loop-row-preserved c =
-    (fail_more (is_wrong c.args.stored.now) c.as_slice-row-items.result.now c.loop-row.row-index c.row-item.result c.loop-row-test.true c.loop-row.invariant.0 c.row-item.is (sym c.in_ok-is_wrong.ensures.wrong ∙ c.if-branch.false),
-    c.is_wrong.ensures.known)
+loop-row-preserved c = (
+  fail_more (is_wrong c.args.stored.now) c.as_slice-row-items.result.now c.loop-row.row-index c.row-item.result c.loop-row-test.true c.loop-row.invariant.0 c.row-item.is (sym c.in_ok-is_wrong.ensures.wrong ∙ c.if-branch.false),
+  c.is_wrong.ensures.known,
+)
 
 pub returns : goal.returns
 returns c =
