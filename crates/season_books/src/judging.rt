@@ -22,7 +22,7 @@ use std::alloc::Global;
 
 /// The key of the first record that is not lawful; `Ok(None)` exactly where all are. First each record is looked at alone:
 /// whether it is spelled as an item whose values are in their ranges. Where all are, each is held against the rules of a
-/// season. `docs/FORMATS.md` lists them under "Records".
+/// season, which `specs/Lawful.antt` lists by what a record tells of.
 pub fn judge(alloc: Global, rows: &[(RecordKey, Bytes)]) -> Result<Option<RecordKey>, Memory>
     requires { KeysRise rows.now }
     ensures { IfOk result (λ key. key ≡ judged rows.now) }

@@ -61,26 +61,29 @@ fn put_team(alloc: Global, ops: &mut Vec<Op>, captain: u8) -> Result<(), Fail> {
     put(ops, (7, 1, 1, 0), team)
 }
 
-// A store with a record of each kind but a transfer, all lawful: a fixture in the locked gameweek, finished, with a line;
-// entry 1, its team, its league and its cup against a bye; a last command of the operator, and one of entry 1.
+// A store with a record of each kind but a transfer, all lawful: fixture 1 in the locked gameweek, finished, with a line,
+// and fixture 2 in an open one; entry 1, its team, its league and its cup against a bye, and entry 2, which is not
+// registered; a last command of the operator, and one of entry 1.
 fn put_store(alloc: Global, ops: &mut Vec<Op>) -> Result<(), Fail> {
     put(ops, (1, 0, 0, 0), body_of(alloc, &SEASON)?)?;
     put_players(alloc, ops)?;
     let fixture = [1, 2, 1, 0, 0, 0, 0, 0, 0, 0x3c, 0x28, 1];
     put(ops, (4, 1, 0, 0), body_of(alloc, &fixture)?)?;
+    put(
+        ops,
+        (4, 2, 0, 0),
+        body_of(alloc, b"\x01\x02\x02\0\0\0\0\0\0\x75\x30\0")?,
+    )?;
     put(ops, (5, 1, 1, 0), body_of(alloc, &[0; 56])?)?;
     put(ops, (6, 1, 0, 0), body_of(alloc, b"\x01\x08entrykey\x01E")?)?;
+    put(ops, (6, 2, 0, 0), body_of(alloc, b"\0\x08otherkey\x01E")?)?;
     put_team(alloc, ops, 2)?;
     let league = body_of(alloc, b"\x01\x01\0\0\0\x01\0\x04code\x01L")?;
     put(ops, (9, 1, 0, 0), league)?;
     put(ops, (10, 1, 1, 0), Bytes::new(alloc))?;
     let cup = [2, 0, 2, 0, 0, 0, 1, 0, 0, 0, 0, 0];
     put(ops, (11, 1, 0, 0), body_of(alloc, &cup)?)?;
-    let gone = body_of(
-        alloc,
-        b"\0\0\0\0\0\0\0\x05\0\xc8\0\0\0\0\x06\0\0\0\0\0\0\0\x01\x01",
-    )?;
-    put(ops, (12, 0, 0, 0), gone)?;
+    put(ops, (12, 0, 0, 0), body_of(alloc, GONE)?)?;
     let created = body_of(
         alloc,
         b"\0\0\0\0\0\0\0\x02\0\xc9\0\0\0\x01\x13\x01\0\x01L\0\x04code\0\0\0\0\0\0\0\x01",
@@ -88,12 +91,13 @@ fn put_store(alloc: Global, ops: &mut Vec<Op>) -> Result<(), Fail> {
     put(ops, (12, 1, 0, 0), created)
 }
 
-// The key that is told of a store: the one above or an empty one, with these records put and that one taken away.
+// The key that is told of a store: the one above or an empty one, with a record put and one taken away.
 fn told(
     alloc: Global,
     whole: bool,
     captain: u8,
-    puts: &[((u8, u32, u32, u32), &[u8])],
+    key: (u8, u32, u32, u32),
+    body: &[u8],
     gone: (u8, u32, u32, u32),
 ) -> Result<(u8, u32, u32, u32), Fail> {
     let mut ops = Vec::new(alloc);
@@ -101,9 +105,7 @@ fn told(
         put_store(alloc, &mut ops)?;
         put_team(alloc, &mut ops, captain)?;
     }
-    for (key, body) in puts {
-        put(&mut ops, *key, body_of(alloc, body)?)?;
-    }
+    put(&mut ops, key, body_of(alloc, body)?)?;
     ops.push(Op::Delete(key_of(gone)))?;
     let mut keeper = MemoryKeeper::new(alloc);
     keeper.commit(alloc, ops.as_slice()).ok().ok_or("a commit")?;
@@ -116,24 +118,29 @@ fn told(
 
 const NONE: (u8, u32, u32, u32) = (0, 0, 0, 0);
 
+// A player is gone: the operator's command 5.
+const GONE: &[u8] = b"\0\0\0\0\0\0\0\x05\0\xc8\0\0\0\0\x06\0\0\0\0\0\0\0\x01\x01";
+
 #[test]
 fn spelling_and_names(rt: HostRuntime) -> Result<(), Fail> {
-    for (whole, captain, puts, gone, wanted) in [
-        // A store without records, and one with a record of each kind.
-        (false, 2, &[][..], NONE, NONE),
-        (true, 2, &[][..], NONE, NONE),
+    for (whole, captain, key, body, gone, wanted) in [
+        // No record at all, and one of each kind.
+        (false, 2, (1, 0, 0, 0), &b""[..], (1, 0, 0, 0), NONE),
+        (true, 2, (2, 2, 0, 0), &b"\x01E"[..], NONE, NONE),
         // A season of 11 bytes, and one of one gameweek of which two are in the first half.
         (
             true,
             2,
-            &[((1, 0, 0, 0), &SEASON[..11])][..],
+            (1, 0, 0, 0),
+            &b"\x01\x03\x01\x01\0\0\0\0\0\0\x27"[..],
             NONE,
             (1, 0, 0, 0),
         ),
         (
             false,
             2,
-            &[((1, 0, 0, 0), &[1, 1, 2, 0, 0, 0, 0, 0, 0, 0, 0, 9][..])][..],
+            (1, 0, 0, 0),
+            &b"\x01\x01\x02\0\0\0\0\0\0\0\0\x09"[..],
             NONE,
             (1, 0, 0, 0),
         ),
@@ -141,145 +148,111 @@ fn spelling_and_names(rt: HostRuntime) -> Result<(), Fail> {
         (
             false,
             2,
-            &[((3, 7, 0, 0), &[1, 1, 0, 50, 0, 1, b'P'][..])][..],
+            (3, 7, 0, 0),
+            &b"\x01\x01\0\x32\0\x01P"[..],
             NONE,
             (3, 7, 0, 0),
         ),
         (
             true,
             2,
-            &[((3, 7, 0, 0), &[1, 3, 0, 50, 0, 1, b'P'][..])][..],
+            (3, 7, 0, 0),
+            &b"\x01\x03\0\x32\0\x01P"[..],
             NONE,
             (3, 7, 0, 0),
         ),
         // The captain is the vice-captain.
-        (true, 4, &[][..], NONE, (7, 1, 1, 0)),
-        // A member with a body, a status of no answer, a key of no kind; the record that is not spelled comes first.
+        (true, 4, (2, 2, 0, 0), &b"\x01E"[..], NONE, (7, 1, 1, 0)),
+        // A member with a body, a status of no answer, a key of no kind.
+        (true, 2, (10, 1, 1, 0), &b"\0"[..], NONE, (10, 1, 1, 0)),
         (
             true,
             2,
-            &[((10, 1, 1, 0), &[0][..])][..],
-            NONE,
-            (10, 1, 1, 0),
-        ),
-        (
-            true,
-            2,
-            &[(
-                (12, 0, 0, 0),
-                &b"\0\0\0\0\0\0\0\x05\x01\x99\0\0\0\0\x06\0\0\0\0\0\0\0\x01\x01"[..],
-            )][..],
+            (12, 0, 0, 0),
+            &b"\0\0\0\0\0\0\0\x05\x01\x99\0\0\0\0\x06\0\0\0\0\0\0\0\x01\x01"[..],
             NONE,
             (12, 0, 0, 0),
         ),
+        (true, 2, (14, 0, 0, 0), &b""[..], NONE, (14, 0, 0, 0)),
+        // A record that is not spelled comes before one that breaks a rule.
         (
             true,
             2,
-            &[((14, 0, 0, 0), &[][..])][..],
-            NONE,
             (14, 0, 0, 0),
-        ),
-        (
-            true,
-            2,
-            &[((14, 0, 0, 0), &[][..])][..],
+            &b""[..],
             (2, 1, 0, 0),
             (14, 0, 0, 0),
         ),
     ] {
-        assert_eq!(rt; told(rt.alloc(), whole, captain, puts, gone)?, wanted);
+        assert_eq!(rt; told(rt.alloc(), whole, captain, key, body, gone)?, wanted);
     }
     Ok(())
 }
 
-// A fixture of clubs 1 and 2 without a mark, with its gameweek and the last two bytes of its kick-off.
-fn fixture(gameweek: u8, high: u8, low: u8, finished: u8) -> [u8; 12] {
-    [1, 2, gameweek, 0, 0, 0, 0, 0, 0, high, low, finished]
-}
-
 #[test]
 fn rules_of_a_season(rt: HostRuntime) -> Result<(), Fail> {
-    for (puts, gone, wanted) in [
-        // A kick-off that is a second too early; a line and a mark in an open gameweek.
+    for (key, body, gone, wanted) in [
+        // A kick-off that is a second too early; a mark in an open gameweek.
         (
-            &[((4, 2, 0, 0), &fixture(1, 0x3c, 0x27, 0)[..])][..],
+            (4, 2, 0, 0),
+            &b"\x01\x02\x02\0\0\0\0\0\0\x63\x37\0"[..],
             NONE,
             (4, 2, 0, 0),
         ),
         (
-            &[
-                ((4, 2, 0, 0), &fixture(2, 0x75, 0x30, 0)[..]),
-                ((5, 2, 1, 0), &[0; 56][..]),
-            ][..],
-            NONE,
-            (5, 2, 1, 0),
-        ),
-        (
-            &[((4, 2, 0, 0), &fixture(2, 0x75, 0x30, 1)[..])][..],
+            (4, 2, 0, 0),
+            &b"\x01\x02\x02\0\0\0\0\0\0\x75\x30\x01"[..],
             NONE,
             (4, 2, 0, 0),
         ),
-        // Nobody at place 2; a key that is another's; a member who is not registered; a creator who is no member.
+        // Nobody at place 3; a key that is another's; a member who is not registered; a creator who is no member.
         (
-            &[((6, 3, 0, 0), &b"\0\x08otherkey\x01E"[..])][..],
+            (6, 4, 0, 0),
+            &b"\0\x08thirdkey\x01E"[..],
             NONE,
-            (6, 3, 0, 0),
+            (6, 4, 0, 0),
         ),
         (
-            &[((6, 2, 0, 0), &b"\0\x08entrykey\x01E"[..])][..],
+            (6, 2, 0, 0),
+            &b"\0\x08entrykey\x01E"[..],
             NONE,
             (6, 2, 0, 0),
         ),
+        ((10, 1, 2, 0), &b""[..], NONE, (9, 1, 0, 0)),
+        ((2, 2, 0, 0), &b"\x01E"[..], (10, 1, 1, 0), (9, 1, 0, 0)),
+        // A classic league that was drawn; a cup of three slots, and one of two byes.
         (
-            &[
-                ((6, 2, 0, 0), &b"\0\x08otherkey\x01E"[..]),
-                ((10, 1, 2, 0), &[][..]),
-            ][..],
-            NONE,
             (9, 1, 0, 0),
-        ),
-        (&[][..], (10, 1, 1, 0), (9, 1, 0, 0)),
-        // A classic league that was drawn; a cup of three slots; two byes in one tie.
-        (
-            &[(
-                (9, 1, 0, 0),
-                &b"\x01\x01\0\0\0\x01\x01\0\0\0\x01\x04code\x01L"[..],
-            )][..],
+            &b"\x01\x01\0\0\0\x01\x01\0\0\0\x01\x04code\x01L"[..],
             NONE,
             (9, 1, 0, 0),
         ),
         (
-            &[(
-                (11, 1, 0, 0),
-                &[2, 0, 3, 0, 0, 0, 1, 0, 0, 0, 0, 0, 0, 0, 0, 0, 0][..],
-            )][..],
+            (11, 1, 0, 0),
+            &b"\x02\0\x03\0\0\0\x01\0\0\0\0\0\0\0\0\0\0"[..],
             NONE,
             (11, 1, 0, 0),
         ),
         (
-            &[((11, 1, 0, 0), &[2, 0, 2, 0, 0, 0, 0, 0, 0, 0, 0, 0][..])][..],
+            (11, 1, 0, 0),
+            &b"\x02\0\x02\0\0\0\0\0\0\0\0\0"[..],
             NONE,
             (11, 1, 0, 0),
         ),
         // A caller who is not there, and a league that the last command did not make.
+        ((12, 3, 0, 0), GONE, NONE, (12, 3, 0, 0)),
         (
-            &[(
-                (12, 2, 0, 0),
-                &b"\0\0\0\0\0\0\0\x05\0\xc8\0\0\0\0\x06\0\0\0\0\0\0\0\x01\x01"[..],
-            )][..],
-            NONE,
-            (12, 2, 0, 0),
-        ),
-        (
-            &[(
-                (12, 1, 0, 0),
-                &b"\0\0\0\0\0\0\0\x02\0\xc9\0\0\0\x02\x13\x01\0\x01L\0\x04code\0\0\0\0\0\0\0\x01"[..],
-            )][..],
+            (12, 1, 0, 0),
+            &b"\0\0\0\0\0\0\0\x02\0\xc9\0\0\0\x02\x13\x01\0\x01L\0\x04code\0\0\0\0\0\0\0\x01"[..],
             NONE,
             (12, 1, 0, 0),
         ),
     ] {
-        assert_eq!(rt; told(rt.alloc(), true, 2, puts, gone)?, wanted);
+        assert_eq!(rt; told(rt.alloc(), true, 2, key, body, gone)?, wanted);
     }
+    assert_eq!(rt;
+        told(rt.alloc(), true, 2, (5, 2, 1, 0), &[0; 56], NONE)?,
+        (5, 2, 1, 0)
+    );
     Ok(())
 }
