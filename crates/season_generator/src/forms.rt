@@ -5,7 +5,7 @@ ghost use Rattle.season_generator.specs.Made.{digit, key_text};
 use fpl_base::{Code, Key, Memory, Name};
 use std::alloc::Global;
 
-// A letter and a number.
+// A letter and a number, which are always a name.
 pub(crate) fn name_of(alloc: Global, letter: &str, number: u32) -> Result<Name, Memory>
     ensures { IfOk result (λ name. name ≡ letter.now ++ decimal number) }
 {
@@ -16,7 +16,7 @@ pub(crate) fn name_of(alloc: Global, letter: &str, number: u32) -> Result<Name, 
     }
 }
 
-// `entrykey` and the entry in four digits.
+// `entrykey` and the entry in four digits, which are always a key.
 pub(crate) fn key_of(alloc: Global, entry: u32) -> Result<Key, Memory>
     ensures { IfOk result (λ key. key ≡ key_text entry) }
 {
@@ -61,6 +61,6 @@ pub(crate) fn league_name(alloc: Global) -> Result<Name, Memory>
 {
     match Name::new(alloc, b"All")? {
         Some(name) => Ok(name),
-        None => unreachable!(),
+        None => Err(Memory),
     }
 }
