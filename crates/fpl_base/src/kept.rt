@@ -165,6 +165,8 @@ impl Keeper for FaultyKeeper {
         ensures kept { OnErr result (⊤ → ⊤ → (m : Map) → m ≡ map_of self.old.records → m ≡ map_of self.new.records) }
         ensures stops { ⊤ → (m : Map) → m ≡ map_of self.old.records → (x : Map) → x ≡ map_of self.new.records → x ≡ map_of self.old.records }
         ensures told { ⊤ → ⊤ }
+        ensures served { ⊤ → ⊤ → ⊤ }
+        ensures serves { OnOk result (⊤ → ⊤) }
         ensures cause { HasKeeperCause self.old.plan.faults self.new.plan.faults result }
         ensures plan { self.new.plan ≡ after_call self.old.plan }
         ensures fails { (result ≡ Err fault.Failed) ↔ IsTrue (fails_next self.old.plan) }
@@ -183,6 +185,8 @@ impl Keeper for FaultyKeeper {
         ensures kept { result ≡ Err fault.Memory → ⊤ → ⊤ → (m : Map) → m ≡ map_of self.old.records → m ≡ map_of self.new.records }
         ensures stops { ⊤ → (m : Map) → m ≡ map_of self.old.records → (x : Map) → x ≡ map_of self.new.records → (x ≡ map_of self.old.records) ⊎ (x ≡ applied m ops.now) }
         ensures told { ⊤ → ⊤ }
+        ensures served { ⊤ → ⊤ → ⊤ }
+        ensures serves { OnOk result (⊤ → ⊤) }
         ensures cause { HasKeeperCause self.old.plan.faults self.new.plan.faults result }
         ensures plan { self.new.plan ≡ after_call self.old.plan }
         ensures fails { (result ≡ Err fault.Failed) ↔ IsTrue (fails_next self.old.plan) }

@@ -83,7 +83,7 @@ pub trait Keeper {
     /// written, and no answer shows it.
     ghost tells: { Self → Type 0 };
 
-    /// It can still answer `Ok`. That too may cease at any call.
+    /// It can still answer `Ok`. That too may cease at any call, and does not come back: an `Ok` shows that it did not.
     ghost serves: { Self → Type 0 };
 
     /// It holds this map. One that holds none does not tell what it keeps.
@@ -107,6 +107,8 @@ pub trait Keeper {
         ensures kept { OnErr result (tells self.new → serves self.new → (m : Map) → holds self.old m → holds self.new m) }
         ensures stops { tells self.new → (m : Map) → holds self.old m → (x : Map) → passes self.new x → passes self.old x }
         ensures told { tells self.new → tells self.old }
+        ensures served { tells self.new → serves self.new → serves self.old }
+        ensures serves { OnOk result (tells self.new → serves self.new) }
         ensures cause { HasKeeperCause (faults self.old) (faults self.new) result };
 
     /// Applies all changes, in their order, or none. It takes memory.
@@ -117,6 +119,8 @@ pub trait Keeper {
         ensures kept { result ≡ Err fault.Memory → tells self.new → serves self.new → (m : Map) → holds self.old m → holds self.new m }
         ensures stops { tells self.new → (m : Map) → holds self.old m → (x : Map) → passes self.new x → passes self.old x ⊎ (x ≡ applied m ops.now) }
         ensures told { tells self.new → tells self.old }
+        ensures served { tells self.new → serves self.new → serves self.old }
+        ensures serves { OnOk result (tells self.new → serves self.new) }
         ensures cause { HasKeeperCause (faults self.old) (faults self.new) result };
 }
 

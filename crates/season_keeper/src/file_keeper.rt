@@ -62,7 +62,7 @@ impl<'a> FileKeeper<'a> {
 impl<'a> Keeper for FileKeeper<'a> {
     ghost use Rattle.std.specs.Prelude.{⊤};
 
-    ghost tells = { λ _. ⊤ };
+    ghost tells = { λ _. ⊥ };
 
     ghost serves = { λ _. ⊤ };
 

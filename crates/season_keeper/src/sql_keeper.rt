@@ -86,6 +86,7 @@ fn load_pairs<S: Alter>(
     ensures settled { HasCleanDisk (state S.Store conn.new) → IfOk result (λ found. IfSome found (λ pairs. IsTrue (state S.Store conn.new).is_open × ((state S.Store conn.new).in_transaction ≡ false) × ((state S.Store conn.new).committed ≡ (state S.Store conn.new).now))) }
     ensures whole { IsTrue (state S.Store conn.old).is_open → (state S.Store conn.old).in_transaction ≡ false → (state S.Store conn.old).now ≡ (state S.Store conn.old).committed }
     ensures autocommit { (state S.Store conn.old).in_transaction ≡ false → (state S.Store conn.new).in_transaction ≡ false }
+    ensures was_open { HasCleanDisk (state S.Store conn.new) → IsTrue (state S.Store conn.new).is_open → IsTrue (state S.Store conn.old).is_open }
     ensures kept { HasCleanDisk (state S.Store conn.new) → IsTrue (state S.Store conn.new).is_open → (ready : Bool) → (m : Map) → Finds (state S.Store conn.old).now ready m → Finds (state S.Store conn.new).now ready m }
     ensures crash { Survives (state S.Store conn.old) (state S.Store conn.new) (λ trees. (db : _) × (trees ≡ db.trees) × Moved (state S.Store conn.old).now db) }
 {

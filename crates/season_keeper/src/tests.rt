@@ -29,6 +29,24 @@ fn kept<K: Keeper>(keeper: &mut K, alloc: Global) -> Result<Vec<(u8, u32, u8)>, 
     Ok(all)
 }
 
+// Whether a batch is committed: `Some(false)` where the keeper failed.
+fn commits<K: Keeper>(keeper: &mut K, alloc: Global, ops: &[Op]) -> Option<bool> {
+    match keeper.commit(alloc, ops) {
+        Ok(()) => Some(true),
+        Err(KeeperFault::Failed) => Some(false),
+        Err(KeeperFault::Memory) => None,
+    }
+}
+
+// Whether the records are given: `Some(false)` where the keeper failed.
+fn loads<K: Keeper>(keeper: &mut K, alloc: Global) -> Option<bool> {
+    match keeper.load(alloc) {
+        Ok(_) => Some(true),
+        Err(KeeperFault::Failed) => Some(false),
+        Err(KeeperFault::Memory) => None,
+    }
+}
+
 // What a new keeper shows of three batches, the second of which puts, deletes and names a key twice.
 fn shows_batches<K: Keeper>(keeper: &mut K, alloc: Global) -> Result<bool, Fail> {
     let first = vec![in alloc; put(alloc, 6, 1, 1)?, put(alloc, 5, 2, 2)?]?;
@@ -39,18 +57,18 @@ fn shows_batches<K: Keeper>(keeper: &mut K, alloc: Global) -> Result<bool, Fail>
         put(alloc, 5, 9, 5)?,
         Op::Delete(key(7, 7)),
     ]?;
-    if keeper.commit(alloc, &first) != Err(KeeperFault::Failed) {
+    if commits(keeper, alloc, &first) != Some(false) {
         return Ok(false);
     }
     let none = kept(keeper, alloc)?;
     let done = [
-        keeper.commit(alloc, &first).is_ok(),
-        keeper.commit(alloc, &second).is_ok(),
-        keeper.commit(alloc, &[]).is_ok(),
+        commits(keeper, alloc, &first),
+        commits(keeper, alloc, &second),
+        commits(keeper, alloc, &[]),
     ];
     let all = kept(keeper, alloc)?;
     let wanted = [(5, 2, 3), (5, 9, 5)];
-    Ok(none.is_empty() && done == [true, true, true] && all.as_slice() == wanted.as_slice())
+    Ok(none.is_empty() && done == [Some(true); 3] && all.as_slice() == wanted.as_slice())
 }
 
 #[test]
@@ -69,7 +87,7 @@ fn batches_are_kept_in_a_file(rt: HostRuntime) -> Result<(), Fail> {
     let mut again = FileKeeper::at(&rt, Text::new(alloc, name)?);
     assert!(rt; kept(&mut again, alloc)?.as_slice() == [(5, 2, 3), (5, 9, 5)].as_slice());
     let mut nowhere = FileKeeper::at(&rt, Text::new(alloc, "no/such/folder")?);
-    assert!(rt; matches!(nowhere.load(alloc), Err(KeeperFault::Failed)));
+    assert_eq!(rt; loads(&mut nowhere, alloc), Some(false));
     Ok(())
 }
 
@@ -126,11 +144,11 @@ fn shows_line<K: Keeper>(keeper: &mut K, alloc: Global, body: &[u8]) -> Result<b
 fn changes_line<K: Keeper>(keeper: &mut K, alloc: Global) -> Result<bool, Fail> {
     let body = vec![in alloc; 1, 2, 3]?;
     let put = vec![in alloc; Op::Put(LINE, Bytes::from_vec(body))]?;
-    keeper.commit(alloc, &put).map_err(|_| "no put")?;
-    let is_put = shows_line(keeper, alloc, &[1, 2, 3])?;
+    let was_put = commits(keeper, alloc, &put) == Some(true);
+    let is_put = was_put && shows_line(keeper, alloc, &[1, 2, 3])?;
     let delete = vec![in alloc; Op::Delete(LINE)]?;
-    keeper.commit(alloc, &delete).map_err(|_| "no deletion")?;
-    Ok(is_put && kept(keeper, alloc)?.as_slice() == [(6, 3, 9)].as_slice())
+    let was_deleted = commits(keeper, alloc, &delete) == Some(true);
+    Ok(is_put && was_deleted && kept(keeper, alloc)?.as_slice() == [(6, 3, 9)].as_slice())
 }
 
 #[test]
@@ -150,12 +168,12 @@ fn lines_are_moved(rt: HostRuntime) -> Result<(), Fail> {
 fn a_line_in_both_tables_is_a_fault(rt: HostRuntime) -> Result<(), Fail> {
     let alloc = rt.alloc();
     let mut keeper = SqlKeeper::over(old_store(alloc)?);
-    assert!(rt; keeper.load(alloc).is_ok());
+    assert_eq!(rt; loads(&mut keeper, alloc), Some(true));
     let mut conn = keeper.into_connection();
     conn.execute("INSERT INTO record VALUES (5, 20, 7, 0, x'01')", &[])?;
     let mut keeper = SqlKeeper::over(conn);
-    assert!(rt; matches!(keeper.load(alloc), Err(KeeperFault::Failed)));
-    assert!(rt; matches!(keeper.load(alloc), Err(KeeperFault::Failed)));
+    assert_eq!(rt; loads(&mut keeper, alloc), Some(false));
+    assert_eq!(rt; loads(&mut keeper, alloc), Some(false));
     assert!(rt; lines_in(&mut keeper.into_connection())? == (1, 1));
     Ok(())
 }
