@@ -11,6 +11,9 @@ pub trait Standing {
     /// What it stands for.
     ghost State: { Type 0 };
 
+    /// While this holds, what is kept is followed. Once it ceases, it does not come back.
+    ghost follows: { Kept → Type 0 };
+
     /// When what is kept stands for a state. It may stand for several, and for none.
     ghost stands: { Kept → State → Type 0 };
 
@@ -18,9 +21,10 @@ pub trait Standing {
     ghost answers: { State → Request → ℕ × List ℕ → State → Type 0 };
 }
 
-/// A law on the definitions: where what is kept answers each message as each state does that it stands for, runs of
-/// messages and whole sessions of it are runs and sessions of those states.
+/// A law on the definitions: where what is kept answers each message, while it is followed, as each state does that it
+/// stands for, runs of messages and whole sessions of it, behind which it is still followed, are runs and sessions of those
+/// states.
 pub fn sessions_lift<T: Standing>()
-    ensures runs { RunsLift T.stands T.answers }
-    ensures sessions { SessionsLift T.stands T.answers }
+    ensures runs { RunsLift T.follows T.stands T.answers }
+    ensures sessions { SessionsLift T.follows T.stands T.answers }
 {}
