@@ -9,7 +9,7 @@ use Rattle.std.proofs.lemmas.List.Elements.{All-weaker}
 use Rattle.rule_book.specs.Entries.{changed_in, entry_in}
 use Rattle.rule_book.specs.LeagueCalls.{is_member, leagues_of, most_leagues, with_member}
 use Rattle.rule_book.specs.Leagues.{LeagueFacts}
-use Rattle.classic_leagues.specs.Books.{AreBooked, row_of, with_number}
+use Rattle.classic_leagues.specs.Books.{AreBooked, row_entered, row_of, with_number}
 use Rattle.classic_leagues.proofs.Members.{member_as_before}
 use Rattle.classic_leagues.proofs.LeaguesOf.{absent_from, added_from, changed_from, in_range, joined_from}
 use Rattle.classic_leagues.proofs.Numbers.{with_between}
@@ -47,6 +47,19 @@ module _ (leagues : List LeagueFacts) (rows : List (List ℕ)) (booked : AreBook
   joined_is_new l d from_1 lt none =
       let number : 1 + (l - 1) ≡ l = omega arith in
       rw (booked.told e) (subst (λ n. All (λ m. m ≢ n) (leagues_of leagues e)) number (absent_from 1 leagues (l - 1) d e lt none))
+
+  -- the next league is the last of its members
+  pub row_more : (l : ℕ) (new : LeagueFacts) → l ≡ length leagues + 1 → row_entered new.members l rows e ≡ leagues_of (leagues ++ new ∷ []) e
+  row_more l new next = by (is_member new e) ∙ sym (added_from 1 leagues new e)
+    where
+      last : with_number l (leagues_of leagues e) ≡ leagues_of leagues e ++ l ∷ []
+      last =
+          subst (λ ls. with_number l ls ≡ leagues_of leagues e ++ l ∷ []) (append-nil (leagues_of leagues e))
+          (with_between l (leagues_of leagues e) [] (All-weaker (λ m. m < length leagues + 1) (λ m. m < l) (λ m h. omega arith) (leagues_of leagues e) below) (λ k d lt. absurd (omega arith)))
+
+      by : (b : Bool) → (if b then with_number l (row_of rows e) else row_of rows e) ≡ leagues_of leagues e ++ (if b then (1 + length leagues) ∷ [] else [])
+      by true = ap (with_number l) (booked.told e) ∙ (last ∙ ap (λ n. leagues_of leagues e ++ n ∷ []) (omega (arith, next)))
+      by false = booked.told e ∙ sym (append-nil (leagues_of leagues e))
 
   module _ (rows_new : List (List ℕ)) (l : ℕ) (put : row_of rows_new e ≡ with_number l (row_of rows e)) (others : (d : ℕ) → d ≢ e → row_of rows_new d ≡ row_of rows d) where
     -- a new league with one member
@@ -92,6 +105,14 @@ module _ (leagues : List LeagueFacts) (rows : List (List ℕ)) (booked : AreBook
         his =
             let number : 1 + (l - 1) ≡ l = omega arith in
             put ∙ (ap (with_number l) (booked.told e) ∙ sym (joined_from 1 leagues (l - 1) z e lt none ∙ ap (λ n. with_number n (leagues_of leagues e)) number))
+
+-- a new league with its members
+pub booked_more : (leagues : List LeagueFacts) (rows rows_new : List (List ℕ)) (l : ℕ) (new : LeagueFacts) → AreBooked leagues rows → length leagues < most_leagues → l ≡ length leagues + 1
+    → ((e : ℕ) → row_of rows_new e ≡ row_entered new.members l rows e) → AreBooked (leagues ++ new ∷ []) rows_new
+booked_more leagues rows rows_new l new booked room next entered = record {
+  few = omega (arith, length-append leagues (new ∷ []));
+  told = λ e. entered e ∙ row_more leagues rows booked e l new next;
+}
 
 -- the rows stay where no one comes or goes
 pub booked_stay : (leagues : List LeagueFacts) (rows : List (List ℕ)) (k : ℕ) (new d : LeagueFacts) → new.members ≡ (get_or leagues k d).members → AreBooked leagues rows → AreBooked (set leagues k new) rows

@@ -1,4 +1,5 @@
 pub mod Booked
+pub mod Entered
 pub mod LeaguesOf
 pub mod Members
 pub mod Numbers

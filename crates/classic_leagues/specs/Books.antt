@@ -1,5 +1,6 @@
 -- The leagues of a season, and the leagues of each entry beside them.
-use Rattle.std.specs.Prelude.{◌≡◌, ◌<◌, ◌≤◌, ◌++◌, ℕ, true, false, IsTrue, List, [], ◌∷◌, length, filter, AllPairs, nat_lt, slice_index_or, IsSomeAnd}
+use Rattle.std.specs.Prelude.{◌≡◌, ◌<◌, ◌≤◌, ◌++◌, ℕ, true, false, IsTrue, List, [], ◌∷◌, length, filter, AllPairs, nat_lt, slice_index_or, IsSomeAnd, ◌==◌, if◌then◌else◌}
+use Rattle.std.specs.List.{list_any}
 use Rattle.rule_book.specs.declared.league.LeagueKind.{LeagueKind}
 use Rattle.rule_book.specs.Entries.{entry_in}
 use Rattle.rule_book.specs.HeadToHead.{IsDraw}
@@ -52,6 +53,10 @@ with_number n numbers = filter (λ m. nat_lt m n) numbers ++ n ∷ filter (λ m.
 -- the numbers in the row of an entry, which stands at the place of its number; none where it has no row
 abbrev pub row_of : List (List ℕ) → ℕ → List ℕ
 row_of rows e = slice_index_or rows e []
+
+-- the row of an entry when these entered a league
+abbrev pub row_entered : List ℕ → ℕ → List (List ℕ) → ℕ → List ℕ
+row_entered members l rows e = if list_any (λ m. m == e) members then with_number l (row_of rows e) else row_of rows e
 
 -- there are not too many leagues, and the row of each entry has the leagues that it is in
 pub record AreBooked (leagues : List LeagueFacts) (rows : List (List ℕ)) : Type 0 where

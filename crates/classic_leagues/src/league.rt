@@ -4,7 +4,7 @@ ghost use Rattle.std.specs.Str.{bytes_eq};
 ghost use Rattle.rule_book.specs.LeagueCalls.{is_drawn, is_member, most_members, new_league, with_member, with_order};
 ghost use Rattle.rule_book.specs.LeagueRows.{place_of};
 ghost use Rattle.rule_book.specs.Ranks.{AllDiffer};
-ghost use Rattle.classic_leagues.specs.Books.{CanDraw, CanEnter};
+ghost use Rattle.classic_leagues.specs.Books.{CanDraw, CanEnter, IsLeague, league_of};
 
 use fpl_base::{Code, EntryId, Gw, ListOf, Memory, Name};
 use rule_book::LeagueKind;
@@ -62,6 +62,30 @@ impl League {
             members,
             order: Ids::new(alloc),
         })
+    }
+
+    /// A league of these parts: the members by ascending number, and the order of the draw, which is empty before it.
+    pub fn restore(
+        kind: LeagueKind,
+        name: Name,
+        code: Code,
+        start: Gw,
+        creator: EntryId,
+        members: Ids,
+        order: Ids,
+    ) -> Self
+        requires { IsLeague (league_of kind name code start creator members order) }
+        ensures { result ≡ league_of kind name code start creator members order }
+    {
+        League {
+            kind,
+            name,
+            code,
+            start,
+            creator,
+            members,
+            order,
+        }
     }
 
     /// How it is decided.

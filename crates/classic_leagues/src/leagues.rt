@@ -194,4 +194,31 @@ impl Leagues {
     {
         self.leagues[l.get() as usize - 1].set_order(order)
     }
+
+    /// These leagues and one more behind them, whoever is in it; all are let go after want of memory. How many leagues an
+    /// entry is in is not looked at.
+    pub fn restore(self, league: League) -> Result<Self, Memory>
+        requires room { length self < most_leagues }
+        ensures { IfOk result (λ book. book ≡ self ++ league ∷ []) }
+    {
+        let Leagues {
+            mut leagues,
+            mut memberships,
+        } = self;
+        let l = numbered(leagues.len() as u32 + 1);
+        memberships.enter(league.members(), l)?;
+        leagues.push(league)?;
+        Ok(Leagues {
+            leagues,
+            memberships,
+        })
+    }
+}
+
+// The league of this number.
+fn numbered(number: u32) -> LeagueId
+    requires { 1 ≤ number }
+    ensures { result ≡ number }
+{
+    LeagueId::new(number).unwrap()
 }

@@ -1,6 +1,7 @@
 //! The leagues of each entry, so that nobody has to look through all leagues.
 ghost use Rattle.std.specs.Prelude.{◌≡◌, ◌≢◌, ◌≤◌, ℕ, [], All, length, OnErr, OnOk};
-ghost use Rattle.classic_leagues.specs.Books.{row_of, with_number};
+ghost use Rattle.rule_book.specs.Ranks.{AllDiffer};
+ghost use Rattle.classic_leagues.specs.Books.{row_entered, row_of, with_number};
 
 use fpl_base::{EntryId, LeagueId, Memory};
 use std::alloc::Global;
@@ -106,5 +107,17 @@ impl Memberships {
         let place = e.get() as usize;
         grow(&mut self.rows, place + 1)?;
         self.rows[place].add(l)
+    }
+
+    /// Entries are in a league more, each named once.
+    pub fn enter(&mut self, members: &[EntryId], l: LeagueId) -> Result<(), Memory>
+        requires differ { AllDiffer members.now }
+        requires new { (e : ℕ) → All (λ n. n ≢ l) (row_of self.old e) }
+        ensures { OnOk result ((e : ℕ) → row_of self.new e ≡ row_entered members.now l self.old e) }
+    {
+        for e in members {
+            self.add(*e, l)?;
+        }
+        Ok(())
     }
 }
