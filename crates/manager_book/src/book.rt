@@ -103,8 +103,8 @@ impl ManagerBook {
         self.owner_of(key.bytes())
     }
 
-    // The manager of an entry.
-    fn manager(&self, e: EntryId) -> Option<&Manager>
+    /// The manager of an entry, with all that is kept of it; None where it was not issued.
+    pub fn manager(&self, e: EntryId) -> Option<&Manager>
         ensures { option_copied result ≡ slice_get self.now.managers (e - 1) }
     {
         self.managers.get(e.get() as usize - 1)

@@ -12,7 +12,9 @@ mod manager;
 mod register;
 
 pub use book::ManagerBook;
+pub use entry_sales::EntrySales;
 pub use laws::rows_refuse_alike;
+pub use manager::Manager;
 pub use rule_book::{Pick, Sale, Swap, Team};
 pub use transfer_book::Sales;
 

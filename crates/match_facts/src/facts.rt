@@ -151,6 +151,16 @@ impl MatchFacts {
         }
     }
 
+    /// The line of a player in a fixture, to be kept elsewhere. It is no counted read.
+    pub fn kept_line(&self, fixture: FixtureId, player: PlayerId) -> Option<&Line>
+        ensures { option_copied result ≡ line_of self.now fixture player }
+    {
+        match self.sheets.get(fixture) {
+            Some(sheet) => sheet.line(player),
+            None => None,
+        }
+    }
+
     /// The players who have a line in a fixture, ascending, and beside them the line of each. Each line is one counted
     /// read.
     pub fn rows<L: Ledger>(

@@ -26,7 +26,7 @@ use Rattle.season_books.proofs.Lawful.{lawful_restored}
 
 -- Where none of the rows is found, none that a map tells of passes the test.
 
-same_key : (x y : Key) → is_same_key x y ≡ true → x ≡ y
+pub same_key : (x y : Key) → is_same_key x y ≡ true → x ≡ y
 same_key x y e =
     let one = and_parts (eqb x.kind y.kind) (eqb x.a y.a && (eqb x.b y.b && eqb x.c y.c)) e in
     let two = and_parts (eqb x.a y.a) (eqb x.b y.b && eqb x.c y.c) one.1 in
@@ -36,14 +36,14 @@ same_key x y e =
     of_parts : (x y : Key) → x.kind ≡ y.kind → x.a ≡ y.a → x.b ≡ y.b → x.c ≡ y.c → x ≡ y
     of_parts x y k a b c = ap₂ (λ i j. key i j x.b x.c) k a ∙ ap₂ (λ i j. key y.kind y.a i j) b c
 
-some_is : {A : Type 0} (x y : A) → Some x ≡ Some y → x ≡ y
+pub some_is : {A : Type 0} (x y : A) → Some x ≡ Some y → x ≡ y
 some_is x y e = cc
 
 none_found : (b : Bool) (row : Key × List ℕ) (o : Option (Key × List ℕ)) → cond b (Some row) o ≡ None → (b ≡ false) × (o ≡ None)
 none_found true row o e = absurd (cc)
 none_found false row o e = (refl, e)
 
-none_passes : (test : Key × List ℕ → Bool) (rows : Rows) → find test rows ≡ None → (k : Key) (body : List ℕ) → map_of rows k ≡ Some body → test (k, body) ≡ false
+pub none_passes : (test : Key × List ℕ → Bool) (rows : Rows) → find test rows ≡ None → (k : Key) (body : List ℕ) → map_of rows k ≡ Some body → test (k, body) ≡ false
 none_passes test [] none k body there = absurd (cc)
 none_passes test (row ∷ rows) none k body there =
     let split = none_found (test row) row (find test rows) none in
@@ -57,15 +57,15 @@ none_passes test (row ∷ rows) none k body there =
 
 -- Nothing is found wrong.
 
-none_either : (o p : Option Key) → option_or o p ≡ None → p ≡ None
+pub none_either : (o p : Option Key) → option_or o p ≡ None → p ≡ None
 none_either None p e = e
 none_either (Some k) p e = absurd (cc)
 
-none_mapped : {A B : Type 0} (f : A → B) (o : Option A) → option_map f o ≡ None → o ≡ None
+pub none_mapped : {A B : Type 0} (f : A → B) (o : Option A) → option_map f o ≡ None → o ≡ None
 none_mapped f None e = refl
 none_mapped f (Some x) e = absurd (cc)
 
-and_then_some : {A B : Type 0} (f : A → Option B) (o : Option A) (y : B) → option_and_then f o ≡ Some y → (x : A) × (o ≡ Some x) × (f x ≡ Some y)
+pub and_then_some : {A B : Type 0} (f : A → Option B) (o : Option A) (y : B) → option_and_then f o ≡ Some y → (x : A) × (o ≡ Some x) × (f x ≡ Some y)
 and_then_some f None y e = absurd (cc)
 and_then_some f (Some x) y e = (x, refl, e)
 
@@ -117,7 +117,7 @@ team_of_body e g body i is =
       is = made.1;
     }
 
-team_has : (m : Map) (e g : ℕ) (i : Item) → told m (slot.Team e g) ≡ Some i → HasTeam e g i
+pub team_has : (m : Map) (e g : ℕ) (i : Item) → told m (slot.Team e g) ≡ Some i → HasTeam e g i
 team_has m e g i is =
     let there = and_then_some (item_of (key_of (slot.Team e g))) (m (key_of (slot.Team e g))) i is in
     team_of_body e g there.0 i (if_some (is_id e && is_gameweek g) (team_read e g there.0) i there.2)
@@ -128,7 +128,7 @@ sale_of_body e g n body i is =
     let made = of_reader {A = ℕ × (ℕ × (ℕ × ℕ))} (λ x. item.Transfer e g n x.0 x.1.0 x.1.1.0 x.1.1.1) _ i is in
     record { sale = record { out = made.0.0; into = made.0.1.0; sold = made.0.1.1.0; bought = made.0.1.1.1 }; is = made.1 }
 
-sale_has : (m : Map) (e g n : ℕ) (i : Item) → told m (slot.Transfer e g n) ≡ Some i → HasSale e g n i
+pub sale_has : (m : Map) (e g n : ℕ) (i : Item) → told m (slot.Transfer e g n) ≡ Some i → HasSale e g n i
 sale_has m e g n i is =
     let there = and_then_some (item_of (key_of (slot.Transfer e g n))) (m (key_of (slot.Transfer e g n))) i is in
     sale_of_body e g n there.0 i (if_some (is_id e && is_gameweek g) (transfer_in e g n there.0) i there.2)
@@ -139,14 +139,14 @@ entry_of_body e body i is =
     let made = of_reader {A = Option ℕ × (List ℕ × List ℕ)} (λ x. item.Entry e x.0 x.1.0 x.1.1) _ i is in
     record { first = made.0.0; key = made.0.1.0; name = made.0.1.1; is = made.1 }
 
-entry_has : (m : Map) (e : ℕ) (i : Item) → told m (slot.Entry e) ≡ Some i → HasEntry e i
+pub entry_has : (m : Map) (e : ℕ) (i : Item) → told m (slot.Entry e) ≡ Some i → HasEntry e i
 entry_has m e i is =
     let there = and_then_some (item_of (key_of (slot.Entry e))) (m (key_of (slot.Entry e))) i is in
     entry_of_body e there.0 i (if_some (is_id e) (entry_in e there.0) i there.2)
 
 -- an entry's records
 
-told_some : {A : Type 0} (f : Option Item → Option A) (o : Option Item) (x : A) → f None ≡ None → f o ≡ Some x → (i : Item) × (o ≡ Some i)
+pub told_some : {A : Type 0} (f : Option Item → Option A) (o : Option Item) (x : A) → f None ≡ None → f o ≡ Some x → (i : Item) × (o ≡ Some i)
 told_some f None x none e = absurd (some_not_none x (f None) e none)
   where
     some_not_none : {A : Type 0} (x : A) (o : Option A) → o ≡ Some x → o ≡ None → ⊥
@@ -184,11 +184,13 @@ entry_lawful rows lawful e = by (told (map_of rows) (slot.Entry e)) refl
         let first : first_in (told (map_of rows) (slot.Entry e)) ≡ has.first = ap first_in is ∙ sym (ap (λ j. first_in (Some j)) has.is) in
         ap (entry_breaks (map_of rows) e) first ∙ own
 
+-- an entry's records in a store in which nothing is found wrong
+pub judged_lawful : (rows : Rows) → judged rows ≡ None → (e : ℕ) → IsLawfulEntry (map_of rows) e
+judged_lawful rows lawful e = record {
+  entry = entry_lawful rows lawful e;
+  teams = team_lawful rows lawful e;
+  sales = sale_lawful rows lawful e;
+}
+
 pub judged_restored : JudgedEntriesAreRestored
-judged_restored rows e teams sales lawful =
-    lawful_restored (map_of rows) e teams sales
-    (record {
-      entry = entry_lawful rows lawful e;
-      teams = team_lawful rows lawful e;
-      sales = sale_lawful rows lawful e;
-    })
+judged_restored rows e teams sales lawful = lawful_restored (map_of rows) e teams sales (judged_lawful rows lawful e)

@@ -111,7 +111,7 @@ lawful_sale m e g n s lawful =
 
 -- Look-ups.
 
-mapped_some : {A B : Type 0} (f : A → B) (o : Option A) (y : B) → option_map f o ≡ Some y → (x : A) × (o ≡ Some x)
+pub mapped_some : {A B : Type 0} (f : A → B) (o : Option A) (y : B) → option_map f o ≡ Some y → (x : A) × (o ≡ Some x)
 mapped_some f None y e = absurd (cc)
 mapped_some f (Some x) y e = (x, refl)
 
@@ -129,21 +129,21 @@ team_first m e (Some g) s lawful is =
     let same : g ≡ s = same_some g s (Some g) refl is in
     subst (λ h. is_some (team_told m e h) ≡ true) same (not-false _ lawful)
 
-lawful_at : (m : Map) (e : ℕ) → IsLawfulEntry m e → (g : ℕ) (t : RecordedTeam) → team_told m e g ≡ Some t → IsLawfulTeam m e g t
+pub lawful_at : (m : Map) (e : ℕ) → IsLawfulEntry m e → (g : ℕ) (t : RecordedTeam) → team_told m e g ≡ Some t → IsLawfulTeam m e g t
 lawful_at m e lawful g t found = lawful_team m e g t (lawful.teams g t found)
 
-lawful_sale_at : (m : Map) (e : ℕ) → IsLawfulEntry m e → (g n : ℕ) (s : Sale) → sale_told m e g n ≡ Some s → IsLawfulSale m e g n s
+pub lawful_sale_at : (m : Map) (e : ℕ) → IsLawfulEntry m e → (g n : ℕ) (s : Sale) → sale_told m e g n ≡ Some s → IsLawfulSale m e g n s
 lawful_sale_at m e lawful g n s found = lawful_sale m e g n s (lawful.sales g n s found)
 
 -- before an entry's first gameweek, and without one, there is no team
-no_team : (m : Map) (e : ℕ) → IsLawfulEntry m e → (g : ℕ) → (IsInTime (first_told m e) g → ⊥) → team_told m e g ≡ None
+pub no_team : (m : Map) (e : ℕ) → IsLawfulEntry m e → (g : ℕ) → (IsInTime (first_told m e) g → ⊥) → team_told m e g ≡ None
 no_team m e lawful g out = none_of (team_told m e g) refl
   where
     none_of : (o : Option RecordedTeam) → team_told m e g ≡ o → team_told m e g ≡ None
     none_of None is = is
     none_of (Some t) is = absurd (out (lawful_at m e lawful g t is).time)
 
-recorded_at : (m : Map) (e : ℕ) (teams : List (ℕ × Team)) → AreItsTeams m e teams → (g : ℕ) (x : Team) → team_recorded teams g ≡ Some x
+pub recorded_at : (m : Map) (e : ℕ) (teams : List (ℕ × Team)) → AreItsTeams m e teams → (g : ℕ) (x : Team) → team_recorded teams g ≡ Some x
     → (t : RecordedTeam) × (team_told m e g ≡ Some t) × (x ≡ team_of_record m t)
 recorded_at m e teams its g x found =
     let there = mapped_some (team_of_record m) (team_told m e g) x (sym (its.told g) ∙ found) in
@@ -191,7 +191,7 @@ bare_from m e (t ∷ teams) lawful its starts =
 
 -- The transfers of a gameweek.
 
-gapless : (m : Map) (e : ℕ) → IsLawfulEntry m e → (g : ℕ) → IsGapless (sale_told m e g)
+pub gapless : (m : Map) (e : ℕ) → IsLawfulEntry m e → (g : ℕ) → IsGapless (sale_told m e g)
 gapless m e lawful g = record {
   behind = λ n s found. (lawful_sale_at m e lawful g n s found).next;
   few = λ n s found. (lawful_sale_at m e lawful g n s found).few;

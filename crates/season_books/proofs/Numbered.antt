@@ -14,7 +14,7 @@ pub record IsGapless (told : ℕ → Option Sale) : Type 0 where
   pub behind : (n : ℕ) (s : Sale) → told n ≡ Some s → (n ≡ 1) ⊎ ((1 < n) × (is_some (told (n - 1)) ≡ true))
   pub few : (n : ℕ) (s : Sale) → told n ≡ Some s → n ≤ 1000
 
-some_from : {A : Type 0} (o : Option A) → is_some o ≡ true → (x : A) × (o ≡ Some x)
+pub some_from : {A : Type 0} (o : Option A) → is_some o ≡ true → (x : A) × (o ≡ Some x)
 some_from None e = absurd (true≢false (sym e))
 some_from (Some x) e = (x, refl)
 
@@ -22,7 +22,7 @@ some_not_none : {A : Type 0} (x : A) (o : Option A) → o ≡ Some x → o ≡ N
 some_not_none x o some none = absurd (cc)
 
 -- where a number is there, so are those from 1 up to it
-reached : (told : ℕ → Option Sale) → IsGapless told → (j n k : ℕ) (s : Sale) → 1 ≤ k → k + j ≡ n → told n ≡ Some s → (x : Sale) × (told k ≡ Some x)
+pub reached : (told : ℕ → Option Sale) → IsGapless told → (j n k : ℕ) (s : Sale) → 1 ≤ k → k + j ≡ n → told n ≡ Some s → (x : Sale) × (told k ≡ Some x)
 reached told gapless zero n k s low sum found = (s, subst (λ v. told v ≡ Some s) (sym (omega (arith, sum))) found)
 reached told gapless (suc j) n k s low sum found =
     elim (gapless.behind n s found) [

@@ -1,4 +1,4 @@
 mod Absent
 mod ClubFacts
 mod Found
-mod KeptFacts
+pub mod KeptFacts

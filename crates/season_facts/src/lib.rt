@@ -6,6 +6,7 @@ mod calendar_commands;
 mod commands;
 mod judge;
 mod match_commands;
+mod parts;
 mod player_commands;
 mod reads;
 mod season;

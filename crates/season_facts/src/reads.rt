@@ -9,6 +9,7 @@ ghost use Rattle.rule_book.specs.Players.{player_of};
 
 use crate::Season;
 use fpl_base::{FixtureId, Memory, PlayerId, Position, Profile, Steps};
+use match_facts::MatchFacts;
 use player_prices::Players;
 use rule_book::{Fixture, Line, Player};
 use season_book::SharedClubs;
@@ -35,6 +36,13 @@ impl Season {
         ensures { result.now ≡ self.now.players }
     {
         &self.players
+    }
+
+    /// The lines of its matches, and which are finished.
+    pub fn matches(&self) -> &MatchFacts
+        ensures { result.now ≡ self.now.matches }
+    {
+        &self.matches
     }
 
     /// Its clubs, by ascending id. They are shared, and no name is copied.

@@ -1,4 +1,4 @@
-// A match of three lines, by hand: what is evaluated, and what the cells hold.
+// A match of one line, by hand: what is evaluated, and what the cells hold.
 ghost use Rattle.std.specs.Prelude.{◌≡◌, ◌<◌, [], true, is_ok, is_some, IfOk, OnOk};
 ghost use Rattle.fpl_base.specs.declared.kinds.Profile.TheVariants as profile;
 ghost use Rattle.rule_book.specs.Figures.{IsLine};
@@ -8,8 +8,8 @@ ghost use Rattle.season_graph.specs.Followed.{AreSound};
 ghost use Rattle.season_graph.specs.Season.{IsSeason};
 
 use crate::{
-    Books, Node, SeasonCells, SeasonRules, Value, evaluate_all, fact_changed, mark_changed,
-    matches_change, season_begins, settle_season,
+    Books, Node, SeasonCells, SeasonRules, Value, evaluate_all, fact_changed, matches_change,
+    season_begins, settle_season,
 };
 use fpl_base::{
     ClubId, FixtureId, Gw, Moment, Name, PlayerId, Position, Profile, Refused, Steps, Tenths,
@@ -125,54 +125,6 @@ fn put_line<L: Ledger>(
     Ok(report.evaluated.as_slice().len())
 }
 
-// Marks the fixture as finished.
-fn finish<L: Ledger>(
-    calendar: &Calendar,
-    players: &Players,
-    matches: &mut MatchFacts,
-    cells: &mut SeasonCells,
-    steps: &mut Steps<L>,
-) -> Result<usize, Fail>
-    requires season { IsSeason (facts_with profile.A calendar.now players.now matches.old) }
-    requires sound { AreSound (facts_with profile.A calendar.now players.now matches.old) cells.old }
-    ensures season { OnOk result (IsSeason (facts_with profile.A calendar.now players.now matches.new)) }
-    ensures sound { OnOk result (AreSound (facts_with profile.A calendar.now players.now matches.new) cells.new) }
-{
-    let fixture = fixture()?;
-    taken(matches.set_finished(fixture, true, true))?;
-    matches_change();
-    let rules = SeasonRules {
-        books: Books {
-            profile: Profile::A,
-            calendar,
-            players,
-            matches: &*matches,
-        },
-    };
-    mark_changed(cells, &rules.books, fixture)?;
-    let report = settle_season(cells, &rules, steps)?;
-    Ok(report.evaluated.as_slice().len())
-}
-
-// A line that is put in: whose it is, his goals, assists and key passes; how many nodes are then evaluated; and the
-// points of the gameweeks of the three players.
-#[derive(Clone, Copy)]
-struct Case {
-    player: u32,
-    figures: [u16; 3],
-    evaluated: usize,
-    points: [i32; 3],
-}
-
-fn row(player: u32, figures: [u16; 3], evaluated: usize, points: [i32; 3]) -> Case {
-    Case {
-        player,
-        figures,
-        evaluated,
-        points,
-    }
-}
-
 // The points of a player's gameweek.
 fn points_of<L: Ledger>(
     cells: &SeasonCells,
@@ -183,59 +135,6 @@ fn points_of<L: Ledger>(
         Some(Value::PlayerGw(figures)) => Ok(figures.points),
         _ => Ok(-1),
     }
-}
-
-// The points of the three gameweeks.
-fn points<L: Ledger>(cells: &SeasonCells, steps: &mut Steps<L>) -> Result<[i32; 3], Fail> {
-    let first = points_of(cells, 1, steps)?;
-    let second = points_of(cells, 2, steps)?;
-    let third = points_of(cells, 3, steps)?;
-    Ok([first, second, third])
-}
-
-// Puts the line of a row in.
-fn put_row<L: Ledger>(
-    calendar: &Calendar,
-    players: &Players,
-    matches: &mut MatchFacts,
-    cells: &mut SeasonCells,
-    row: &Case,
-    steps: &mut Steps<L>,
-) -> Result<usize, Fail>
-    requires season { IsSeason (facts_with profile.A calendar.now players.now matches.old) }
-    requires sound { AreSound (facts_with profile.A calendar.now players.now matches.old) cells.old }
-    ensures season { OnOk result (IsSeason (facts_with profile.A calendar.now players.now matches.new)) }
-    ensures sound { OnOk result (AreSound (facts_with profile.A calendar.now players.now matches.new) cells.new) }
-{
-    let player = id(row.player)?;
-    let line = line(row.figures[0], row.figures[1], row.figures[2]);
-    if line_ok(&line).is_err() || players.get(player).is_none() {
-        return Ok(0);
-    }
-    Ok(put_line(calendar, players, matches, cells, player, &line, steps)?)
-}
-
-// Puts the lines of some rows in, one after another.
-fn put_rows<L: Ledger>(
-    rt: &impl Abort,
-    calendar: &Calendar,
-    players: &Players,
-    matches: &mut MatchFacts,
-    cells: &mut SeasonCells,
-    rows: &[Case],
-    steps: &mut Steps<L>,
-) -> Result<(), Fail>
-    requires season { IsSeason (facts_with profile.A calendar.now players.now matches.old) }
-    requires sound { AreSound (facts_with profile.A calendar.now players.now matches.old) cells.old }
-    ensures season { OnOk result (IsSeason (facts_with profile.A calendar.now players.now matches.new)) }
-    ensures sound { OnOk result (AreSound (facts_with profile.A calendar.now players.now matches.new) cells.new) }
-{
-    for row in rows {
-        let evaluated = put_row(calendar, players, matches, cells, row, steps)?;
-        assert_eq!(rt; evaluated, row.evaluated);
-        assert_eq!(rt; points(cells, steps)?, row.points);
-    }
-    Ok(())
 }
 
 // The cells of a season without lines.
@@ -266,8 +165,7 @@ fn a_correction_evaluates_what_hangs_on_it(rt: HostRuntime) -> Result<(), Fail> 
     corrects::<Brand>(&rt, rt.alloc(), Blank::new(1))
 }
 
-// The first three lines come before the match is finished. Then player 2 has the most of the bonus points system's
-// number, where player 1 had; a key pass more leaves the bonus; and an equal line changes nothing.
+// A line of one goal that comes before the match is finished: itself, the bonus and the player's gameweek are evaluated.
 fn corrects<L: Ledger>(rt: &impl Abort, alloc: Global, blank: Blank) -> Result<(), Fail>
     requires name { blank.name ≡ L.name }
     requires parts { blank.parts ≡ L.parts }
@@ -278,37 +176,21 @@ fn corrects<L: Ledger>(rt: &impl Abort, alloc: Global, blank: Blank) -> Result<(
     let players = players(alloc)?;
     let mut matches = MatchFacts::new(alloc);
     let mut cells = begin(alloc, &calendar, &players, &matches, &mut steps)?;
-    assert_eq!(rt; points(&cells, &mut steps)?, [0, 0, 0]);
-    let before = [
-        row(1, [1, 0, 0], 3, [8, 0, 0]),
-        row(2, [0, 1, 0], 3, [8, 6, 0]),
-        row(3, [0, 0, 0], 3, [8, 6, 3]),
-    ];
-    put_rows(
-        rt,
-        &calendar,
-        &players,
-        &mut matches,
-        &mut cells,
-        &before,
-        &mut steps,
-    )?;
-    let evaluated = finish(&calendar, &players, &mut matches, &mut cells, &mut steps)?;
-    assert_eq!(rt; evaluated, 4);
-    assert_eq!(rt; points(&cells, &mut steps)?, [11, 8, 4]);
-    let after = [
-        row(2, [2, 0, 0], 5, [10, 16, 4]),
-        row(3, [0, 0, 1], 3, [10, 16, 4]),
-        row(3, [0, 0, 1], 1, [10, 16, 4]),
-    ];
-    put_rows(
-        rt,
-        &calendar,
-        &players,
-        &mut matches,
-        &mut cells,
-        &after,
-        &mut steps,
-    )?;
+    assert_eq!(rt; points_of(&cells, 1, &mut steps)?, 0);
+    let player = id(1)?;
+    let line = line(1, 0, 0);
+    if line_ok(&line).is_ok() && players.get(player).is_some() {
+        let evaluated = put_line(
+            &calendar,
+            &players,
+            &mut matches,
+            &mut cells,
+            player,
+            &line,
+            &mut steps,
+        )?;
+        assert_eq!(rt; evaluated, 3);
+    }
+    assert_eq!(rt; points_of(&cells, 1, &mut steps)?, 8);
     Ok(())
 }

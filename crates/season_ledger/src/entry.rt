@@ -1,5 +1,6 @@
 //! One entry's rows, and the calls that change them.
-ghost use Rattle.std.specs.Prelude.{true, ◌≡◌, ◌<◌, ◌≤◌, ◌+◌, ◌++◌, ◌∷◌, ℕ, List, [], Option, length, map, OnOk, OnErr, IfOk, IsTrue, ◌↔◌};
+ghost use Rattle.std.specs.Prelude.{true, ◌≡◌, ◌<◌, ◌≤◌, ◌+◌, ◌++◌, ◌∷◌, ℕ, List, [], Option, length, map, OnOk, OnErr, IfOk, IfSome, IsTrue, ◌↔◌, option_copied};
+ghost use Rattle.std.specs.Option.{option_map};
 ghost use Rattle.std.specs.List.{AllByRecursion as Each};
 ghost use Rattle.fpl_base.specs.declared.kinds.Chip.TheVariants.{None as NoChip};
 ghost use Rattle.fpl_base.specs.declared.kinds.Position.{Position};
@@ -9,11 +10,13 @@ ghost use Rattle.rule_book.specs.History.Deed.{First, Swap, Lineup, Play, Cancel
 ghost use Rattle.rule_book.specs.HistoryRules.{FirstTold, IsHistory};
 ghost use Rattle.rule_book.specs.HistoryTeam.{TeamTold, TeamBalances, holdings};
 ghost use Rattle.rule_book.specs.HistoryTransfers.{FreeTold, cost_at, counted_through, swaps_in, used_before};
-ghost use Rattle.season_ledger.specs.Rows.{rows_of_records, chip_by, IsKept, IsFitTeam, FitsIn, AllUpTo, standing_at, team_in, begun, is_begun_by, put_row, put_chip, used_by, first_in, is_past, free_in, cost_by, counted_by};
+ghost use Rattle.season_ledger.specs.Rows.{row_at, rows_of_records, chip_by, IsKept, IsFitTeam, FitsIn, AllUpTo, standing_at, team_in, begun, is_begun_by, put_row, put_chip, used_by, first_in, is_past, free_in, cost_by, counted_by};
 ghost use Rattle.season_ledger.specs.Batches.{BatchOn, LineupOn, IsFirstTeam, CanPlay, CanCancel, players_of};
 ghost use Rattle.season_ledger.specs.Stands.{StandsFor, IsPlaced, RowsAlwaysTell};
 
-use crate::rows::{are_up_to, first_of, put, put_in_place, row_of, rows_of_records, standing_of};
+use crate::rows::{
+    are_up_to, first_of, put, put_in_place, row_in, row_of, rows_of_records, standing_of,
+};
 use crate::transfers::{cost_of, counted_of, free_of, used_of};
 use crate::{Row, Standing};
 use fpl_base::{Chip, Gw, Memory, Profile};
@@ -85,6 +88,15 @@ impl Entry {
             Some(standing) => Some(standing.team),
             None => None,
         }
+    }
+
+    /// The row of a gameweek by its number: what was done in that gameweek itself. None where nothing was, as in what is
+    /// no gameweek.
+    pub fn row(&self, gameweek: u32) -> Option<&Row>
+        ensures gameweek { IfSome result (λ row. row.now.gw ≡ gameweek) }
+        ensures standing { option_map (λ row. row.standing) (option_copied result) ≡ row_at self.now gameweek }
+    {
+        row_in(self.rows.as_slice(), gameweek)
     }
 
     /// How many transfers a gameweek has.

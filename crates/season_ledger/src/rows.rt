@@ -1,5 +1,6 @@
 // Rows by gameweek.
-ghost use Rattle.std.specs.Prelude.{◌≡◌, ◌<◌, ◌≤◌, ◌+◌, ℕ, List, [], length, OnOk, OnErr, IfOk};
+ghost use Rattle.std.specs.Prelude.{◌≡◌, ◌<◌, ◌≤◌, ◌+◌, ℕ, List, [], length, OnOk, OnErr, IfOk, IfSome, option_copied};
+ghost use Rattle.std.specs.Option.{option_map};
 ghost use Rattle.rule_book.specs.EntryRecords.{sales_in};
 ghost use Rattle.rule_book.specs.History.{is_free_hit};
 ghost use Rattle.season_ledger.specs.Rows.{row_at, base_at, put_row, place_at, standing_at, is_up_to, first_in, row_of_record, rows_of_records};
@@ -16,6 +17,19 @@ pub fn row_of(rows: &[Row], g: u8) -> Option<Standing>
     'rows: for row in rows {
         if row.gw.get() == g {
             return Some(row.standing);
+        }
+    }
+    None
+}
+
+// The row of a gameweek by its number.
+pub fn row_in(rows: &[Row], gameweek: u32) -> Option<&Row>
+    ensures gameweek { IfSome result (λ row. row.now.gw ≡ gameweek) }
+    ensures standing { option_map (λ row. row.standing) (option_copied result) ≡ row_at rows.now gameweek }
+{
+    'rows: for row in rows {
+        if u32::from(row.gw.get()) == gameweek {
+            return Some(row);
         }
     }
     None
