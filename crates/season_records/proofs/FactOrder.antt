@@ -25,7 +25,7 @@ use Rattle.season_records.proofs.Sheets.{sheet_by}
 
 -- Players and fixtures.
 
-players_put : (players : List Player) (new : Player) → AllPairs (λ p q. p.id < q.id) players
+pub players_put : (players : List Player) (new : Player) → AllPairs (λ p q. p.id < q.id) players
     → AllPairs (λ p q. p.id < q.id) (filter (λ p. nat_lt p.id new.id) players ++ new ∷ filter (λ p. nat_lt new.id p.id) players)
 players_put players new up =
     pairs_of (λ p. p.id) (filter (λ p. nat_lt p.id new.id) players ++ new ∷ filter (λ p. nat_lt new.id p.id) players)
@@ -41,7 +41,7 @@ players_changed change keeps players id up =
     chosen p true = keeps p
     chosen p false = refl
 
-fixtures_put : (xs : List Fixture) (new : Fixture) → AllPairs (λ x y. x.id < y.id) xs
+pub fixtures_put : (xs : List Fixture) (new : Fixture) → AllPairs (λ x y. x.id < y.id) xs
     → AllPairs (λ x y. x.id < y.id) (filter (λ y. nat_lt y.id new.id) xs ++ new ∷ filter (λ y. nat_lt new.id y.id) xs)
 fixtures_put xs new up =
     pairs_of (λ x. x.id) (filter (λ y. nat_lt y.id new.id) xs ++ new ∷ filter (λ y. nat_lt new.id y.id) xs)
@@ -84,17 +84,17 @@ there_moved (x ∷ xs) f g kickoff q =
 -- Sheets.
 
 module _ (m : MatchFacts) (f : ℕ) (sheet : Sheet) where
-  sheets_put : AreSorted m → AreSorted (with_sheet m f sheet)
+  pub sheets_put : AreSorted m → AreSorted (with_sheet m f sheet)
   sheets_put sorted = by (tells_facts sheet)
     where
       by : (b : Bool) → AreSorted (placed_at m f (if b then (f, sheet) ∷ [] else []))
       by true = put_sorted m f sheet sorted
       by false = taken_sorted m f sorted
 
-  lines_put : ((g : ℕ) → AreSorted (lines_of m g)) → AreSorted sheet.lines → (g : ℕ) → AreSorted (lines_of (with_sheet m f sheet) g)
+  pub lines_put : ((g : ℕ) → AreSorted (lines_of m g)) → AreSorted sheet.lines → (g : ℕ) → AreSorted (lines_of (with_sheet m f sheet) g)
   lines_put each new g = sheet_by (λ s. AreSorted s.lines) m f sheet g (λ here. new) (each g)
 
-  tell_put : ((g : ℕ) (s : Sheet) → at_id m g ≡ Some s → tells_facts s ≡ true) → (g : ℕ) (s : Sheet) → at_id (with_sheet m f sheet) g ≡ Some s → tells_facts s ≡ true
+  pub tell_put : ((g : ℕ) (s : Sheet) → at_id m g ≡ Some s → tells_facts s ≡ true) → (g : ℕ) (s : Sheet) → at_id (with_sheet m f sheet) g ≡ Some s → tells_facts s ≡ true
   tell_put tell g s = by (tells_facts sheet) refl
     where
       by : (b : Bool) → tells_facts sheet ≡ b → at_id (placed_at m f (if b then (f, sheet) ∷ [] else [])) g ≡ Some s → tells_facts s ≡ true
@@ -111,7 +111,7 @@ module _ (m : MatchFacts) (f : ℕ) (sheet : Sheet) where
           at_other true other = one_other f g sheet other
           at_other false other = refl
 
-  there_put_sheet : (has : ℕ → Bool) → ((g : ℕ) → has_facts m g ≡ true → has g ≡ true) → has f ≡ true → (g : ℕ) → has_facts (with_sheet m f sheet) g ≡ true → has g ≡ true
+  pub there_put_sheet : (has : ℕ → Bool) → ((g : ℕ) → has_facts m g ≡ true → has g ≡ true) → has f ≡ true → (g : ℕ) → has_facts (with_sheet m f sheet) g ≡ true → has g ≡ true
   there_put_sheet has each here g = sheet_by (λ s. tells_facts s ≡ true → has g ≡ true) m f sheet g (λ same told. ap has same ∙ here) (each g)
 
   -- facts whose fixture is there

@@ -93,7 +93,7 @@ lock_tells : (now : ℕ) (facts : Facts) (s : Slot) → touches locked_slots (ke
 lock_tells now facts slot.Season apart = absurd (true≢false apart)
 lock_tells now facts s apart = refl
 
-lock_keeps : (book : Book) (now : ℕ) → Keeps locked_slots book (pass book now)
+pub lock_keeps : (book : Book) (now : ℕ) → Keeps locked_slots book (pass book now)
 lock_keeps book now s apart =
     facts_kept book (pass book now) s (facts_locked (λ facts. told_in facts s) now book.facts (λ facts. lock_tells now facts s apart)) refl refl refl refl
 

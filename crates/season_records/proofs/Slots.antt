@@ -69,7 +69,7 @@ slots_tell_of_themselves book s i at = subst (OfSlot s) at (of_slot book s)
 
 -- Of the empty book nothing.
 
-nothing_told : (s : Slot) → told empty_book s ≡ None
+pub nothing_told : (s : Slot) → told empty_book s ≡ None
 nothing_told slot.Season = refl
 nothing_told (slot.Club c) = refl
 nothing_told (slot.Player p) = refl

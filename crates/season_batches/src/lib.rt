@@ -1,0 +1,15 @@
+//! Which records a command touches, and the batch of changes that is committed of them, over a running season.
+#![tactic(auto)]
+
+mod batches;
+mod changes;
+mod competitions;
+mod entries;
+mod facts;
+mod listing;
+mod parts;
+mod seeking;
+mod touching;
+
+pub use batches::batch_of;
+pub use touching::{touched, touched_first};

@@ -1,0 +1,89 @@
+// Lists of slots.
+ghost use Rattle.std.specs.Prelude.{◌≡◌, ◌<◌, ◌+◌, ◌++◌, [], ◌∷◌, IfOk, OnOk, map};
+ghost use Rattle.std.specs.List.{range_with_len};
+ghost use Rattle.rule_book.specs.MatchFacts.{players_in};
+ghost use Rattle.season_book.specs.Commands.{club_ids};
+ghost use Rattle.record_codec.specs.declared.slot.Slot.TheVariants as slot;
+
+use fpl_base::{ClubId, Memory, Name, PlayerId};
+use record_codec::Slot;
+use rule_book::Line;
+use std::alloc::Global;
+
+// One slot.
+pub fn one(alloc: Global, slot: Slot) -> Result<Vec<Slot>, Memory>
+    ensures { IfOk result (λ slots. slots.items ≡ slot ∷ []) }
+{
+    let mut slots = Vec::new(alloc);
+    slots.push(slot)?;
+    Ok(slots)
+}
+
+// Two slots.
+pub fn two(alloc: Global, first: Slot, second: Slot) -> Result<Vec<Slot>, Memory>
+    ensures { IfOk result (λ slots. slots.items ≡ first ∷ second ∷ []) }
+{
+    let mut slots = one(alloc, first)?;
+    slots.push(second)?;
+    Ok(slots)
+}
+
+// Three slots.
+pub fn three(alloc: Global, first: Slot, second: Slot, third: Slot) -> Result<Vec<Slot>, Memory>
+    ensures { IfOk result (λ slots. slots.items ≡ first ∷ second ∷ third ∷ []) }
+{
+    let mut slots = two(alloc, first, second)?;
+    slots.push(third)?;
+    Ok(slots)
+}
+
+// Those of clubs, behind others.
+pub fn add_clubs(slots: &mut Vec<Slot>, clubs: &[(ClubId, Name)]) -> Result<(), Memory>
+    ensures { OnOk result (slots.new.items ≡ slots.old.items ++ map slot.Club (club_ids clubs.now)) }
+{
+    'clubs: for club in clubs {
+        slots.push(Slot::Club(u32::from(club.0.get())))?;
+    }
+    Ok(())
+}
+
+// Those of the lines of players in a fixture, behind others.
+pub fn add_players(slots: &mut Vec<Slot>, fixture: u32, players: &[PlayerId]) -> Result<(), Memory>
+    ensures { OnOk result (slots.new.items ≡ slots.old.items ++ map (slot.Line fixture) players.now) }
+{
+    'players: for player in players {
+        slots.push(Slot::Line(fixture, player.get()))?;
+    }
+    Ok(())
+}
+
+// Those of lines in a fixture, behind others.
+pub fn add_lines(
+    slots: &mut Vec<Slot>,
+    fixture: u32,
+    lines: &[(PlayerId, Line)],
+) -> Result<(), Memory>
+    ensures { OnOk result (slots.new.items ≡ slots.old.items ++ map (slot.Line fixture) (players_in lines.now)) }
+{
+    'lines: for line in lines {
+        slots.push(Slot::Line(fixture, line.0.get()))?;
+    }
+    Ok(())
+}
+
+// Those of so many transfers of an entry in a gameweek from a number on, behind others.
+pub fn add_transfers(
+    slots: &mut Vec<Slot>,
+    entry: u32,
+    gameweek: u32,
+    first: u32,
+    count: u32,
+) -> Result<(), Memory>
+    requires { first + count < 4294967296 }
+    ensures { OnOk result (slots.new.items ≡ slots.old.items ++ map (slot.Transfer entry gameweek) (range_with_len first count)) }
+{
+    'numbers: for number in first..first + count {
+        slots.push(Slot::Transfer(entry, gameweek, number))?;
+    }
+    Ok(())
+}

@@ -1,0 +1,4 @@
+pub mod Each
+pub mod LockFacts
+pub mod ReadFacts
+pub mod StayFacts

@@ -1,0 +1,7 @@
+use Rattle.std.proofs.Common.{take}
+use Rattle.std.specs.List.{All}
+use Rattle.record_codec.specs.Ranges.{IsId}
+use Rattle.season_items.proofs.lists.order.Given as goal
+
+abbrev pub invariant-entries : goal.invariant-entries
+invariant-entries l = All IsId (take l.entry-index l.entries)

@@ -1,0 +1,7 @@
+use Rattle.std.proofs.Common.{take}
+use Rattle.std.specs.List.{All}
+use Rattle.record_codec.specs.Ranges.{IsPlayer}
+use Rattle.season_items.proofs.lists.players.Given as goal
+
+abbrev pub invariant-players : goal.invariant-players
+invariant-players l = All IsPlayer (take l.player-index l.players)

@@ -1,0 +1,5 @@
+pub mod EntriesTold
+pub mod Made
+pub mod Read
+pub mod RowsStand
+pub mod RowsTold
