@@ -1,6 +1,3 @@
-pub mod AnswerFacts
-pub mod HostFacts
-pub mod LastFacts
-pub mod MoneyFacts
-pub mod RuledFacts
-pub mod StepFacts
+pub mod CommandAnswers
+pub mod Begun
+pub mod Refused

@@ -1,3 +1,1 @@
-pub mod Accepting
-pub mod EntryLaws
-pub mod Standing
+pub mod Accepted

@@ -1,26 +1,19 @@
 // The host of a season.
-ghost use Rattle.std.specs.Prelude.{◌≡◌, ◌≢◌, ◌≤◌, Some, IfErr, MatchResult, IsOk};
-ghost use Rattle.rule_book.specs.Refusals.{IsJudged};
-ghost use Rattle.season_book.specs.Book.{Book, last_number};
-ghost use Rattle.season_book.specs.Commands.{IsCommand};
-ghost use Rattle.season_book.specs.Doing.{IsOutLate, IsShown, IsStoreless, MayAnswerIn};
+ghost use Rattle.std.specs.Prelude.{◌≡◌, ◌≢◌, MatchResult, IsOk};
+ghost use Rattle.season_book.specs.Book.{Book};
+ghost use Rattle.season_book.specs.Doing.{IsOutLate, IsStoreless};
 ghost use Rattle.season_book.specs.Hosts.{IsRequest, caller_with, owner_of};
-ghost use Rattle.season_book.specs.Verdict.{Failures, MayAnswer, fact_shown, number_refusal, pass, view_answer};
+ghost use Rattle.season_book.specs.Verdict.{Failures, MayAnswer, pass};
 ghost use Rattle.season_book.specs.declared.answer.Answer.TheVariants as answer_of;
-ghost use Rattle.season_book.specs.declared.request.Request.TheVariants as request_of;
 ghost use Rattle.season_isolation.specs.Isolation.{ToldAlike};
-ghost use Rattle.season_host.specs.Accepting.{IsAccepted};
-ghost use Rattle.season_host.specs.EntryLaws.{IsOrderlyHost};
-ghost use Rattle.season_host.specs.Standing.{Follows, StandsIn, empty_rows, keys_in, number_at, passed};
+ghost use Rattle.season_running.specs.EntryLaws.{IsOrderlyHost};
+ghost use Rattle.season_running.specs.Standing.{Follows, StandsIn, empty_rows, keys_in, number_at};
 
-use crate::accept::{accept, begin};
-use crate::lasts::Lasts;
-use crate::running::RunningSeason;
-use fpl_base::{Caller, Keeper, Key, Memory, Moment, RecordKey, Rule, Steps};
-use season_book::{Answer, Command, Made, Request, View};
-use season_facts::Season;
+use crate::house::House;
+use fpl_base::{Caller, Keeper, Key, Memory, Moment, RecordKey, Steps};
+use season_book::{Answer, Request};
 use season_isolation::answers_are_isolated;
-use season_views::show;
+use season_running::Lasts;
 use std::alloc::Global;
 use std::marker::Model;
 use std::sync::ledger::Ledger;
@@ -40,18 +33,15 @@ pub enum OpenFault {
 /// stands for (`StandsIn`).
 #[derive(Drop)]
 pub struct Host {
-    alloc: Global,
-    operator: Key,
-    running: Option<RunningSeason>,
-    lasts: Lasts,
+    house: House,
 }
 
 impl Model for Host {
-    ghost use Rattle.season_host.specs.Standing.{HostRows, host_rows};
+    ghost use Rattle.season_running.specs.Standing.{HostRows};
 
     ghost Value = { HostRows };
 
-    ghost view = { λ h. host_rows h.operator h.running h.lasts };
+    ghost view = { λ h. h.house };
 }
 
 impl Host {
@@ -67,10 +57,7 @@ impl Host {
     {
         match operator.copy() {
             Ok(operator) => Ok(Host {
-                alloc,
-                operator,
-                running: None,
-                lasts: Lasts::new(alloc),
+                house: House::new(alloc, operator, None, Lasts::new(alloc)),
             }),
             Err(Memory) => Err(OpenFault::Memory),
         }
@@ -99,20 +86,14 @@ impl Host {
     pub fn owner_of(&self, bytes: &[u8]) -> Option<Caller>
         ensures { result ≡ owner_of self.now.operator (keys_in self.now) bytes.now }
     {
-        if self.operator.bytes() == bytes {
-            return Some(Caller::Operator);
-        }
-        match &self.running {
-            Some(running) => running.owner_of(bytes),
-            None => None,
-        }
+        self.house.owner_of(bytes)
     }
 
     /// The number of a caller's last accepted command; 0 where he had none accepted.
     pub fn last(&self, caller: Caller) -> u64
         ensures { result ≡ number_at self.now.lasts caller }
     {
-        self.lasts.number(&caller)
+        self.house.last(caller)
     }
 
     /// A law: every host is orderly, so what `rows_tell_histories`, `money_is_recorded` and `batches_move_money` say holds in
@@ -120,9 +101,7 @@ impl Host {
     pub fn keeps_order(&self)
         ensures { IsOrderlyHost self.now }
     {
-        if let Some(running) = &self.running {
-            running.keeps_order();
-        }
+        self.house.keeps_order();
     }
 
     /// Answers a request of a caller at a moment. `Answer::Memory` comes only where nothing refuses the request; the
@@ -164,137 +143,15 @@ impl Host {
         ensures operator { self.new.operator ≡ self.old.operator }
         ensures storeless { IsStoreless result }
     {
-        self.pass(now);
+        let _locks = self.house.pass(now);
         match request {
-            Request::View(view) => self.answer_view(&caller, *view, steps),
+            Request::View(view) => self.house.answer_view(&caller, *view, steps),
             Request::Command { number, command } => {
-                self.answer_command(&caller, now, *number, command, steps)
+                let answered = self
+                    .house
+                    .answer_command(&caller, now, *number, command, steps);
+                answered.answer
             }
         }
-    }
-
-    // Locks the gameweeks whose deadlines have passed.
-    fn pass(&mut self, now: Moment)
-        ensures { self.new ≡ passed now self.old }
-    {
-        match &mut self.running {
-            Some(running) => running.pass(now),
-            None => {}
-        }
-    }
-
-    fn answer_view<L: Ledger>(&self, caller: &Caller, view: View, steps: &mut Steps<L>) -> Answer
-        ensures shown { (book : Book) → StandsIn self.now book → IsShown (view_answer book caller.now view) result }
-        ensures storeless { IsStoreless result }
-    {
-        let Some(running) = &self.running else {
-            return Answer::Rule(Rule::NoSeason);
-        };
-        match view {
-            View::Me => running.my_entry(caller, self.lasts.number(caller), steps),
-            View::EntryGameweek { entry, gameweek } => {
-                running.entry_gameweek(entry, gameweek, steps)
-            }
-            View::League { league } => running.league(self.alloc, league, steps),
-            View::Cup { cup } => running.cup(self.alloc, cup, steps),
-            View::Season
-            | View::Player { .. }
-            | View::PlayerGameweek { .. }
-            | View::Fixture { .. } => answer_shown(self.alloc, running.season(), view, steps),
-        }
-    }
-
-    fn answer_command<L: Ledger>(
-        &mut self,
-        caller: &Caller,
-        now: Moment,
-        number: u64,
-        command: &Command,
-        steps: &mut Steps<L>,
-    ) -> Answer
-        requires numbered { 1 ≤ number }
-        requires command { IsCommand command.now }
-        ensures answered { Follows self.old self.new (λ book after. MayAnswerIn self.old.operator book caller.now now (request_of.Command number command.now) result after) }
-        ensures late { (book : Book) → StandsIn self.old book → IsOutLate self.old.operator book caller.now now (request_of.Command number command.now) result }
-        ensures operator { self.new.operator ≡ self.old.operator }
-        ensures storeless { IsStoreless result }
-    {
-        match self.lasts.repeated(caller, number, command) {
-            Some(made) => Answer::Done { number, made },
-            None => match judge_number(self.lasts.number(caller), number) {
-                Err(rule) => Answer::Rule(rule),
-                Ok(()) => match self.accept(caller, now, number, command, steps) {
-                    Ok(made) => Answer::Done { number, made },
-                    Err(refused) => refused,
-                },
-            },
-        }
-    }
-
-    // Judges a command whose number is the next one of its caller, and does it.
-    fn accept<L: Ledger>(
-        &mut self,
-        caller: &Caller,
-        now: Moment,
-        number: u64,
-        command: &Command,
-        steps: &mut Steps<L>,
-    ) -> Result<Made, Answer>
-        requires { IsCommand command.now }
-        ensures accepted { IsAccepted self.old self.new caller.now now number command.now result }
-        ensures operator { self.new.operator ≡ self.old.operator }
-        ensures storeless { IfErr result IsStoreless }
-    {
-        match &mut self.running {
-            Some(running) => accept(
-                running,
-                &mut self.lasts,
-                &self.operator,
-                caller,
-                now,
-                number,
-                command,
-                steps,
-            ),
-            None => match begin(self.alloc, &mut self.lasts, caller, now, number, command) {
-                Ok(running) => {
-                    self.running = Some(running);
-                    Ok(Made::Nothing)
-                }
-                Err(refused) => Err(refused),
-            },
-        }
-    }
-}
-
-// What a view of a season gets.
-fn answer_shown<L: Ledger>(
-    alloc: Global,
-    season: &Season,
-    view: View,
-    steps: &mut Steps<L>,
-) -> Answer
-    ensures { IsShown (fact_shown (Some season.now) view) result }
-{
-    match show(alloc, season, view, steps) {
-        Ok(Some(shown)) => Answer::Shown(shown),
-        Ok(None) => Answer::Unknown,
-        Err(Memory) => Answer::Memory,
-    }
-}
-
-// What is wrong with a command's number behind its caller's last one.
-fn judge_number(last: u64, number: u64) -> Result<(), Rule>
-    requires { 1 ≤ number }
-    ensures { IsJudged (number_refusal last number) result }
-{
-    if number - 1 == last {
-        Ok(())
-    } else if number < last {
-        Err(Rule::NumberOld { last })
-    } else if number == last {
-        Err(Rule::NumberUsed { last })
-    } else {
-        Err(Rule::NumberGap { last })
     }
 }

@@ -1,4 +1,0 @@
-use Rattle.season_host.proofs.accept.change.Goals as goal
-
-pub returns-in-Ok : goal.returns-in-Ok
-returns-in-Ok c = (c.made_by-made.ensures, c.in-Ok.ensures.done, c.in_ok-before.ensures.0)

@@ -1,6 +1,0 @@
-use Rattle.season_book.specs.Views.{shown_of}
-use Rattle.season_host.proofs.AnswerFacts.{shown_grants}
-use Rattle.season_host.proofs.host.answer_shown.Goals as goal
-
-pub returns-in-Err : goal.returns-in-Err
-returns-in-Err g c = shown_grants (shown_of c.args.season.now c.args.view) c.in-Err.ensures.out

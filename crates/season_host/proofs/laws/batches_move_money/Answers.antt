@@ -1,5 +1,0 @@
-use Rattle.season_host.proofs.MoneyFacts.{batches_move}
-use Rattle.season_host.proofs.laws.batches_move_money.Goals as goal
-
-pub returns : goal.returns
-returns c = batches_move

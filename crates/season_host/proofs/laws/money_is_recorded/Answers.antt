@@ -1,5 +1,0 @@
-use Rattle.season_host.proofs.MoneyFacts.{money_recorded}
-use Rattle.season_host.proofs.laws.money_is_recorded.Goals as goal
-
-pub returns : goal.returns
-returns c = money_recorded

@@ -1,5 +1,0 @@
-use Rattle.season_host.proofs.MoneyFacts.{rows_tell_all}
-use Rattle.season_host.proofs.laws.rows_tell_histories.Goals as goal
-
-pub returns : goal.returns
-returns c = rows_tell_all

@@ -1,0 +1,52 @@
+-- What a command that was done in memory leaves, and which records it may have changed.
+use Rattle.std.specs.Prelude.{◌≡◌, ◌⊎◌, ℕ, List, [], None, Result, Ok, Err}
+use Rattle.fpl_base.specs.declared.kinds.Caller.{Caller}
+use Rattle.season_book.specs.Book.{Book, Last}
+use Rattle.season_book.specs.Doing.{IsRefused, MayAnswerIn}
+use Rattle.season_book.specs.Verdict.{Outcome, accepted, judged, ruled}
+use Rattle.season_book.specs.declared.answer.Answer.{Answer}
+use Rattle.season_book.specs.declared.answer.Answer.TheVariants as answer
+use Rattle.season_book.specs.declared.command.Command.{Command}
+use Rattle.season_book.specs.declared.made.Made.{Made}
+use Rattle.season_book.specs.declared.request.Request.TheVariants as request
+use Rattle.season_book.specs.declared.made.Made.TheVariants as made
+use Rattle.record_codec.specs.declared.slot.Slot.{Slot}
+use Rattle.season_records.specs.Touched.{touched}
+use Rattle.season_running.specs.Accepting.{IsNew, kept_last}
+use Rattle.season_host.specs.declared.accepting.Begun.{Begun}
+use Rattle.season_host.specs.declared.accepting.Done.{Done}
+
+-- what was made, without the slots
+abbrev pub made_in : Result Done Answer → Result Made Answer
+made_in (Ok done) = Ok done.made
+made_in (Err reply) = Err reply
+
+-- the answer to a command of a number that was done, or refused, and the slots that were touched
+abbrev pub answer_from : ℕ → Result Done Answer → Answer
+answer_from number (Ok done) = answer.Done number done.made
+answer_from number (Err reply) = reply
+
+abbrev pub slots_from : Result Done Answer → List Slot
+slots_from (Ok done) = done.slots.items
+slots_from (Err reply) = []
+
+-- a command began a new season and was kept, or it was refused, or memory ran out
+abbrev pub IsBegunAndKept : Caller → ℕ → ℕ → Command → List (ℕ × Last) → List (ℕ × Last) → Result Begun Answer → Type 0
+IsBegunAndKept caller now number command old new (Ok begun) =
+    (judged None now command ≡ Ok begun.running.facts) × IsNew begun.running
+    × (new ≡ kept_last old caller number command made.Nothing)
+IsBegunAndKept caller now number command old new (Err reply) =
+    (new ≡ old) × IsRefused (judged None now command) reply
+
+-- a command changes nothing, and no slots are touched; or it was accepted, and those are that it touches
+abbrev pub Changes : List ℕ → Book → Caller → ℕ → ℕ → Command → List Slot → Book → Type 0
+Changes operator book caller now number command slots after =
+    ((slots ≡ []) × (after ≡ book))
+    ⊎ ((outcome : Outcome) × (ruled operator book caller now command ≡ Ok outcome) × (after ≡ accepted caller number command outcome)
+    × (slots ≡ touched book caller command))
+
+-- what may be answered to a command, with the slots that are touched and the book behind it
+abbrev pub MayEndIn : List ℕ → Book → Caller → ℕ → ℕ → Command → Answer → List Slot → Book → Type 0
+MayEndIn operator book caller now number command reply slots after =
+    MayAnswerIn operator book caller now (request.Command number command) reply after
+    × Changes operator book caller now number command slots after

@@ -1,0 +1,280 @@
+// What a host keeps in memory, and its answers by that alone.
+ghost use Rattle.std.specs.Prelude.{◌≡◌, ◌≤◌, [], Some, false, IfErr, IfOk, IfSome};
+ghost use Rattle.rule_book.specs.Calendar.{after_pass};
+ghost use Rattle.rule_book.specs.Refusals.{IsJudged};
+ghost use Rattle.season_book.specs.Book.{Book};
+ghost use Rattle.season_book.specs.Commands.{IsCommand};
+ghost use Rattle.season_book.specs.Doing.{IsOutLate, IsShown, IsStoreless};
+ghost use Rattle.season_book.specs.Hosts.{owner_of};
+ghost use Rattle.season_book.specs.Verdict.{fact_shown, number_refusal, view_answer};
+ghost use Rattle.season_book.specs.declared.request.Request.TheVariants as request_of;
+ghost use Rattle.season_records.specs.Touched.{batch, touched};
+ghost use Rattle.season_rows.specs.RowsTold.{told_by};
+ghost use Rattle.season_running.specs.Accepting.{IsAccepted};
+ghost use Rattle.season_running.specs.EntryLaws.{IsOrderlyHost};
+ghost use Rattle.season_running.specs.Standing.{Follows, StandsIn, host_rows, keys_in, number_at, passed};
+ghost use Rattle.season_host.specs.Accepted.{MayEndIn, answer_from, made_in, slots_from};
+
+use crate::accepting::{Done, accept, begin};
+use fpl_base::{Caller, Key, Memory, Moment, Op, Rule, Steps};
+use record_codec::Slot;
+use season_batches::batch_of;
+use season_book::{Answer, Command, Made, View};
+use season_facts::Season;
+use season_running::{Lasts, RunningSeason};
+use season_views::show;
+use std::alloc::Global;
+use std::marker::Model;
+use std::sync::ledger::Ledger;
+
+/// What a host keeps in memory: whose key it is, the season once one was begun, and each caller's last command. A contract
+/// sees its rows, and the books that they stand for (`StandsIn`).
+#[derive(Drop)]
+pub struct House {
+    alloc: Global,
+    operator: Key,
+    running: Option<RunningSeason>,
+    lasts: Lasts,
+}
+
+impl Model for House {
+    ghost use Rattle.season_running.specs.Standing.{HostRows, host_rows};
+
+    ghost Value = { HostRows };
+
+    ghost view = { λ h. host_rows h.operator h.running h.lasts };
+}
+
+/// An answer to a command, and the slots of the records that it may have changed.
+#[derive(Drop)]
+pub struct Answered {
+    pub answer: Answer,
+    pub slots: Vec<Slot>,
+}
+
+// An answer that changes nothing.
+fn unchanged(alloc: Global, answer: Answer) -> Answered
+    ensures { (result.answer ≡ answer) × (result.slots.items ≡ []) }
+{
+    Answered {
+        answer,
+        slots: Vec::new(alloc),
+    }
+}
+
+// The answer to a command of a number that was done, or refused.
+fn answer_to(alloc: Global, number: u64, done: Result<Done, Answer>) -> Answered
+    ensures { (result.answer ≡ answer_from number done) × (result.slots.items ≡ slots_from done) }
+{
+    match done {
+        Ok(done) => Answered {
+            answer: Answer::Done {
+                number,
+                made: done.made,
+            },
+            slots: done.slots,
+        },
+        Err(refused) => unchanged(alloc, refused),
+    }
+}
+
+impl House {
+    /// With this operator's key, this season and these last commands.
+    pub fn new(alloc: Global, operator: Key, running: Option<RunningSeason>, lasts: Lasts) -> Self
+        ensures { result ≡ host_rows operator running lasts }
+    {
+        House {
+            alloc,
+            operator,
+            running,
+            lasts,
+        }
+    }
+
+    /// Takes this season and these last commands in place of its own.
+    pub fn replace(&mut self, running: Option<RunningSeason>, lasts: Lasts)
+        ensures { self.new ≡ host_rows self.old.operator running lasts }
+    {
+        self.running = running;
+        self.lasts = lasts;
+    }
+
+    /// Whose key these bytes are; `None` where nobody has it, and so where they are no key. It takes no memory.
+    pub fn owner_of(&self, bytes: &[u8]) -> Option<Caller>
+        ensures { result ≡ owner_of self.now.operator (keys_in self.now) bytes.now }
+    {
+        if self.operator.bytes() == bytes {
+            return Some(Caller::Operator);
+        }
+        match &self.running {
+            Some(running) => running.owner_of(bytes),
+            None => None,
+        }
+    }
+
+    /// The number of a caller's last accepted command; 0 where he had none accepted.
+    pub fn last(&self, caller: Caller) -> u64
+        ensures { result ≡ number_at self.now.lasts caller }
+    {
+        self.lasts.number(&caller)
+    }
+
+    /// A law: the players are lawful, and nothing was done in a gameweek behind the next one or the last.
+    pub fn keeps_order(&self)
+        ensures { IsOrderlyHost self.now }
+    {
+        if let Some(running) = &self.running {
+            running.keeps_order();
+        }
+    }
+
+    /// Locks the gameweeks whose deadlines have passed; whether one more is locked.
+    pub fn pass(&mut self, now: Moment) -> bool
+        ensures rows { self.new ≡ passed now self.old }
+        ensures none { result ≡ false → IfSome self.old.facts (λ facts. (after_pass facts.calendar now).locked ≡ facts.calendar.locked) }
+    {
+        match &mut self.running {
+            Some(running) => {
+                let before = running.season().calendar().locked();
+                running.pass(now);
+                running.season().calendar().locked() != before
+            }
+            None => false,
+        }
+    }
+
+    /// What is committed of these slots, as the rows tell them. It takes memory.
+    pub fn batch(&self, slots: &[Slot]) -> Result<Vec<Op>, Memory>
+        ensures { IfOk result (λ ops. ops.items ≡ batch (told_by self.now) slots.now) }
+    {
+        batch_of(self.alloc, &self.running, &self.lasts, slots)
+    }
+
+    /// The answer to a view.
+    pub fn answer_view<L: Ledger>(
+        &self,
+        caller: &Caller,
+        view: View,
+        steps: &mut Steps<L>,
+    ) -> Answer
+        ensures shown { (book : Book) → StandsIn self.now book → IsShown (view_answer book caller.now view) result }
+        ensures storeless { IsStoreless result }
+    {
+        let Some(running) = &self.running else {
+            return Answer::Rule(Rule::NoSeason);
+        };
+        match view {
+            View::Me => running.my_entry(caller, self.lasts.number(caller), steps),
+            View::EntryGameweek { entry, gameweek } => {
+                running.entry_gameweek(entry, gameweek, steps)
+            }
+            View::League { league } => running.league(self.alloc, league, steps),
+            View::Cup { cup } => running.cup(self.alloc, cup, steps),
+            View::Season
+            | View::Player { .. }
+            | View::PlayerGameweek { .. }
+            | View::Fixture { .. } => answer_shown(self.alloc, running.season(), view, steps),
+        }
+    }
+
+    /// The answer to a command, once the gameweeks of its moment are locked. `Answer::Memory` comes only where nothing
+    /// refuses the command, and leaves all as it was.
+    pub fn answer_command<L: Ledger>(
+        &mut self,
+        caller: &Caller,
+        now: Moment,
+        number: u64,
+        command: &Command,
+        steps: &mut Steps<L>,
+    ) -> Answered
+        requires numbered { 1 ≤ number }
+        requires command { IsCommand command.now }
+        ensures answered { Follows self.old self.new (λ book after. MayEndIn self.old.operator book caller.now now number command.now result.answer result.slots.items after) }
+        ensures late { (book : Book) → StandsIn self.old book → IsOutLate self.old.operator book caller.now now (request_of.Command number command.now) result.answer }
+        ensures operator { self.new.operator ≡ self.old.operator }
+        ensures storeless { IsStoreless result.answer }
+    {
+        match self.lasts.repeated(caller, number, command) {
+            Some(made) => unchanged(self.alloc, Answer::Done { number, made }),
+            None => match judge_number(self.lasts.number(caller), number) {
+                Err(rule) => unchanged(self.alloc, Answer::Rule(rule)),
+                Ok(()) => {
+                    let done = self.accept(caller, now, number, command, steps);
+                    answer_to(self.alloc, number, done)
+                }
+            },
+        }
+    }
+
+    // Judges a command whose number is the next one of its caller, and does it.
+    fn accept<L: Ledger>(
+        &mut self,
+        caller: &Caller,
+        now: Moment,
+        number: u64,
+        command: &Command,
+        steps: &mut Steps<L>,
+    ) -> Result<Done, Answer>
+        requires { IsCommand command.now }
+        ensures accepted { IsAccepted self.old self.new caller.now now number command.now (made_in result) }
+        ensures touched { IfOk result (λ done. (book : Book) → StandsIn self.old book → done.slots.items ≡ touched book caller.now command.now) }
+        ensures operator { self.new.operator ≡ self.old.operator }
+        ensures storeless { IfErr result IsStoreless }
+    {
+        match &mut self.running {
+            Some(running) => accept(
+                self.alloc,
+                running,
+                &mut self.lasts,
+                &self.operator,
+                caller,
+                now,
+                number,
+                command,
+                steps,
+            ),
+            None => match begin(self.alloc, &mut self.lasts, caller, number, command) {
+                Ok(begun) => {
+                    self.running = Some(begun.running);
+                    Ok(Done {
+                        made: Made::Nothing,
+                        slots: begun.slots,
+                    })
+                }
+                Err(refused) => Err(refused),
+            },
+        }
+    }
+}
+
+// What a view of a season gets.
+fn answer_shown<L: Ledger>(
+    alloc: Global,
+    season: &Season,
+    view: View,
+    steps: &mut Steps<L>,
+) -> Answer
+    ensures { IsShown (fact_shown (Some season.now) view) result }
+{
+    match show(alloc, season, view, steps) {
+        Ok(Some(shown)) => Answer::Shown(shown),
+        Ok(None) => Answer::Unknown,
+        Err(Memory) => Answer::Memory,
+    }
+}
+
+// What is wrong with a command's number behind its caller's last one.
+fn judge_number(last: u64, number: u64) -> Result<(), Rule>
+    requires { 1 ≤ number }
+    ensures { IsJudged (number_refusal last number) result }
+{
+    if number - 1 == last {
+        Ok(())
+    } else if number < last {
+        Err(Rule::NumberOld { last })
+    } else if number == last {
+        Err(Rule::NumberUsed { last })
+    } else {
+        Err(Rule::NumberGap { last })
+    }
+}

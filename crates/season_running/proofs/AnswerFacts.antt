@@ -1,0 +1,196 @@
+-- From a command that was done and kept to what may be answered.
+use Rattle.std.proofs.Common.{◌≡◌, ℕ, Bool, true, false, if◌then◌else◌, List, Option, Some, None, refl, sym, ap, subst, ◌∙◌, inl, inr}
+use Rattle.std.specs.Prelude.{Result, Ok, Err, IfErr, IsOk, IsSome, is_some}
+use Rattle.std.proofs.lemmas.Bool.{false≢true}
+use Rattle.std.proofs.lemmas.Option.{none-some, same_Some}
+use Rattle.std.specs.Option.{option_map, option_map_or}
+use Rattle.fpl_base.specs.declared.kinds.Caller.{Caller}
+use Rattle.fpl_base.specs.declared.rule.Rule.{Rule}
+use Rattle.fpl_base.specs.declared.rule.Rule.TheVariants as rule
+use Rattle.rule_book.specs.declared.cup.Bracket.{Bracket}
+use Rattle.rule_book.specs.Calendar.{deadlines_order}
+use Rattle.rule_book.specs.Leagues.{LeagueFacts}
+use Rattle.manager_book.specs.declared.manager.Manager.{Manager}
+use Rattle.season_book.specs.Book.{Book, Facts, last_number}
+use Rattle.season_book.specs.declared.command.Command.{Command}
+use Rattle.season_book.specs.declared.made.Made.{Made}
+use Rattle.season_book.specs.Commands.{are_there, begun_by, changed_by, refusal_of}
+use Rattle.season_book.specs.Doing.{IsGrant, IsGranted, IsGrantedIn, IsOutLate, IsRefused, IsShown, IsStoreless, IsWeighed, MayAnswerIn}
+use Rattle.season_book.specs.EntryCommands.{names_players}
+use Rattle.season_book.specs.LeagueCommands.{cup_broken, cup_drawn, cup_there, league_refusal, leagues_there}
+use Rattle.season_book.specs.Verdict.{Failures, IsRepeat, MayAnswer, Outcome, Verdict, accepted, begun, fresh_verdict, judged, number_refusal, pass, ruled, settled, shown_or_unknown, unless_misnumbered, unless_refused, view_answer}
+use Rattle.season_book.specs.declared.answer.Answer.{Answer}
+use Rattle.season_book.specs.declared.answer.Answer.TheVariants as answer
+use Rattle.season_book.specs.declared.request.Request.{Request}
+use Rattle.season_book.specs.declared.request.Request.TheVariants as request
+use Rattle.season_book.specs.declared.request.View.{View}
+use Rattle.season_book.specs.declared.shown.Shown.{Shown}
+use Rattle.season_competitions.specs.Cups.{cup_answer_by, draw_answer}
+use Rattle.season_competitions.specs.Leagues.{league_answer_by}
+use Rattle.season_entries.specs.Deeds.{IsAnswered, deed_answer}
+use Rattle.season_entries.specs.Known.{is_issued_by, is_registered_by}
+use Rattle.season_running.specs.Accepting.{IsRefusal}
+
+-- a command is refused by a rule or an id that is not there
+
+abbrev Rules : {T : Type 0} → Result T Answer → Type 0
+Rules verdict = IfErr verdict IsRefusal
+
+chosen : (b : Bool) (x y : Result Facts Answer) → Rules x → Rules y → Rules (if b then x else y)
+chosen true x y px py = px
+chosen false x y px py = py
+
+rules_unless : (broken : Option Rule) (facts : Facts) → Rules (unless_refused broken facts)
+rules_unless None facts = tt
+rules_unless (Some rule) facts = tt
+
+rules_begun : (facts : Option Facts) → Rules (begun facts)
+rules_begun None = tt
+rules_begun (Some facts) = rules_unless (deadlines_order facts.calendar.deadlines) facts
+
+pub rules_judged : (facts : Option Facts) (now : ℕ) (command : Command) → Rules (judged facts now command)
+rules_judged None now command = rules_begun (begun_by command)
+rules_judged (Some facts) now command =
+    let behind = unless_refused (refusal_of facts now command) (changed_by facts command) in
+    chosen (is_some (begun_by command)) (Err (answer.Rule rule.SeasonThere)) (if are_there facts command then behind else Err answer.Unknown) tt
+    (chosen (are_there facts command) behind (Err answer.Unknown) (rules_unless (refusal_of facts now command) (changed_by facts command)) tt)
+
+-- so no refusal speaks of a store
+pub storeless_refused : (verdict : Result Facts Answer) (reply : Answer) → Rules verdict → IsRefused verdict reply → IsStoreless reply
+storeless_refused verdict (answer.Done number made) rules refused = tt
+storeless_refused verdict (answer.Shown shown) rules refused = tt
+storeless_refused verdict (answer.Rule rule) rules refused = tt
+storeless_refused verdict answer.Unknown rules refused = tt
+storeless_refused verdict answer.Keeper rules refused = subst Rules refused rules
+storeless_refused verdict (answer.Damaged key) rules refused = subst Rules refused rules
+storeless_refused verdict answer.Memory rules refused = tt
+
+pub storeless_refusal : (reply : Answer) → IsRefusal reply → IsStoreless reply
+storeless_refusal (answer.Done number made) rules = absurd rules
+storeless_refusal (answer.Shown shown) rules = absurd rules
+storeless_refusal (answer.Rule rule) rules = tt
+storeless_refusal answer.Unknown rules = tt
+storeless_refusal answer.Keeper rules = absurd rules
+storeless_refusal (answer.Damaged key) rules = absurd rules
+storeless_refusal answer.Memory rules = absurd rules
+
+-- nor of memory
+pub refused_as : {T : Type 0} (verdict : Result T Answer) (reply : Answer) → IsRefusal reply → verdict ≡ Err reply → IsRefused verdict reply
+refused_as verdict (answer.Done number made) rules is = is
+refused_as verdict (answer.Shown shown) rules is = is
+refused_as verdict (answer.Rule rule) rules is = is
+refused_as verdict answer.Unknown rules is = is
+refused_as verdict answer.Keeper rules is = is
+refused_as verdict (answer.Damaged key) rules is = is
+refused_as verdict answer.Memory rules is = absurd rules
+
+-- what is weighed, or judged by a manager's rows, is refused so
+pub weighed_refusal : {T : Type 0} (facts : Facts) (now : ℕ) (command : Command) (result : Result T Answer) → IsWeighed facts now command result → IfErr result IsRefusal
+weighed_refusal facts now command (Ok value) granted = tt
+weighed_refusal facts now command (Err reply) is = subst Rules is (rules_judged (Some facts) now command)
+
+pub deed_refusal_is : {T : Type 0} (facts : Facts) (broken : Option Rule) (command : Command) (result : Result T Answer)
+    → IsAnswered (deed_answer facts broken command) result → IfErr result IsRefusal
+deed_refusal_is facts broken command (Ok value) a = tt
+deed_refusal_is facts broken command (Err reply) a = by_names (names_players facts command) broken a
+  where
+    by_names : (names : Bool) (broken : Option Rule) → (if names then option_map answer.Rule broken else Some answer.Unknown) ≡ Some reply → IsRefusal reply
+    by_names true None e = absurd (none-some reply e)
+    by_names true (Some rule) e = subst IsRefusal (same_Some (answer.Rule rule) reply e) tt
+    by_names false broken e = subst IsRefusal (same_Some answer.Unknown reply e) tt
+
+-- so is a command on leagues, and the draw of a cup
+refusal_of_answer : (there : Bool) (broken : Option Rule) (reply : Answer) → (if there then option_map answer.Rule broken else Some answer.Unknown) ≡ Some reply → IsRefusal reply
+refusal_of_answer true None reply e = absurd (none-some reply e)
+refusal_of_answer true (Some rule) reply e = subst IsRefusal (same_Some (answer.Rule rule) reply e) tt
+refusal_of_answer false broken reply e = subst IsRefusal (same_Some answer.Unknown reply e) tt
+
+pub league_refusal_is : {T : Type 0} (facts : Facts) (managers : List Manager) (leagues : List LeagueFacts) (e : ℕ) (command : Command) (result : Result T Answer)
+    → IsAnswered (league_answer_by facts managers leagues e command) result → IfErr result IsRefusal
+league_refusal_is facts managers leagues e command (Ok value) a = tt
+league_refusal_is facts managers leagues e command (Err reply) a =
+    refusal_of_answer (leagues_there facts (is_issued_by managers) leagues command) (league_refusal facts (is_registered_by managers e) leagues e command) reply a
+
+pub cup_refusal_is : {T : Type 0} (facts : Facts) (managers : List Manager) (count : ℕ) (command : Command) (result : Result T Answer)
+    → IsAnswered (cup_answer_by facts managers count command) result → IfErr result IsRefusal
+cup_refusal_is facts managers count command (Ok value) a = tt
+cup_refusal_is facts managers count command (Err reply) a = by_drawn (cup_drawn command) a
+  where
+    by_drawn : (drawn : Option Bracket) → option_map_or (draw_answer facts (is_issued_by managers) (is_registered_by managers) count) drawn (Some answer.Unknown) ≡ Some reply → IsRefusal reply
+    by_drawn None e = subst IsRefusal (same_Some answer.Unknown reply e) tt
+    by_drawn (Some b) e = refusal_of_answer (cup_there facts (is_issued_by managers) b) (cup_broken facts (is_registered_by managers) count b) reply e
+
+-- a command that nothing refuses leads to the facts that it changes
+pub granted_is : (facts : Facts) (now : ℕ) (command : Command) → IsGranted facts now command → judged (Some facts) now command ≡ Ok (changed_by facts command)
+granted_is facts now command granted =
+    ap (λ (o : Option Facts). if is_some o then Err (answer.Rule rule.SeasonThere)
+    else if are_there facts command then unless_refused (refusal_of facts now command) (changed_by facts command) else Err answer.Unknown) granted.begins_none
+    ∙ ap (λ b. if b then unless_refused (refusal_of facts now command) (changed_by facts command) else Err answer.Unknown) granted.there
+    ∙ ap (λ o. unless_refused o (changed_by facts command)) granted.unbroken
+
+-- the verdict on a command that is no repeat
+
+module _ (operator : List ℕ) (book : Book) (caller : Caller) (now number : ℕ) (command : Command)
+    (fresh : (made : Made) → IsRepeat book caller number command made → ⊥) where
+  abbrev due : Result Outcome Answer
+  due = ruled operator book caller now command
+
+  numbered : number_refusal (last_number book caller) number ≡ None → settled book caller number command due ≡ fresh_verdict operator book caller now number command
+  numbered none = ap (λ broken. unless_misnumbered broken book (settled book caller number command due)) (sym none)
+
+  pub done_answer : (outcome : Outcome) (what : Made) → number_refusal (last_number book caller) number ≡ None → due ≡ Ok outcome → outcome.made ≡ what
+      → MayAnswerIn operator book caller now (request.Command number command) (answer.Done number what) (accepted caller number command outcome)
+  done_answer outcome what none is makes =
+      let done : Made → Verdict = λ m. record { answer = answer.Done number m; book = accepted caller number command outcome } in
+      inl (inr (fresh, sym (ap done makes) ∙ sym (ap (settled book caller number command) is) ∙ numbered none))
+
+  -- memory runs out only where the command is judged well
+
+  granted_by : (verdict : Result Outcome Answer) → IsOk verdict → IsGrant (settled book caller number command verdict).answer
+  granted_by (Ok outcome) ok = tt
+  granted_by (Err refused) ok = absurd (false≢true ok)
+
+  granted_in : number_refusal (last_number book caller) number ≡ None → IsOk due → IsGrantedIn operator book caller now (request.Command number command)
+  granted_in none ok verdict (inl (made, again, same)) = subst (λ (v : Verdict). IsGrant v.answer) (sym same) tt
+  granted_in none ok verdict (inr (new, same)) = subst (λ (v : Verdict). IsGrant v.answer) (numbered none ∙ sym same) (granted_by due ok)
+
+  pub late_refused : number_refusal (last_number book caller) number ≡ None → (reply : Answer) → IsRefused due reply → IsOutLate operator book caller now (request.Command number command) reply
+  late_refused none (answer.Done number made) refused = tt
+  late_refused none (answer.Shown shown) refused = tt
+  late_refused none (answer.Rule rule) refused = tt
+  late_refused none answer.Unknown refused = tt
+  late_refused none answer.Keeper refused = tt
+  late_refused none (answer.Damaged key) refused = tt
+  late_refused none answer.Memory refused = granted_in none refused
+
+-- what is shown is no refusal
+pub shown_grants : (shown : Option Shown) → IsSome shown → IsGrant (shown_or_unknown shown)
+shown_grants None there = absurd (false≢true there)
+shown_grants (Some what) there = tt
+
+-- what may be answered in the book with the moment's locks may be answered in the book before
+pub may_answer : (operator : List ℕ) (failures : Failures) (book : Book) (caller : Caller) (now : ℕ) (asked : Request) (reply : Answer) (after : Book)
+    → MayAnswerIn operator (pass book now) caller now asked reply after → MayAnswer operator failures book caller now asked reply after
+may_answer operator failures book caller now asked reply after (inl verdict) = inl verdict
+may_answer operator failures book caller now asked reply after (inr (out, left)) = inr (inl out, inr (inl left))
+
+-- a view may be answered as it is shown
+pub view_answered : (operator : List ℕ) (failures : Failures) (book : Book) (caller : Caller) (now : ℕ) (view : View) (reply : Answer)
+    → IsShown (view_answer (pass book now) caller view) reply → MayAnswer operator failures book caller now (request.View view) reply (pass book now)
+view_answered operator failures book caller now view (answer.Done number made) is = inl (ap (λ (a : Answer). record { answer = a; book = pass book now }) is)
+view_answered operator failures book caller now view (answer.Shown shown) is = inl (ap (λ (a : Answer). record { answer = a; book = pass book now }) is)
+view_answered operator failures book caller now view (answer.Rule rule) is = inl (ap (λ (a : Answer). record { answer = a; book = pass book now }) is)
+view_answered operator failures book caller now view answer.Unknown is = inl (ap (λ (a : Answer). record { answer = a; book = pass book now }) is)
+view_answered operator failures book caller now view answer.Keeper is = absurd is
+view_answered operator failures book caller now view (answer.Damaged key) is = absurd is
+view_answered operator failures book caller now view answer.Memory is = inr (inl refl, inr (inl refl))
+
+pub view_late : (operator : List ℕ) (book : Book) (caller : Caller) (now : ℕ) (view : View) (reply : Answer)
+    → IsShown (view_answer book caller view) reply → IsOutLate operator book caller now (request.View view) reply
+view_late operator book caller now view (answer.Done number made) is = tt
+view_late operator book caller now view (answer.Shown shown) is = tt
+view_late operator book caller now view (answer.Rule rule) is = tt
+view_late operator book caller now view answer.Unknown is = tt
+view_late operator book caller now view answer.Keeper is = tt
+view_late operator book caller now view (answer.Damaged key) is = tt
+view_late operator book caller now view answer.Memory is = λ verdict same. subst (λ (v : Verdict). IsGrant v.answer) (sym same) is

@@ -1,0 +1,59 @@
+use Rattle.std.proofs.Common.{◌≡◌, ◌≤◌, ◌<◌, ◌∙◌, Some, ap, arith, length, refl, subst, sym}
+use Rattle.rule_book.specs.Entries.{entry_in}
+use Rattle.rule_book.specs.PlayerFigures.{position_in}
+use Rattle.rule_book.specs.Players.{ArePlayers}
+use Rattle.season_ledger.specs.Stands.{StandsFor}
+use Rattle.manager_book.specs.Managers.{season_of}
+use Rattle.season_book.specs.Book.{caller_number}
+use Rattle.season_book.specs.EntryViews.{gameweek_seen}
+use Rattle.season_book.specs.Verdict.{my_answer}
+use Rattle.fpl_base.specs.declared.rule.Rule.TheVariants as rule
+use Rattle.season_book.specs.declared.answer.Answer.{Answer}
+use Rattle.season_book.specs.declared.answer.Answer.TheVariants as answer
+use Rattle.season_book.specs.declared.shown.Shown.TheVariants as shown
+use Rattle.season_entries.proofs.Placing.{have_positions}
+use Rattle.season_entries.proofs.Times.{in_time_at}
+use Rattle.season_running.specs.Standing.{Plays, Running}
+use Rattle.season_running.proofs.RuledFacts.{me_seen, me_unseen}
+use Rattle.season_running.proofs.running.RunningSeason.my_entry.Goals as goal
+
+pub returns-then-get-entries-clause-seen : goal.returns-then-get-entries-clause-seen
+returns-then-get-entries-clause-seen g c = λ book plays is_last.
+    let running : Running = record { facts = c.self.inside.season; managers = c.self.inside.managers.managers; leagues = c.self.inside.leagues; cups = c.self.inside.cups } in
+    let here : Plays running book = subst (λ r. Plays r book) (sym c.self.view_is) plays in
+    let past : length running.managers < c.in-Entry.entry = omega (arith, c.get.ensures.value, c.entries.ensures.count, c.if-get-entries.true) in
+    let none = (c.entries_are_issued.ensures running.facts.players running.managers book.entries c.in-Entry.entry here.entries).none past in
+    sym (ap (λ n. my_answer book c.args.self.now.facts c.args.caller.now (entry_in book.entries n)) (ap caller_number c.in-Entry.is) ∙ ap (my_answer book c.args.self.now.facts c.args.caller.now) none)
+
+pub my_entry-requires-clause-later : goal.my_entry-requires-clause-later
+my_entry-requires-clause-later g c =
+    let seen = gameweek_seen c.self.inside.season.calendar in
+    in_time_at (Some seen) (Some seen) c.self.inside.managers c.in-Entry.entry refl c.self.invariant.early
+
+pub returns-in-Some-clause-seen : goal.returns-in-Some-clause-seen
+returns-in-Some-clause-seen g c = λ book plays is_last.
+    let running : Running = record { facts = c.self.inside.season; managers = c.self.inside.managers.managers; leagues = c.self.inside.leagues; cups = c.self.inside.cups } in
+    let here : Plays running book = subst (λ r. Plays r book) (sym c.self.view_is) plays in
+    let one : 1 ≤ c.in-Entry.entry = subst (λ n. 1 ≤ n) c.get.ensures.value c.get.ensures.range in
+    let few : c.in-Entry.entry ≤ length running.managers = omega (arith, c.get.ensures.value, c.entries.ensures.count, c.if-get-entries.false) in
+    let there = (c.entries_are_issued.ensures running.facts.players running.managers book.entries c.in-Entry.entry here.entries).there one few in
+    let stands : StandsFor (position_in running.facts.players) (season_of c.self.inside.managers c.in-Entry.entry) there.0.history =
+    there.2.history (position_in running.facts.players) (have_positions running.facts.players (subst ArePlayers c.players.ensures c.len-count.ensures.lawful)) in
+    let seen : Answer = answer.Shown (shown.Me c.in-Some.shown) in
+    subst (λ (r : Running). seen ≡ my_answer book r.facts c.args.caller.now (entry_in book.entries (caller_number c.args.caller.now))) c.self.view_is
+    (me_seen book running.facts c.args.caller.now c.in-Entry.entry c.args.last there.0 there.1 (ap caller_number c.in-Entry.is) is_last c.in-Some.shown
+    (sym (c.my_entry.ensures there.0.history stands) ∙ c.in-Some.is))
+
+pub returns-in-None-clause-seen : goal.returns-in-None-clause-seen
+returns-in-None-clause-seen g c = λ book plays is_last.
+    let running : Running = record { facts = c.self.inside.season; managers = c.self.inside.managers.managers; leagues = c.self.inside.leagues; cups = c.self.inside.cups } in
+    let here : Plays running book = subst (λ r. Plays r book) (sym c.self.view_is) plays in
+    let one : 1 ≤ c.in-Entry.entry = subst (λ n. 1 ≤ n) c.get.ensures.value c.get.ensures.range in
+    let few : c.in-Entry.entry ≤ length running.managers = omega (arith, c.get.ensures.value, c.entries.ensures.count, c.if-get-entries.false) in
+    let there = (c.entries_are_issued.ensures running.facts.players running.managers book.entries c.in-Entry.entry here.entries).there one few in
+    let stands : StandsFor (position_in running.facts.players) (season_of c.self.inside.managers c.in-Entry.entry) there.0.history =
+    there.2.history (position_in running.facts.players) (have_positions running.facts.players (subst ArePlayers c.players.ensures c.len-count.ensures.lawful)) in
+    let seen : Answer = answer.Rule rule.NotRegistered in
+    subst (λ (r : Running). seen ≡ my_answer book r.facts c.args.caller.now (entry_in book.entries (caller_number c.args.caller.now))) c.self.view_is
+    (me_unseen book running.facts c.args.caller.now c.in-Entry.entry c.args.last there.0 there.1 (ap caller_number c.in-Entry.is) is_last
+    (sym (c.my_entry.ensures there.0.history stands) ∙ c.in-None.is))

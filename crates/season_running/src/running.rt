@@ -1,0 +1,430 @@
+// A season with its entries.
+ghost use Rattle.std.specs.Prelude.{◌≡◌, ◌≤◌, ℕ, List, [], IfErr, IfOk, OnOk, OnErr, None, length, if◌then◌else◌};
+ghost use Rattle.fpl_base.specs.Texts.{is_key};
+ghost use Rattle.fpl_base.specs.declared.kinds.Caller.{Caller};
+ghost use Rattle.manager_book.specs.Managers.{manager_in};
+ghost use Rattle.season_book.specs.Book.{Book, caller_number, last_number};
+ghost use Rattle.season_book.specs.Commands.{IsCommand, part_of};
+ghost use Rattle.season_book.specs.Doing.{IsGranted, IsShown, IsStoreless};
+ghost use Rattle.season_book.specs.Verdict.{locked_at, ruled, seen_in};
+ghost use Rattle.season_book.specs.declared.answer.Answer.TheVariants as answer;
+ghost use Rattle.season_book.specs.declared.part.Part.TheVariants as part;
+ghost use Rattle.season_book.specs.declared.request.View.TheVariants as view;
+ghost use Rattle.season_book.specs.declared.shown.Shown.{Shown};
+ghost use Rattle.season_competitions.specs.Cups.{IsCupGranted};
+ghost use Rattle.season_competitions.specs.Leagues.{IsLeagueGranted};
+ghost use Rattle.season_entries.specs.Deeds.{IsDeedGranted};
+ghost use Rattle.season_entries.specs.Keys.{keys_of};
+ghost use Rattle.season_book.specs.Hosts.{entry_with};
+ghost use Rattle.season_running.specs.Accepting.{HasRoom, IsDone, IsGrantedTo, IsRefusal, IsRuled, made_by};
+ghost use Rattle.season_running.specs.EntryLaws.{IsOrderly};
+ghost use Rattle.season_running.specs.Standing.{InStep, Plays};
+
+use classic_leagues::Leagues;
+use cup_rounds::Cups;
+use fpl_base::{Caller, CupId, EntryId, Key, LeagueId, Memory, Moment, Rule, Steps};
+use manager_book::ManagerBook;
+use season_book::{Answer, Command, Made, Part, Shown};
+use season_competitions::{do_cup, do_league, judge_cup, judge_league, members_stay};
+use season_entries::{
+    do_deed, do_key, early_is_in_time, entries_are_issued, facts_leave_entries, judge_deed,
+    judge_key, moments_leave_entries, owners_are_alike,
+};
+use season_facts::Season;
+use season_views::{cup, entry_gameweek, league, my_entry};
+use std::alloc::Global;
+use std::marker::Model;
+use std::sync::ledger::Ledger;
+
+/// A season with its entries, leagues and cups: what the operator handed in, and what the managers did. A contract sees
+/// the facts, the managers with their rows, the leagues and the cups.
+#[derive(Drop)]
+pub struct RunningSeason {
+    season: Season,
+    managers: ManagerBook,
+    leagues: Leagues,
+    cups: Cups,
+}
+
+impl Model for RunningSeason {
+    ghost use Rattle.season_running.specs.Standing.{InStep, Running};
+
+    ghost Value = { Running };
+
+    ghost view = { λ r. record { facts = r.season; managers = r.managers.managers; leagues = r.leagues; cups = r.cups } };
+
+    ghost invariant = { λ r. InStep r.season r.managers r.leagues };
+}
+
+impl RunningSeason {
+    /// A season that begins, without entries, leagues and cups.
+    pub fn begin(alloc: Global, season: Season) -> Self
+        ensures { result ≡ record { facts = season; managers = []; leagues = []; cups = [] } }
+    {
+        let managers = ManagerBook::new(alloc, season.profile());
+        RunningSeason {
+            season,
+            managers,
+            leagues: Leagues::new(alloc),
+            cups: Cups::new(alloc),
+        }
+    }
+
+    /// The season of these facts, entries, leagues and cups, as they are told of a season that was kept.
+    pub fn of_parts(season: Season, managers: ManagerBook, leagues: Leagues, cups: Cups) -> Self
+        requires { InStep season managers leagues }
+        ensures { result ≡ record { facts = season; managers = managers.managers; leagues = leagues; cups = cups } }
+    {
+        RunningSeason {
+            season,
+            managers,
+            leagues,
+            cups,
+        }
+    }
+
+    /// What the operator handed in.
+    pub fn season(&self) -> &Season
+        ensures { result.now ≡ self.now.facts }
+    {
+        &self.season
+    }
+
+    /// The entries, with what their managers did.
+    pub fn managers(&self) -> &ManagerBook
+        ensures { result.now.managers ≡ self.now.managers }
+    {
+        &self.managers
+    }
+
+    /// The leagues.
+    pub fn leagues(&self) -> &Leagues
+        ensures { result.now ≡ self.now.leagues }
+    {
+        &self.leagues
+    }
+
+    /// The cups.
+    pub fn cups(&self) -> &Cups
+        ensures { result.now ≡ self.now.cups }
+    {
+        &self.cups
+    }
+
+    /// A law: the players are lawful, and nothing was done in a gameweek behind the next one or the last.
+    pub fn keeps_order(&self)
+        ensures { IsOrderly self.now.facts self.now.managers }
+    {
+        // That the players are lawful, for the prover.
+        let _count = self.season.players().len();
+    }
+
+    /// Locks the gameweeks whose deadlines have passed.
+    pub fn pass(&mut self, now: Moment)
+        ensures { self.new ≡ record self.old { facts = locked_at now self.old.facts } }
+    {
+        // The law that nothing was done later than the next gameweek, for the prover.
+        moments_leave_entries();
+        self.season.pass(now);
+    }
+
+    /// The entry that has these bytes as its key; `None` where nobody has, and so where they are no key.
+    pub fn owner_of(&self, bytes: &[u8]) -> Option<Caller>
+        ensures { result ≡ (if is_key bytes.now then entry_with (keys_of self.now.managers) bytes.now else None) }
+    {
+        // The law that the keys are those of the managers, for the prover, as is the key, which bytes that are no key are not.
+        owners_are_alike();
+        let entry = self.managers.owner_of(bytes)?;
+        match self.managers.key(entry) {
+            Some(key) => {
+                if key.bytes() == bytes {
+                    Some(Caller::Entry(entry))
+                } else {
+                    None
+                }
+            }
+            None => None,
+        }
+    }
+
+    /// The answer that refuses a caller's command at a moment; `Ok` where nothing does. It takes no memory.
+    pub fn judge<L: Ledger>(
+        &self,
+        operator: &Key,
+        caller: &Caller,
+        now: Moment,
+        command: &Command,
+        steps: &mut Steps<L>,
+    ) -> Result<(), Answer>
+        requires { IsCommand command.now }
+        ensures granted { OnOk result (IsGrantedTo self.now caller.now now command.now) }
+        ensures ruled { (book : Book) → Plays self.now book → IsRuled (ruled operator.now book caller.now now command.now) result }
+        ensures refusal { IfErr result IsRefusal }
+    {
+        match command.part() {
+            Part::Facts => self.season.judge(now, command, steps),
+            Part::Entries => self.judge_entry(operator, command),
+            Part::Deeds => self.judge_deed(caller, command),
+            Part::Leagues => self.judge_league(caller, command),
+            Part::Cups => self.judge_cup(command),
+        }
+    }
+
+    // The same of the command that makes an entry.
+    fn judge_entry(&self, operator: &Key, command: &Command) -> Result<(), Answer>
+        requires { part_of command.now ≡ part.Entries }
+        ensures granted { (now : ℕ) (caller : Caller) → OnOk result (IsGrantedTo self.now caller now command.now) }
+        ensures ruled { (now : ℕ) (caller : Caller) (book : Book) → Plays self.now book → IsRuled (ruled operator.now book caller now command.now) result }
+        ensures refusal { IfErr result IsRefusal }
+    {
+        match command {
+            Command::Key { key, .. } => match judge_key(operator, &self.managers, key) {
+                Ok(()) => Ok(()),
+                Err(rule) => Err(Answer::Rule(rule)),
+            },
+            _ => Err(Answer::Unknown),
+        }
+    }
+
+    // The same of the command of a manager; the operator is nobody's entry.
+    fn judge_deed(&self, caller: &Caller, command: &Command) -> Result<(), Answer>
+        requires read { IsCommand command.now }
+        requires deed { part_of command.now ≡ part.Deeds }
+        ensures granted { (now : ℕ) → OnOk result (IsGrantedTo self.now caller.now now command.now) }
+        ensures ruled { (operator : List ℕ) (now : ℕ) (book : Book) → Plays self.now book → IsRuled (ruled operator book caller.now now command.now) result }
+        ensures refusal { IfErr result IsRefusal }
+    {
+        // The laws on which entries are there, and when their managers act, for the prover.
+        entries_are_issued();
+        early_is_in_time();
+        match caller {
+            Caller::Operator => Err(Answer::Unknown),
+            Caller::Entry(entry) => {
+                if entry.get() <= self.managers.entries() {
+                    judge_deed(&self.season, &self.managers, *entry, command)
+                } else {
+                    Err(Answer::Unknown)
+                }
+            }
+        }
+    }
+
+    // The same of a command on leagues.
+    fn judge_league(&self, caller: &Caller, command: &Command) -> Result<(), Answer>
+        requires { part_of command.now ≡ part.Leagues }
+        ensures granted { (now : ℕ) → OnOk result (IsGrantedTo self.now caller.now now command.now) }
+        ensures ruled { (operator : List ℕ) (now : ℕ) (book : Book) → Plays self.now book → IsRuled (ruled operator book caller.now now command.now) result }
+        ensures refusal { IfErr result IsRefusal }
+    {
+        judge_league(&self.season, &self.managers, &self.leagues, caller, command)
+    }
+
+    // The same of the draw of a cup.
+    fn judge_cup(&self, command: &Command) -> Result<(), Answer>
+        requires { part_of command.now ≡ part.Cups }
+        ensures granted { (now : ℕ) (caller : Caller) → OnOk result (IsGrantedTo self.now caller now command.now) }
+        ensures ruled { (operator : List ℕ) (now : ℕ) (caller : Caller) (book : Book) → Plays self.now book → IsRuled (ruled operator book caller now command.now) result }
+        ensures refusal { IfErr result IsRefusal }
+    {
+        judge_cup(&self.season, &self.managers, &self.cups, command)
+    }
+
+    /// What a command makes, where nothing refuses it: a new entry, league or cup has the next number.
+    pub fn made_by(&self, command: &Command) -> Made
+        ensures { result ≡ made_by self.now command.now }
+    {
+        match command {
+            Command::Key { .. } => match EntryId::new(self.managers.entries() + 1) {
+                Some(entry) => Made::Entry(entry),
+                None => Made::Nothing,
+            },
+            Command::League { .. } => match LeagueId::new(self.leagues.count() + 1) {
+                Some(league) => Made::League(league),
+                None => Made::Nothing,
+            },
+            Command::Cup { .. } => match CupId::new(self.cups.count() + 1) {
+                Some(cup) => Made::Cup(cup),
+                None => Made::Nothing,
+            },
+            _ => Made::Nothing,
+        }
+    }
+
+    /// Does a command that nothing refuses at this moment, as `judge` says; unchanged where memory is wanting.
+    pub fn change(&mut self, caller: &Caller, now: Moment, command: &Command) -> Result<(), Memory>
+        requires read { IsCommand command.now }
+        requires granted { IsGrantedTo self.old caller.now now command.now }
+        ensures done { OnOk result (IsDone caller.now now command.now self.old self.new) }
+        ensures err { OnErr result (self.new ≡ self.old) }
+    {
+        match command.part() {
+            Part::Facts => self.change_facts(caller, now, command),
+            Part::Entries => self.add_entry(command),
+            Part::Deeds => self.do_deed(caller, command),
+            Part::Leagues => self.do_league(caller, command),
+            Part::Cups => self.do_cup(command),
+        }
+    }
+
+    // Does a command on the facts.
+    fn change_facts(
+        &mut self,
+        caller: &Caller,
+        now: Moment,
+        command: &Command,
+    ) -> Result<(), Memory>
+        requires facts { part_of command.now ≡ part.Facts }
+        requires granted { IsGranted self.old.facts now command.now }
+        ensures done { OnOk result (IsDone caller.now now command.now self.old self.new) }
+        ensures err { OnErr result (self.new ≡ self.old) }
+    {
+        // The law that the entries stay, for the prover.
+        facts_leave_entries();
+        self.season.change(now, command)
+    }
+
+    // Makes the entry that a command orders.
+    fn add_entry(&mut self, command: &Command) -> Result<(), Memory>
+        requires made { part_of command.now ≡ part.Entries }
+        requires granted { HasRoom self.old.managers command.now }
+        ensures done { (now : ℕ) (caller : Caller) → OnOk result (IsDone caller now command.now self.old self.new) }
+        ensures err { OnErr result (self.new ≡ self.old) }
+    {
+        // The law that the members of leagues are entries, for the prover.
+        members_stay();
+        match command {
+            Command::Key { key, name } => match do_key(&mut self.managers, key, name) {
+                Ok(_) => Ok(()),
+                Err(Memory) => Err(Memory),
+            },
+            _ => Ok(()),
+        }
+    }
+
+    // Does the command of a manager.
+    fn do_deed(&mut self, caller: &Caller, command: &Command) -> Result<(), Memory>
+        requires read { IsCommand command.now }
+        requires deed { part_of command.now ≡ part.Deeds }
+        requires granted { (1 ≤ caller_number caller.now) × (caller_number caller.now ≤ length self.old.managers) × IsDeedGranted self.old.facts (manager_in self.old.managers (caller_number caller.now)).season command.now }
+        ensures done { (now : ℕ) → OnOk result (IsDone caller.now now command.now self.old self.new) }
+        ensures err { OnErr result (self.new ≡ self.old) }
+    {
+        // The laws on which entries are there, when their managers act, and who is in leagues, for the prover.
+        entries_are_issued();
+        early_is_in_time();
+        members_stay();
+        match caller {
+            Caller::Entry(entry) => do_deed(&self.season, &mut self.managers, *entry, command),
+            Caller::Operator => Ok(()),
+        }
+    }
+
+    // Does a command on leagues.
+    fn do_league(&mut self, caller: &Caller, command: &Command) -> Result<(), Memory>
+        requires part { part_of command.now ≡ part.Leagues }
+        requires granted { IsLeagueGranted self.old.facts self.old.managers self.old.leagues (caller_number caller.now) command.now }
+        ensures done { (now : ℕ) → OnOk result (IsDone caller.now now command.now self.old self.new) }
+        ensures err { OnErr result (self.new ≡ self.old) }
+    {
+        // The law that its members are entries, for the prover.
+        members_stay();
+        do_league(
+            &self.season,
+            &self.managers,
+            &mut self.leagues,
+            caller,
+            command,
+        )
+    }
+
+    // Draws a cup.
+    fn do_cup(&mut self, command: &Command) -> Result<(), Memory>
+        requires part { part_of command.now ≡ part.Cups }
+        requires granted { IsCupGranted self.old.facts self.old.cups command.now }
+        ensures done { (now : ℕ) (caller : Caller) → OnOk result (IsDone caller now command.now self.old self.new) }
+        ensures err { OnErr result (self.new ≡ self.old) }
+    {
+        do_cup(&self.season, &mut self.cups, command)
+    }
+
+    /// What a caller sees of his own entry, under the number of his last command. It is computed from his rows and the
+    /// facts: each line of a match that it reads is a counted read.
+    pub fn my_entry<L: Ledger>(&self, caller: &Caller, last: u64, steps: &mut Steps<L>) -> Answer
+        ensures seen { (book : Book) → Plays self.now book → last ≡ last_number book caller.now → result ≡ seen_in book caller.now view.Me self.now.facts }
+        ensures storeless { IsStoreless result }
+    {
+        // The law on which entries are there, and that the ids of players differ, for the prover.
+        entries_are_issued();
+        let _count = self.season.players().len();
+        match caller {
+            Caller::Operator => Answer::Unknown,
+            Caller::Entry(entry) => {
+                if entry.get() > self.managers.entries() {
+                    return Answer::Unknown;
+                }
+                match my_entry(&self.season, &self.managers, *entry, last, steps) {
+                    Some(shown) => Answer::Shown(Shown::Me(shown)),
+                    None => Answer::Rule(Rule::NotRegistered),
+                }
+            }
+        }
+    }
+
+    /// What an entry scored in a locked gameweek.
+    pub fn entry_gameweek<L: Ledger>(
+        &self,
+        entry: u32,
+        gameweek: u32,
+        steps: &mut Steps<L>,
+    ) -> Answer
+        ensures seen { (caller : Caller) (book : Book) → Plays self.now book → result ≡ seen_in book caller (view.EntryGameweek entry gameweek) self.now.facts }
+        ensures storeless { IsStoreless result }
+    {
+        match entry_gameweek(&self.season, &self.managers, entry, gameweek, steps) {
+            Some(shown) => Answer::Shown(Shown::EntryGameweek(shown)),
+            None => Answer::Unknown,
+        }
+    }
+
+    /// The table of a league over the locked gameweeks. It is computed from the rows of its members and the facts.
+    pub fn league<L: Ledger>(&self, alloc: Global, number: u32, steps: &mut Steps<L>) -> Answer
+        ensures seen { (caller : Caller) (book : Book) → Plays self.now book → IsShown (seen_in book caller (view.League number) self.now.facts) result }
+        ensures storeless { IsStoreless result }
+    {
+        let Some(id) = LeagueId::new(number) else {
+            return Answer::Unknown;
+        };
+        match self.leagues.get(id) {
+            Some(there) => answer_of(league(alloc, &self.season, &self.managers, there, steps)),
+            None => Answer::Unknown,
+        }
+    }
+
+    /// The winners of the rounds of a cup, as far as they are locked. They are computed likewise.
+    pub fn cup<L: Ledger>(&self, alloc: Global, number: u32, steps: &mut Steps<L>) -> Answer
+        ensures seen { (caller : Caller) (book : Book) → Plays self.now book → IsShown (seen_in book caller (view.Cup number) self.now.facts) result }
+        ensures storeless { IsStoreless result }
+    {
+        let Some(id) = CupId::new(number) else {
+            return Answer::Unknown;
+        };
+        match self.cups.get(id) {
+            Some(there) => match cup(alloc, &self.season, &self.managers, there, steps) {
+                Ok(shown) => Answer::Shown(Shown::Cup(shown)),
+                Err(Memory) => Answer::Memory,
+            },
+            None => Answer::Unknown,
+        }
+    }
+}
+
+// What is shown, or want of memory.
+fn answer_of(shown: Result<Shown, Memory>) -> Answer
+    ensures shown { (due : Shown) → IfOk shown (λ s. s ≡ due) → IsShown (answer.Shown due) result }
+    ensures storeless { IsStoreless result }
+{
+    match shown {
+        Ok(shown) => Answer::Shown(shown),
+        Err(Memory) => Answer::Memory,
+    }
+}
