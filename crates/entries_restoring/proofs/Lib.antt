@@ -1,0 +1,7 @@
+mod Through
+mod Numbers
+mod Told
+mod OneEntry
+mod Issued
+mod Whole
+mod Adding

@@ -1,0 +1,9 @@
+mod Fitting
+mod Locks
+mod Room
+mod Rows
+mod Slots
+mod Sound
+mod Steps
+mod Told
+mod Whole

@@ -1,0 +1,13 @@
+pub mod KeptRows
+pub mod LawfulRows
+pub mod LastRows
+pub mod CommandsRead
+pub mod LastPut
+pub mod LastLoop
+pub mod Gapless
+pub mod Numbering
+pub mod CupLemmas
+pub mod LeagueNumbers
+pub mod MemberRows
+pub mod OneLeague
+pub mod AllLeagues

@@ -1,0 +1,4 @@
+pub mod LastCommands
+pub mod Kinds
+pub mod CupRows
+pub mod LeagueRestoring

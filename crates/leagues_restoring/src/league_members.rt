@@ -1,0 +1,32 @@
+// The members of a league.
+ghost use Rattle.std.specs.Prelude.{◌≡◌, ◌≤◌, IfOk, None};
+ghost use Rattle.season_books.specs.Lawful.{judged};
+ghost use Rattle.season_books.specs.LeagueRules.{members_of};
+ghost use Rattle.fpl_base.specs.Keeping.{KeysRise};
+
+use classic_leagues::Ids;
+use fpl_base::{EntryId, LeagueId, Memory};
+use season_books::Stored;
+use std::alloc::Global;
+
+// The entry of this number.
+fn entry(number: u32) -> EntryId
+    requires { 1 ≤ number }
+    ensures { result ≡ number }
+{
+    EntryId::new(number).unwrap()
+}
+
+/// The members of a league, by ascending number.
+pub(crate) fn members_of(alloc: Global, stored: &Stored, league: LeagueId) -> Result<Ids, Memory>
+    requires rise { KeysRise stored.now }
+    requires lawful { judged stored.now ≡ None }
+    ensures { IfOk result (λ ids. ids ≡ members_of stored.now league) }
+{
+    let rows = stored.members(league);
+    let mut ids = Ids::with_room(alloc, rows.len())?;
+    for row in rows {
+        ids.push(entry(row.0.b))?;
+    }
+    Ok(ids)
+}

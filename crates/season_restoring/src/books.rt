@@ -1,0 +1,80 @@
+// The books that lawful records tell.
+ghost use Rattle.std.specs.Prelude.{◌≡◌, ℕ, List, [], IfOk, IfSome, None};
+ghost use Rattle.std.specs.Option.{IsNone};
+ghost use Rattle.fpl_base.specs.Keeping.{KeysRise, map_of};
+ghost use Rattle.record_codec.specs.declared.slot.Slot.{Slot};
+ghost use Rattle.season_records.specs.Told.{AreInOrder};
+ghost use Rattle.season_books.specs.Lawful.{judged};
+ghost use Rattle.season_books.specs.Stored.{told};
+ghost use Rattle.season_running.specs.Standing.{host_rows};
+ghost use Rattle.season_rows.specs.Ordered.{AreRowsInOrder};
+ghost use Rattle.season_rows.specs.RowsTold.{told_by};
+ghost use Rattle.facts_restoring.specs.Restored.{TellsFacts};
+ghost use Rattle.season_restoring.specs.Books.{IsRunningInOrder, MayRun, RunningTells};
+
+use entries_restoring::managers_of;
+use facts_restoring::facts_of;
+use fpl_base::{Bytes, Memory, RecordKey};
+use leagues_restoring::{cups_of, lasts_of, leagues_of};
+use season_facts::Season;
+use season_running::{Lasts, RunningSeason};
+use std::alloc::Global;
+
+/// What a store's records tell of a season: the season as it runs, where one was begun, and each caller's last command.
+#[derive(Drop)]
+pub struct Restored {
+    pub running: Option<RunningSeason>,
+    pub lasts: Lasts,
+}
+
+/// The books that lawful records tell: at each slot what its record tells, and nothing where there is none. It takes memory
+/// in proportion to the records, and goes through each of them a few times.
+pub fn books_of(alloc: Global, rows: &[(RecordKey, Bytes)]) -> Result<Restored, Memory>
+    requires rise { KeysRise rows.now }
+    requires lawful { judged rows.now ≡ None }
+    ensures told { IfOk result (λ made. (operator : List ℕ) (s : Slot) → told_by (host_rows operator made.running made.lasts) s ≡ told (map_of rows.now) s) }
+    ensures ordered { IfOk result (λ made. (operator : List ℕ) → AreRowsInOrder (host_rows operator made.running made.lasts)) }
+{
+    let lasts = lasts_of(alloc, rows)?;
+    let season = facts_of(alloc, rows)?;
+    let running = running_if(alloc, rows, season)?;
+    Ok(Restored { running, lasts })
+}
+
+// The running season, where there is one.
+fn running_if(
+    alloc: Global,
+    rows: &[(RecordKey, Bytes)],
+    season: Option<Season>,
+) -> Result<Option<RunningSeason>, Memory>
+    requires rise { KeysRise rows.now }
+    requires lawful { judged rows.now ≡ None }
+    requires none { IsNone season → rows.now ≡ [] }
+    requires told { IfSome season (λ facts. TellsFacts (map_of rows.now) facts) }
+    requires ordered { IfSome season (λ facts. AreInOrder facts) }
+    ensures { IfOk result (MayRun rows.now) }
+{
+    match season {
+        Some(season) => Ok(Some(running_of(alloc, rows, season)?)),
+        None => Ok(None),
+    }
+}
+
+// The running season of these facts, with its entries, leagues and cups.
+fn running_of(
+    alloc: Global,
+    rows: &[(RecordKey, Bytes)],
+    season: Season,
+) -> Result<RunningSeason, Memory>
+    requires rise { KeysRise rows.now }
+    requires lawful { judged rows.now ≡ None }
+    requires facts { TellsFacts (map_of rows.now) season }
+    requires ordered { AreInOrder season }
+    ensures told { IfOk result (RunningTells (map_of rows.now)) }
+    ensures ordered { IfOk result IsRunningInOrder }
+{
+    let managers = managers_of(alloc, rows, season.profile(), season.players())?;
+    let leagues = leagues_of(alloc, rows)?;
+    let cups = cups_of(alloc, rows)?;
+    Ok(RunningSeason::of_parts(season, managers, leagues, cups))
+}
