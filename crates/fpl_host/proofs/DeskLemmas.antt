@@ -12,7 +12,7 @@ use Rattle.fpl_routes.specs.Targets.{IsFound}
 use Rattle.fpl_routes.specs.declared.route.Found.{Found}
 use Rattle.fpl_http.specs.Seen.{reply_seen}
 use Rattle.fpl_http.specs.declared.responses.Reply.{Reply}
-use Rattle.fpl_session.specs.Lifts.{Lifts}
+use Rattle.fpl_session.specs.Lifts.{LiftsWhile}
 use Rattle.fpl_session.specs.Replies.{answer_in}
 use Rattle.season_book.specs.Book.{Book}
 use Rattle.season_book.specs.declared.made.Made.{Made}
@@ -22,8 +22,8 @@ use Rattle.season_book.specs.Verdict.{Failures, MayAnswer, MayBeLeft}
 use Rattle.season_book.specs.declared.answer.Answer.{Answer}
 use Rattle.season_book.specs.declared.answer.Answer.TheVariants as answer
 use Rattle.season_book.specs.declared.request.Request.{Request}
-use Rattle.season_host.specs.Standing.{StandsIn}
-use Rattle.fpl_host.specs.Kept.{Kept, Leads, StandsAs}
+use Rattle.season_running.specs.Standing.{StandsIn}
+use Rattle.fpl_host.specs.Kept.{IsFollowed, Kept, Leads, StandsAs}
 use Rattle.fpl_host.specs.Replying.{IsJudged, IsReply, Judges, RepliesTo, Served, error_reply, reply_of, way_of}
 use Rattle.fpl_host.proofs.KeptLemmas.{leads_by, leads_same, with_book}
 
@@ -72,9 +72,9 @@ goes_nowhere old message at status word body r found way text is =
 -- the same, whatever is kept
 pub goes_nowhere_kept : (kept : Kept) (message : Message) (at : Found) (status : ℕ) (word body : List ℕ) (r : Result Reply Memory)
     → IsFound message.method message.target at → way_of at ≡ Err (error_reply status word) → body ≡ compact_text (error_data word)
-    → IfOk r (λ reply. reply_seen reply ≡ (status, body)) → Lifts StandsAs IsReply kept message (answer_in r) kept
+    → IfOk r (λ reply. reply_seen reply ≡ (status, body)) → LiftsWhile IsFollowed StandsAs IsReply kept message (answer_in r) kept
 goes_nowhere_kept kept message at status word body r found way text is =
-    leads_same (λ served behind. IsReply served message (answer_in r) behind) kept (λ served. goes_nowhere served message at status word body r found way text is)
+    (λ followed. followed, λ _. leads_same (λ served behind. IsReply served message (answer_in r) behind) kept (λ served. goes_nowhere served message at status word body r found way text is))
 
 -- an answer of the host that was written, or for which there was no memory, from each book that its rows stand for
 pub judged_kept : (old new : Kept) (caller : Caller) (now : ℕ) (request : Request) (answered : Answer) (r : Result Reply Memory)

@@ -7,14 +7,14 @@ use Rattle.fpl_http.specs.Stream.{Request as Message}
 use Rattle.fpl_routes.specs.Targets.{IsFound}
 use Rattle.fpl_routes.specs.declared.route.Found.TheVariants as found
 use Rattle.fpl_routes.specs.declared.route.Route.{Route}
-use Rattle.fpl_session.specs.Lifts.{Lifts}
+use Rattle.fpl_session.specs.Lifts.{LiftsWhile}
 use Rattle.manager_book.specs.declared.manager.Manager.{Manager}
 use Rattle.rule_book.specs.declared.player.Player.{Player}
 use Rattle.season_book.specs.Book.{Book, EntryFacts, empty_book}
 use Rattle.season_book.specs.Hosts.{HostState, keys_of}
 use Rattle.season_entries.specs.Entries.{AreEntries}
-use Rattle.season_host.specs.Standing.{HostRows, Stands, StandsIn, empty_rows}
-use Rattle.fpl_host.specs.Kept.{Kept, Leads, StandsAs, asked_in, caller_in}
+use Rattle.season_running.specs.Standing.{HostRows, Stands, StandsIn, empty_rows}
+use Rattle.fpl_host.specs.Kept.{IsFollowed, Kept, Leads, StandsAs, asked_in, caller_in}
 use Rattle.fpl_host.specs.Pipe.{opened}
 use Rattle.fpl_host.specs.Replying.{IsReply, RepliesTo, Reply, Served, asked_by, caller_of, shown_by}
 
@@ -63,17 +63,20 @@ leads_same how kept each served stands = (served, stands, each served)
 
 pub along : (old new : Kept) (message : Message) (route : Route) (ids : List ℕ) (reply : Reply) → IsFound message.method message.target (found.Route route ids)
     → Leads (λ served behind. RepliesTo (asked_in old.host message route ids) served reply behind) old new
-    → Lifts StandsAs IsReply old message reply new
-along old new message route ids reply is leads served stands =
-    let (behind, stood, replies) = leads served stands in (
-      behind,
-      stood,
-      (
-        asked_in old.host message route ids,
-        (Ok (route, ids), (found.Route route ids, is, refl), ap (λ (caller : Option Caller). asked_by caller route ids message.body) (sym (caller_stood old.host served.host message.key stands.host))),
-        replies,
+    → LiftsWhile IsFollowed StandsAs IsReply old message reply new
+along old new message route ids reply is leads = (
+  λ followed. followed,
+  λ _ served stands.
+      let (behind, stood, replies) = leads served stands in (
+        behind,
+        stood,
+        (
+          asked_in old.host message route ids,
+          (Ok (route, ids), (found.Route route ids, is, refl), ap (λ (caller : Option Caller). asked_by caller route ids message.body) (sym (caller_stood old.host served.host message.key stands.host))),
+          replies,
+        ),
       ),
-    )
+)
 
 -- ---- a host without a season
 

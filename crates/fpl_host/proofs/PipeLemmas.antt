@@ -3,13 +3,13 @@ use Rattle.std.proofs.Common.{◌≡◌, ℕ, List, [], Option, Some, None, IfSo
 use Rattle.std.specs.Io.KnownBytes.{Appends, Consumes}
 use Rattle.std.proofs.lemmas.List.{append-nil}
 use Rattle.fpl_base.specs.Moments.{Moments}
-use Rattle.fpl_session.specs.Lifts.{Lifts, SessionsLift}
+use Rattle.fpl_session.specs.Lifts.{LiftsWhile, SessionsLift}
 use Rattle.fpl_session.specs.Replies.{Speaks}
 use Rattle.fpl_session.specs.Sessions.{EndsAs, SessionOf, SessionOver}
 use Rattle.fpl_session.specs.declared.ending.Ending.{Ending}
 use Rattle.fpl_session.specs.declared.ending.Ending.TheVariants as ends
-use Rattle.season_host.specs.Standing.{empty_rows}
-use Rattle.fpl_host.specs.Kept.{Kept, StandsAs}
+use Rattle.season_running.specs.Standing.{empty_rows}
+use Rattle.fpl_host.specs.Kept.{IsFollowed, Kept, StandsAs}
 use Rattle.fpl_host.specs.Pipe.{Pipes, opened, status_of}
 use Rattle.fpl_host.specs.Replying.{IsReply, Served}
 use Rattle.fpl_host.proofs.KeptLemmas.{left_is, opened_stands}
@@ -25,13 +25,13 @@ Consumes-nil (Some x) = refl
 
 -- a host that was opened, and a session of it
 pub one_session : (key : List ℕ) (left now : Option (List ℕ)) (first last : Kept) (before after : Option (List ℕ)) (status : ℕ) (ending : Ending)
-    → SessionsLift StandsAs IsReply → first.host ≡ empty_rows key → status ≡ status_of ending
-    → SessionOf (Speaks (Lifts StandsAs IsReply)) left now first last before after ending
+    → SessionsLift IsFollowed StandsAs IsReply → first.host ≡ empty_rows key → status ≡ status_of ending
+    → SessionOf (Speaks (LiftsWhile IsFollowed StandsAs IsReply)) left now first last before after ending
     → IfSome left (λ all. EndsAs all ending)
     → Pipes key left now first.moments last.moments first.failed last.failed before after status
 one_session key left now first last before after status ending lift is_opened is_status session exact =
     let start : Served = opened key first.moments first.failed in
-    let (behind, stood, taken, over) = lift left now first last before after ending start session (opened_stands key first is_opened) in
+    let (behind, stood, taken, over) = (lift left now first last before after ending start session tt).1 (opened_stands key first is_opened) in
     record {
       ending = ending;
       host = behind.host;

@@ -4,13 +4,13 @@ use Rattle.std.specs.Prelude.{Ok, Err, drop}
 use Rattle.fpl_base.specs.Causes.{Rose}
 use Rattle.fpl_base.specs.Doors.{GivesBack, Opens}
 use Rattle.fpl_base.specs.Moments.{Moments}
-use Rattle.fpl_session.specs.Lifts.{Lifts, SessionsLift}
+use Rattle.fpl_session.specs.Lifts.{LiftsWhile, SessionsLift}
 use Rattle.fpl_session.specs.Replies.{Speaks}
 use Rattle.fpl_session.specs.Sessions.{EndsAs, SessionOf}
 use Rattle.fpl_session.specs.declared.ending.Ending.{Ending}
 use Rattle.fpl_session.specs.declared.ending.Ending.TheVariants as ends
-use Rattle.season_host.specs.Standing.{empty_rows}
-use Rattle.fpl_host.specs.Kept.{Kept, Leads, StandsAs}
+use Rattle.season_running.specs.Standing.{empty_rows}
+use Rattle.fpl_host.specs.Kept.{IsFollowed, Kept, Leads, StandsAs}
 use Rattle.fpl_host.specs.Pipe.{opened}
 use Rattle.fpl_host.specs.Replying.{IsReply, Served}
 use Rattle.fpl_host.specs.Serve.{DoorState, Fails, IsAskedOnce, OneFewer, Serves, ServesOn}
@@ -22,15 +22,15 @@ rose_some : (before after : ℕ) → before ≡ 0 → Rose before after → 0 < 
 rose_some before after is rose = omega (arith, is, rose)
 
 -- a session with what a door opened, which was given back
-pub one_visit : SessionsLift StandsAs IsReply → (first last : Kept) (before middle after : DoorState) (left now fresh taken : Option (List ℕ)) (reads writes read written : ℕ) (ending : Ending)
+pub one_visit : SessionsLift IsFollowed StandsAs IsReply → (first last : Kept) (before middle after : DoorState) (left now fresh taken : Option (List ℕ)) (reads writes read written : ℕ) (ending : Ending)
     → Opens before.coming middle.coming left fresh → middle.given_back ≡ before.given_back → middle.faults ≡ before.faults
     → after.coming ≡ middle.coming → GivesBack middle.given_back after.given_back (record { left = now; taken = taken; read_faults = read; write_faults = written })
     → after.faults ≡ middle.faults → reads ≡ 0 → writes ≡ 0
-    → SessionOf (Speaks (Lifts StandsAs IsReply)) left now first last fresh taken ending
+    → SessionOf (Speaks (LiftsWhile IsFollowed StandsAs IsReply)) left now first last fresh taken ending
     → IfSome left (λ all. EndsAs all ending) → (ending ≡ ends.Read → Rose reads read) → (ending ≡ ends.Write → Rose writes written)
     → Leads (λ served behind. IsAskedOnce before after served behind (Ok ending)) first last
 one_visit lift first last before middle after left now fresh taken reads writes read written ending opens back faults coming gives same no_reads no_writes session exact reading writing served stands =
-    let (behind, stood, spoken, over) = lift left now first last fresh taken ending served session stands in (
+    let (behind, stood, spoken, over) = (lift left now first last fresh taken ending served session tt).1 stands in (
       behind,
       stood,
       record {

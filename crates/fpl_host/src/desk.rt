@@ -3,13 +3,13 @@ ghost use Rattle.std.specs.Prelude.{◌≡◌, ℕ, List, Err, IfOk, IsTrue, Ok,
 ghost use Rattle.fpl_base.specs.declared.kinds.Caller.{Caller};
 ghost use Rattle.fpl_http.specs.Responses.{is_answer_status};
 ghost use Rattle.fpl_http.specs.Seen.{reply_seen, request_seen};
-ghost use Rattle.fpl_session.specs.Lifts.{Lifts};
+ghost use Rattle.fpl_session.specs.Lifts.{LiftsWhile};
 ghost use Rattle.fpl_session.specs.Replies.{answer_in};
 ghost use Rattle.fpl_bodies.specs.Requests.{request_of};
 ghost use Rattle.season_book.specs.Hosts.{IsRequest};
-ghost use Rattle.season_host.specs.Standing.{empty_rows};
+ghost use Rattle.season_running.specs.Standing.{empty_rows};
 ghost use Rattle.fpl_host.specs.Desks.{Asks};
-ghost use Rattle.fpl_host.specs.Kept.{Kept, Leads, StandsAs, asked_in, caller_in};
+ghost use Rattle.fpl_host.specs.Kept.{IsFollowed, Kept, Leads, StandsAs, asked_in, caller_in};
 ghost use Rattle.fpl_host.specs.Replying.{IsReply, Judges, RepliesTo, Served, asked_by, reply_of, unless_malformed};
 
 use fpl_base::{Caller, Clock, Keeper, Key, Memory, Steps};
@@ -230,6 +230,8 @@ impl Standing for Desk {
 
     ghost State = { Served };
 
+    ghost follows = { IsFollowed };
+
     ghost stands = { StandsAs };
 
     ghost answers = { IsReply };
@@ -240,7 +242,7 @@ impl<K: Keeper, C: Clock, L: Ledger> Service<HostWithScratch, K, C, L> for Desk 
 
     ghost see = { λ now. record { host = now.0.host; moments = C.left now.2; failed = K.faults now.1 } };
 
-    ghost answers = { λ _ old message reply new. Lifts StandsAs IsReply old message reply new };
+    ghost answers = { λ _ old message reply new. LiftsWhile IsFollowed StandsAs IsReply old message reply new };
 
     ghost ready = { λ _ _. ⊤ };
 
