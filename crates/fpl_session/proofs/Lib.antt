@@ -2,3 +2,4 @@ mod LiftLemmas
 pub mod RunLemmas
 mod ServedLemmas
 mod SessionLemmas
+mod SplitLemmas

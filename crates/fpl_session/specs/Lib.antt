@@ -3,4 +3,5 @@ pub mod Replies
 pub mod Runs
 pub mod Stops
 pub mod Sessions
+pub mod Splits
 pub mod Turns

@@ -2,6 +2,7 @@
 ghost use Rattle.std.specs.Prelude.{ℕ, List};
 ghost use Rattle.fpl_http.specs.Stream.{Request};
 ghost use Rattle.fpl_session.specs.Lifts.{RunsLift, SessionsLift};
+ghost use Rattle.fpl_session.specs.Splits.{SessionsSplit, SessionsSplitOver};
 
 /// What is kept, and what it stands for: a service may keep something else than what the promises of a session speak of.
 pub trait Standing {
@@ -27,4 +28,23 @@ pub trait Standing {
 pub fn sessions_lift<T: Standing>()
     ensures runs { RunsLift T.follows T.stands T.answers }
     ensures sessions { SessionsLift T.follows T.stands T.answers }
+{}
+
+/// Two things that may be said of each answer, from the same state to the same state.
+pub trait Answering {
+    /// The state in which a message is answered.
+    ghost State: { Type 0 };
+
+    /// By the one, in this state a message may get that answer, a status and a body, and that state is left behind.
+    ghost one: { State → Request → ℕ × List ℕ → State → Type 0 };
+
+    /// The same by the other.
+    ghost other: { State → Request → ℕ × List ℕ → State → Type 0 };
+}
+
+/// A law on the definitions: a session whose answers both allow is a session of the one and a session of the other, from
+/// the same state to the same state, with the same bytes and the same ending.
+pub fn sessions_split<T: Answering>()
+    ensures sessions { SessionsSplit T.one T.other }
+    ensures over { SessionsSplitOver T.one T.other }
 {}

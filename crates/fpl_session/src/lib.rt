@@ -14,7 +14,7 @@ mod service;
 mod turn;
 
 pub use ending::Ending;
-pub use laws::{Standing, sessions_lift};
+pub use laws::{Answering, Standing, sessions_lift, sessions_split};
 pub use opening::session;
 pub use service::Service;
 
