@@ -28,7 +28,7 @@ module _ (old new : HostRows) (caller : Caller) (now number : ℕ) (command : Co
         led.3,
         (
           done_answer old.operator book caller now number command fresh led.0 done.made none led.1 led.2,
-          inr (led.0, led.1, refl, touches book stands),
+          inr (led.0, none, led.1, refl, touches book stands),
         ),
       )
   answered_by (Err reply) is touches = (

@@ -1,20 +1,34 @@
 -- What a command that was done in memory leaves, and which records it may have changed.
-use Rattle.std.specs.Prelude.{◌≡◌, ◌⊎◌, ℕ, List, [], None, Result, Ok, Err}
+use Rattle.std.specs.Prelude.{◌≡◌, ◌⊎◌, ◌==◌, ℕ, Bool, false, not, List, [], Option, None, Some, Result, Ok, Err, IfSome}
+use Rattle.std.specs.List.{AllByRecursion}
 use Rattle.fpl_base.specs.declared.kinds.Caller.{Caller}
-use Rattle.season_book.specs.Book.{Book, Last}
+use Rattle.rule_book.specs.Calendar.{after_pass}
+use Rattle.season_book.specs.Book.{Book, Facts, Last, last_number}
 use Rattle.season_book.specs.Doing.{IsRefused, MayAnswerIn}
-use Rattle.season_book.specs.Verdict.{Outcome, accepted, judged, ruled}
+use Rattle.season_book.specs.Verdict.{Outcome, accepted, judged, number_refusal, ruled}
 use Rattle.season_book.specs.declared.answer.Answer.{Answer}
 use Rattle.season_book.specs.declared.answer.Answer.TheVariants as answer
 use Rattle.season_book.specs.declared.command.Command.{Command}
 use Rattle.season_book.specs.declared.made.Made.{Made}
 use Rattle.season_book.specs.declared.request.Request.TheVariants as request
 use Rattle.season_book.specs.declared.made.Made.TheVariants as made
+use Rattle.record_codec.specs.Ranges.{IsItem}
 use Rattle.record_codec.specs.declared.slot.Slot.{Slot}
 use Rattle.season_records.specs.Touched.{touched}
+use Rattle.season_rows.specs.RowsTold.{told_by}
 use Rattle.season_running.specs.Accepting.{IsNew, kept_last}
+use Rattle.season_running.specs.Standing.{HostRows}
 use Rattle.season_host.specs.declared.accepting.Begun.{Begun}
 use Rattle.season_host.specs.declared.accepting.Done.{Done}
+
+-- whether a moment locks gameweeks that were open
+abbrev pub locks_more : Option Facts → ℕ → Bool
+locks_more None now = false
+locks_more (Some facts) now = not ((after_pass facts.calendar now).locked == facts.calendar.locked)
+
+-- each of these slots has values in their ranges, as rows tell them
+abbrev pub TellItemsBy : HostRows → List Slot → Type 0
+TellItemsBy rows slots = AllByRecursion (λ s. IfSome (told_by rows s) IsItem) slots
 
 -- what was made, without the slots
 abbrev pub made_in : Result Done Answer → Result Made Answer
@@ -38,11 +52,12 @@ IsBegunAndKept caller now number command old new (Ok begun) =
 IsBegunAndKept caller now number command old new (Err reply) =
     (new ≡ old) × IsRefused (judged None now command) reply
 
--- a command changes nothing, and no slots are touched; or it was accepted, and those are that it touches
+-- a command changes nothing, and no slots are touched; or it has the next number and was accepted, and those are that it
+-- touches
 abbrev pub Changes : List ℕ → Book → Caller → ℕ → ℕ → Command → List Slot → Book → Type 0
 Changes operator book caller now number command slots after =
     ((slots ≡ []) × (after ≡ book))
-    ⊎ ((outcome : Outcome) × (ruled operator book caller now command ≡ Ok outcome) × (after ≡ accepted caller number command outcome)
+    ⊎ ((outcome : Outcome) × (number_refusal (last_number book caller) number ≡ None) × (ruled operator book caller now command ≡ Ok outcome) × (after ≡ accepted caller number command outcome)
     × (slots ≡ touched book caller command))
 
 -- what may be answered to a command, with the slots that are touched and the book behind it

@@ -1,6 +1,5 @@
 // What a host keeps in memory, and its answers by that alone.
-ghost use Rattle.std.specs.Prelude.{◌≡◌, ◌≤◌, [], Some, false, IfErr, IfOk, IfSome};
-ghost use Rattle.rule_book.specs.Calendar.{after_pass};
+ghost use Rattle.std.specs.Prelude.{◌≡◌, ◌≤◌, [], Some, IfErr, IfOk, OnOk};
 ghost use Rattle.rule_book.specs.Refusals.{IsJudged};
 ghost use Rattle.season_book.specs.Book.{Book};
 ghost use Rattle.season_book.specs.Commands.{IsCommand};
@@ -13,7 +12,7 @@ ghost use Rattle.season_rows.specs.RowsTold.{told_by};
 ghost use Rattle.season_running.specs.Accepting.{IsAccepted};
 ghost use Rattle.season_running.specs.EntryLaws.{IsOrderlyHost};
 ghost use Rattle.season_running.specs.Standing.{Follows, StandsIn, host_rows, keys_in, number_at, passed};
-ghost use Rattle.season_host.specs.Accepted.{MayEndIn, answer_from, made_in, slots_from};
+ghost use Rattle.season_host.specs.Accepted.{MayEndIn, TellItemsBy, answer_from, locks_more, made_in, slots_from};
 
 use crate::accepting::{Done, accept, begin};
 use fpl_base::{Caller, Key, Memory, Moment, Op, Rule, Steps};
@@ -131,7 +130,7 @@ impl House {
     /// Locks the gameweeks whose deadlines have passed; whether one more is locked.
     pub fn pass(&mut self, now: Moment) -> bool
         ensures rows { self.new ≡ passed now self.old }
-        ensures none { result ≡ false → IfSome self.old.facts (λ facts. (after_pass facts.calendar now).locked ≡ facts.calendar.locked) }
+        ensures more { result ≡ locks_more self.old.facts now }
     {
         match &mut self.running {
             Some(running) => {
@@ -145,7 +144,8 @@ impl House {
 
     /// What is committed of these slots, as the rows tell them. It takes memory.
     pub fn batch(&self, slots: &[Slot]) -> Result<Vec<Op>, Memory>
-        ensures { IfOk result (λ ops. ops.items ≡ batch (told_by self.now) slots.now) }
+        ensures batch { IfOk result (λ ops. ops.items ≡ batch (told_by self.now) slots.now) }
+        ensures items { OnOk result (TellItemsBy self.now slots.now) }
     {
         batch_of(self.alloc, &self.running, &self.lasts, slots)
     }
