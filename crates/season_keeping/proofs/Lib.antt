@@ -1,0 +1,6 @@
+pub mod Leading
+pub mod Locking
+pub mod Ending
+pub mod Acting
+pub mod Committing
+pub mod Loading

@@ -1,0 +1,120 @@
+use Rattle.std.proofs.Common.{◌⊎◌, ◌≡◌, ℕ, List, ap, subst, sym}
+use Rattle.season_book.specs.Doing.{IsOutLate}
+use Rattle.season_book.specs.Verdict.{Failures, MayAnswer, pass}
+use Rattle.season_book.specs.declared.answer.Answer.{Answer}
+use Rattle.season_records.specs.Commits.{HoldsLeft}
+use Rattle.season_running.specs.Standing.{HostRows}
+use Rattle.season_keeping.specs.Answering.{MayEnd, WouldChange}
+use Rattle.season_keeping.proofs.Acting.{backs_between, left_of_commit, left_of_ending, stands_between, then_leads}
+use Rattle.season_keeping.proofs.Ending.{change_of_act, change_of_lock, fails_by, leads_map, may_behind, may_of_lock}
+use Rattle.season_keeping.proofs.host.Host.answer.Goals as goal
+
+pub returns-in-Ok-clause-answered : goal.returns-in-Ok-clause-answered
+returns-in-Ok-clause-answered g c = λ book stands.
+    let old = c.args.self.now in
+    let mid = c.lock.new.self in
+    let new = c.answer_locked.new.self in
+    let first = c.args.keeper.now in
+    let middle = c.lock.new.keeper in
+    let last = c.answer_locked.new.keeper in
+    let here = pass book c.args.now in
+    let own = ap (λ (rows : HostRows). rows.operator) c.lock.ensures.rows in
+    let one = c.in-Ok.ensures.locked book stands in
+    let stood = stands_between _ g.K.Keeper.tells g.K.Keeper.serves g.K.Keeper.holds g.K.Keeper.passes first middle last old mid new book here
+    c.in-Ok.ensures.ok c.answer_locked.ensures.told c.answer_locked.ensures.served one in
+    let failures : Failures = record { before = g.K.Keeper.faults first; behind = g.K.Keeper.faults last } in
+    let two = c.answer_locked.ensures.answered here stood in
+    then_leads _ g.K.Keeper.tells g.K.Keeper.serves g.K.Keeper.holds g.K.Keeper.passes first middle last old mid new book here
+    c.in-Ok.ensures.ok c.answer_locked.ensures.told c.answer_locked.ensures.served one
+    (λ left. MayEnd mid.rows.operator (record { before = g.K.Keeper.faults middle; behind = g.K.Keeper.faults last }) here c.args.caller c.args.now c.args.request.now c.answer_locked.result left)
+    (λ left. MayAnswer old.rows.operator failures book c.args.caller c.args.now c.args.request.now c.answer_locked.result left)
+    (may_behind old.rows.operator mid.rows.operator (g.K.Keeper.faults first) (g.K.Keeper.faults middle) (g.K.Keeper.faults last) book c.args.caller c.args.now c.args.request.now c.answer_locked.result own
+    c.lock.ensures.cause.later) two
+
+pub returns-in-Err-clause-answered : goal.returns-in-Err-clause-answered
+returns-in-Err-clause-answered g c = λ book stands.
+    let operator = c.args.self.now.rows.operator in
+    let failures : Failures = record { before = g.K.Keeper.faults c.args.keeper.now; behind = g.K.Keeper.faults c.lock.new.keeper } in
+    let fails = fails_by c.lock.result c.in-Err.fault (g.K.Keeper.faults c.args.keeper.now) (g.K.Keeper.faults c.lock.new.keeper) c.in-Err.is c.lock.ensures.cause in
+    leads_map _ g.K.Keeper.tells g.K.Keeper.serves g.K.Keeper.holds g.K.Keeper.passes c.args.keeper.now c.lock.new.keeper c.args.self.now c.lock.new.self book
+    (λ left. (left ≡ book) ⊎ (left ≡ pass book c.args.now))
+    (λ left. MayAnswer operator failures book c.args.caller c.args.now c.args.request.now c.fault_answer.result left)
+    (λ left either. subst (λ (a : Answer). MayAnswer operator failures book c.args.caller c.args.now c.args.request.now a left) (sym c.fault_answer.ensures)
+    (may_of_lock operator failures book c.args.caller c.args.now c.args.request.now c.in-Err.fault left fails either))
+    (c.in-Err.ensures.locked book stands)
+
+pub returns-in-Ok-clause-isolated : goal.returns-in-Ok-clause-isolated
+returns-in-Ok-clause-isolated g c = λ no_memory no_keeper book stands.
+    let old = c.args.self.now in
+    let mid = c.lock.new.self in
+    let new = c.answer_locked.new.self in
+    let first = c.args.keeper.now in
+    let middle = c.lock.new.keeper in
+    let last = c.answer_locked.new.keeper in
+    let here = pass book c.args.now in
+    let own = ap (λ (rows : HostRows). rows.operator) c.lock.ensures.rows in
+    let one = c.in-Ok.ensures.locked book stands in
+    let stood = stands_between _ g.K.Keeper.tells g.K.Keeper.serves g.K.Keeper.holds g.K.Keeper.passes first middle last old mid new book here
+    c.in-Ok.ensures.ok c.answer_locked.ensures.told c.answer_locked.ensures.served one in
+    let failures : Failures = record { before = g.K.Keeper.faults first; behind = g.K.Keeper.faults last } in
+    let two = c.answer_locked.ensures.answered here stood in
+    c.answers_are_isolated.ensures old.rows.operator failures book c.args.caller c.args.now c.args.request.now c.answer_locked.result two.by_rows.0
+    ((may_behind old.rows.operator mid.rows.operator (g.K.Keeper.faults first) (g.K.Keeper.faults middle) (g.K.Keeper.faults last) book c.args.caller c.args.now c.args.request.now c.answer_locked.result own
+    c.lock.ensures.cause.later) two.by_rows.0 two.by_rows.2) no_memory no_keeper
+
+pub returns-in-Ok-clause-late : goal.returns-in-Ok-clause-late
+returns-in-Ok-clause-late g c = λ is book stands.
+    let old = c.args.self.now in
+    let mid = c.lock.new.self in
+    let new = c.answer_locked.new.self in
+    let first = c.args.keeper.now in
+    let middle = c.lock.new.keeper in
+    let last = c.answer_locked.new.keeper in
+    let here = pass book c.args.now in
+    let own = ap (λ (rows : HostRows). rows.operator) c.lock.ensures.rows in
+    let one = c.in-Ok.ensures.locked book stands in
+    let stood = stands_between _ g.K.Keeper.tells g.K.Keeper.serves g.K.Keeper.holds g.K.Keeper.passes first middle last old mid new book here
+    c.in-Ok.ensures.ok c.answer_locked.ensures.told c.answer_locked.ensures.served one in
+    subst (λ (operator : List ℕ). IsOutLate operator here c.args.caller c.args.now c.args.request.now c.answer_locked.result) own (c.answer_locked.ensures.late is here stood)
+
+pub returns-in-Ok-clause-changes : goal.returns-in-Ok-clause-changes
+returns-in-Ok-clause-changes g c = λ is book stands.
+    let old = c.args.self.now in
+    let mid = c.lock.new.self in
+    let new = c.answer_locked.new.self in
+    let first = c.args.keeper.now in
+    let middle = c.lock.new.keeper in
+    let last = c.answer_locked.new.keeper in
+    let here = pass book c.args.now in
+    let own = ap (λ (rows : HostRows). rows.operator) c.lock.ensures.rows in
+    let one = c.in-Ok.ensures.locked book stands in
+    let stood = stands_between _ g.K.Keeper.tells g.K.Keeper.serves g.K.Keeper.holds g.K.Keeper.passes first middle last old mid new book here
+    c.in-Ok.ensures.ok c.answer_locked.ensures.told c.answer_locked.ensures.served one in
+    subst (λ (operator : List ℕ). WouldChange operator book c.args.caller c.args.now c.args.request.now) own
+    (change_of_act mid.rows.operator book c.args.caller c.args.now c.args.request.now (c.answer_locked.ensures.acts is here stood))
+
+pub returns-in-Err-clause-changes : goal.returns-in-Err-clause-changes
+returns-in-Err-clause-changes g c = λ is book stands.
+    change_of_lock c.args.self.now.rows.operator book c.args.caller c.args.now c.args.request.now (c.in-Err.ensures.locks book stands)
+
+pub returns-in-Ok-clause-stops : goal.returns-in-Ok-clause-stops
+returns-in-Ok-clause-stops g c = λ book stands tell backs x passed.
+    let old = c.args.self.now in
+    let mid = c.lock.new.self in
+    let new = c.answer_locked.new.self in
+    let first = c.args.keeper.now in
+    let middle = c.lock.new.keeper in
+    let last = c.answer_locked.new.keeper in
+    let here = pass book c.args.now in
+    let own = ap (λ (rows : HostRows). rows.operator) c.lock.ensures.rows in
+    let one = c.in-Ok.ensures.locked book stands in
+    let stood = stands_between _ g.K.Keeper.tells g.K.Keeper.serves g.K.Keeper.holds g.K.Keeper.passes first middle last old mid new book here
+    c.in-Ok.ensures.ok c.answer_locked.ensures.told c.answer_locked.ensures.served one in
+    let held = backs_between _ g.K.Keeper.tells g.K.Keeper.serves g.K.Keeper.holds g.K.Keeper.passes first middle last old mid new book here
+    c.in-Ok.ensures.ok c.answer_locked.ensures.told c.answer_locked.ensures.served one tell backs in
+    subst (λ (operator : List ℕ). HoldsLeft operator book c.args.caller c.args.now c.args.request.now x) own
+    (left_of_ending mid.rows.operator book c.args.caller c.args.now c.args.request.now x (c.answer_locked.ensures.stops here stood tell held x passed))
+
+pub returns-in-Err-clause-stops : goal.returns-in-Err-clause-stops
+returns-in-Err-clause-stops g c = λ book stands tell backs x passed.
+    left_of_commit c.args.self.now.rows.operator book c.args.caller c.args.now c.args.request.now x (c.in-Err.ensures.stops book stands tell backs x passed)

@@ -1,0 +1,115 @@
+use Rattle.std.proofs.Common.{◌∙◌, ◌==◌, List, length, ap, subst, sym}
+use Rattle.record_codec.specs.declared.slot.Slot.{Slot}
+use Rattle.season_book.specs.Book.{Book}
+use Rattle.season_book.specs.Verdict.{Failures}
+use Rattle.season_book.specs.declared.answer.Answer.{Answer}
+use Rattle.season_book.specs.declared.request.Request.TheVariants as request
+use Rattle.season_keeping.specs.Answering.{MayEnd}
+use Rattle.season_keeping.specs.Housed.{Housed}
+use Rattle.season_keeping.proofs.Acting.{acted_leads, acted_stops, acts, after_rests, followed, none_of, rest_leads, some_of}
+use Rattle.season_keeping.proofs.Committing.{commits_at}
+use Rattle.season_keeping.proofs.Ending.{end_of_fault, end_of_may, fails_by}
+use Rattle.season_keeping.proofs.host.Host.answer_command.Goals as goal
+
+pub returns-then-is_empty-clause-answered : goal.returns-then-is_empty-clause-answered
+returns-then-is_empty-clause-answered g c = λ book stands.
+    let old = c.args.self.now in
+    let mid : Housed = record { rows = c.answer_command-answered.new.self; stale = c.self.inside.stale; reread = c.self.inside.reread } in
+    let caller = c.args.caller.now in
+    let command = c.args.command.now in
+    let slots = c.answer_command-answered.result.slots.items in
+    let reply = c.answer_command-answered.result.answer in
+    let led = followed c.self.inside.house old.rows mid.rows caller c.args.now c.args.number command reply slots (ap (λ (h : Housed). h.rows) c.self.view_is)
+    c.answer_command-answered.ensures.answered book stands in
+    let failures : Failures = record { before = g.K.Keeper.faults c.args.keeper.now; behind = g.K.Keeper.faults c.args.keeper.now } in
+    let asked = request.Command c.args.number command in
+    rest_leads _ g.K.Keeper.tells g.K.Keeper.serves g.K.Keeper.holds g.K.Keeper.passes c.args.keeper.now old mid (sym (ap (λ (h : Housed). h.stale) c.self.view_is))
+    book led.0 (after_rests old.rows.operator book caller c.args.now c.args.number command slots led.0 led.2.1 (none_of slots (c.if-is_empty.ensures ∙ ap (λ (s : List Slot). length s == 0) c.as_slice.ensures.value))) led.1
+    (λ left. MayEnd old.rows.operator failures book caller c.args.now asked reply left)
+    (end_of_may old.rows.operator failures book caller c.args.now asked reply led.0 led.2.0)
+
+pub returns-in-Ok-clause-answered : goal.returns-in-Ok-clause-answered
+returns-in-Ok-clause-answered g c = λ book stands.
+    let old = c.args.self.now in
+    let mid : Housed = record { rows = c.answer_command-answered.new.self; stale = c.self.inside.stale; reread = c.self.inside.reread } in
+    let caller = c.args.caller.now in
+    let command = c.args.command.now in
+    let slots = c.answer_command-answered.result.slots.items in
+    let reply = c.answer_command-answered.result.answer in
+    let led = followed c.self.inside.house old.rows mid.rows caller c.args.now c.args.number command reply slots (ap (λ (h : Housed). h.rows) c.self.view_is)
+    c.answer_command-answered.ensures.answered book stands in
+    let failures : Failures = record { before = g.K.Keeper.faults c.args.keeper.now; behind = g.K.Keeper.faults c.commit.new.keeper } in
+    let asked = request.Command c.args.number command in
+    acted_leads c.commands_keep_records.ensures c.books_are_early.ensures.verdict c.books_are_in_order.ensures.verdict c.items_stay.ensures.command c.rows_tell_records.ensures.tell c.slots_tell_items.ensures.look
+    _ _ g.K.Keeper.tells g.K.Keeper.serves g.K.Keeper.holds g.K.Keeper.passes c.args.keeper.now c.commit.new.keeper old mid c.commit.new.self
+    old.rows.operator caller c.args.now c.args.number command slots reply c.keeps_order.ensures (some_of slots (c.if-is_empty.ensures ∙ ap (λ (s : List Slot). length s == 0) c.as_slice.ensures.value)) _ (commits_at _ _ g.K.Keeper.tells g.K.Keeper.serves g.K.Keeper.holds g.K.Keeper.passes c.args.keeper.now c.commit.new.keeper c.deref.result.now slots mid c.commit.new.self _ c.deref.ensures.value c.in-Ok.ensures.commits)
+    book led.0 led.1 led.2
+    (λ left. MayEnd old.rows.operator failures book caller c.args.now asked reply left)
+    (λ left is. subst (λ (b : Book). MayEnd old.rows.operator failures book caller c.args.now asked reply b) (sym is)
+    (end_of_may old.rows.operator failures book caller c.args.now asked reply led.0 led.2.0))
+
+pub returns-in-Err-clause-answered : goal.returns-in-Err-clause-answered
+returns-in-Err-clause-answered g c = λ book stands.
+    let old = c.args.self.now in
+    let mid : Housed = record { rows = c.answer_command-answered.new.self; stale = c.self.inside.stale; reread = c.self.inside.reread } in
+    let caller = c.args.caller.now in
+    let command = c.args.command.now in
+    let slots = c.answer_command-answered.result.slots.items in
+    let reply = c.answer_command-answered.result.answer in
+    let led = followed c.self.inside.house old.rows mid.rows caller c.args.now c.args.number command reply slots (ap (λ (h : Housed). h.rows) c.self.view_is)
+    c.answer_command-answered.ensures.answered book stands in
+    let failures : Failures = record { before = g.K.Keeper.faults c.args.keeper.now; behind = g.K.Keeper.faults c.commit.new.keeper } in
+    let asked = request.Command c.args.number command in
+    let fails = fails_by c.commit.result c.in-Err.fault (g.K.Keeper.faults c.args.keeper.now) (g.K.Keeper.faults c.commit.new.keeper) c.in-Err.is c.commit.ensures.cause in
+    acted_leads c.commands_keep_records.ensures c.books_are_early.ensures.verdict c.books_are_in_order.ensures.verdict c.items_stay.ensures.command c.rows_tell_records.ensures.tell c.slots_tell_items.ensures.look
+    _ _ g.K.Keeper.tells g.K.Keeper.serves g.K.Keeper.holds g.K.Keeper.passes c.args.keeper.now c.commit.new.keeper old mid c.commit.new.self
+    old.rows.operator caller c.args.now c.args.number command slots reply c.keeps_order.ensures (some_of slots (c.if-is_empty.ensures ∙ ap (λ (s : List Slot). length s == 0) c.as_slice.ensures.value)) _ (commits_at _ _ g.K.Keeper.tells g.K.Keeper.serves g.K.Keeper.holds g.K.Keeper.passes c.args.keeper.now c.commit.new.keeper c.deref.result.now slots mid c.commit.new.self _ c.deref.ensures.value c.in-Err.ensures.commits)
+    book led.0 led.1 led.2
+    (λ left. MayEnd old.rows.operator failures book caller c.args.now asked c.fault_answer.result left)
+    (λ left either. subst (λ (a : Answer). MayEnd old.rows.operator failures book caller c.args.now asked a left) (sym c.fault_answer.ensures)
+    (end_of_fault old.rows.operator failures book caller c.args.now asked reply led.0 left c.in-Err.fault fails led.2.0 either))
+
+pub returns-in-Ok-clause-stops : goal.returns-in-Ok-clause-stops
+returns-in-Ok-clause-stops g c = λ book stands.
+    let old = c.args.self.now in
+    let mid : Housed = record { rows = c.answer_command-answered.new.self; stale = c.self.inside.stale; reread = c.self.inside.reread } in
+    let caller = c.args.caller.now in
+    let command = c.args.command.now in
+    let slots = c.answer_command-answered.result.slots.items in
+    let reply = c.answer_command-answered.result.answer in
+    let led = followed c.self.inside.house old.rows mid.rows caller c.args.now c.args.number command reply slots (ap (λ (h : Housed). h.rows) c.self.view_is)
+    c.answer_command-answered.ensures.answered book stands in
+    acted_stops c.commands_keep_records.ensures c.books_are_early.ensures.verdict c.books_are_in_order.ensures.verdict c.items_stay.ensures.command c.rows_tell_records.ensures.tell c.slots_tell_items.ensures.look
+    _ _ g.K.Keeper.tells g.K.Keeper.serves g.K.Keeper.holds g.K.Keeper.passes c.args.keeper.now c.commit.new.keeper old mid c.commit.new.self
+    old.rows.operator caller c.args.now c.args.number command slots reply c.keeps_order.ensures (some_of slots (c.if-is_empty.ensures ∙ ap (λ (s : List Slot). length s == 0) c.as_slice.ensures.value)) _ (commits_at _ _ g.K.Keeper.tells g.K.Keeper.serves g.K.Keeper.holds g.K.Keeper.passes c.args.keeper.now c.commit.new.keeper c.deref.result.now slots mid c.commit.new.self _ c.deref.ensures.value c.in-Ok.ensures.commits)
+    book led.0 led.1 led.2 c.requires.fresh
+
+pub returns-in-Err-clause-stops : goal.returns-in-Err-clause-stops
+returns-in-Err-clause-stops g c = λ book stands.
+    let old = c.args.self.now in
+    let mid : Housed = record { rows = c.answer_command-answered.new.self; stale = c.self.inside.stale; reread = c.self.inside.reread } in
+    let caller = c.args.caller.now in
+    let command = c.args.command.now in
+    let slots = c.answer_command-answered.result.slots.items in
+    let reply = c.answer_command-answered.result.answer in
+    let led = followed c.self.inside.house old.rows mid.rows caller c.args.now c.args.number command reply slots (ap (λ (h : Housed). h.rows) c.self.view_is)
+    c.answer_command-answered.ensures.answered book stands in
+    acted_stops c.commands_keep_records.ensures c.books_are_early.ensures.verdict c.books_are_in_order.ensures.verdict c.items_stay.ensures.command c.rows_tell_records.ensures.tell c.slots_tell_items.ensures.look
+    _ _ g.K.Keeper.tells g.K.Keeper.serves g.K.Keeper.holds g.K.Keeper.passes c.args.keeper.now c.commit.new.keeper old mid c.commit.new.self
+    old.rows.operator caller c.args.now c.args.number command slots reply c.keeps_order.ensures (some_of slots (c.if-is_empty.ensures ∙ ap (λ (s : List Slot). length s == 0) c.as_slice.ensures.value)) _ (commits_at _ _ g.K.Keeper.tells g.K.Keeper.serves g.K.Keeper.holds g.K.Keeper.passes c.args.keeper.now c.commit.new.keeper c.deref.result.now slots mid c.commit.new.self _ c.deref.ensures.value c.in-Err.ensures.commits)
+    book led.0 led.1 led.2 c.requires.fresh
+
+pub returns-in-Err-clause-acts : goal.returns-in-Err-clause-acts
+returns-in-Err-clause-acts g c = λ is book stands.
+    let old = c.args.self.now in
+    let mid : Housed = record { rows = c.answer_command-answered.new.self; stale = c.self.inside.stale; reread = c.self.inside.reread } in
+    let caller = c.args.caller.now in
+    let command = c.args.command.now in
+    let slots = c.answer_command-answered.result.slots.items in
+    let reply = c.answer_command-answered.result.answer in
+    let led = followed c.self.inside.house old.rows mid.rows caller c.args.now c.args.number command reply slots (ap (λ (h : Housed). h.rows) c.self.view_is)
+    c.answer_command-answered.ensures.answered book stands in
+    acts c.commands_keep_records.ensures c.books_are_early.ensures.verdict c.books_are_in_order.ensures.verdict c.items_stay.ensures.command c.rows_tell_records.ensures.tell c.slots_tell_items.ensures.look
+    _ _ g.K.Keeper.tells g.K.Keeper.serves g.K.Keeper.holds g.K.Keeper.passes c.args.keeper.now c.commit.new.keeper old mid c.commit.new.self
+    old.rows.operator caller c.args.now c.args.number command slots reply c.keeps_order.ensures (some_of slots (c.if-is_empty.ensures ∙ ap (λ (s : List Slot). length s == 0) c.as_slice.ensures.value)) _ (commits_at _ _ g.K.Keeper.tells g.K.Keeper.serves g.K.Keeper.holds g.K.Keeper.passes c.args.keeper.now c.commit.new.keeper c.deref.result.now slots mid c.commit.new.self _ c.deref.ensures.value c.in-Err.ensures.commits)
+    book led.0 led.1 led.2

@@ -1,0 +1,3 @@
+pub mod Housed
+pub mod Answering
+pub mod Opening

@@ -1,0 +1,310 @@
+// The host of a season over its keeper.
+ghost use Rattle.std.specs.Prelude.{◌≡◌, ◌≢◌, ◌≤◌, ◌⊎◌, Err, IfOk, IsOk, MatchResult, OnErr, OnOk, false, true};
+ghost use Rattle.fpl_base.specs.Keeping.{HasKeeperCause, Map};
+ghost use Rattle.season_book.specs.Book.{Book};
+ghost use Rattle.season_book.specs.Commands.{IsCommand};
+ghost use Rattle.season_book.specs.Doing.{IsOutLate};
+ghost use Rattle.season_book.specs.Hosts.{IsRequest, owner_of};
+ghost use Rattle.season_book.specs.Verdict.{MayAnswer, pass};
+ghost use Rattle.season_book.specs.declared.answer.Answer.TheVariants as answer_of;
+ghost use Rattle.season_book.specs.declared.request.Request.TheVariants as request_of;
+ghost use Rattle.season_isolation.specs.Isolation.{ToldAlike};
+ghost use Rattle.season_running.specs.EntryLaws.{IsOrderlyHost};
+ghost use Rattle.season_running.specs.Standing.{StandsIn, keys_in, number_at, passed};
+ghost use Rattle.season_opening.specs.declared.loading.OpenFault.TheVariants as fault;
+ghost use Rattle.season_keeping.specs.Answering.{Answers, Commits, EndsCommit, MayEnd, StopsEnding, StopsLeave, StopsCommit, WouldAct, WouldChange, answer_of_fault};
+ghost use Rattle.season_keeping.specs.Housed.{Backs};
+ghost use Rattle.season_keeping.specs.Opening.{Opens, Withholds};
+
+use fpl_base::{Caller, Keeper, KeeperFault, Key, Memory, Moment, Steps};
+use record_codec::Slot;
+use season_book::{Answer, Command, Request};
+use season_host::House;
+use season_isolation::answers_are_isolated;
+use season_items::{items_stay, slots_tell_items};
+use season_opening::{OpenFault, loaded, loaded_rows_stand};
+use season_records::{
+    books_are_early, books_are_in_order, commands_keep_records, locks_keep_records,
+};
+use season_rows::rows_tell_records;
+use std::alloc::Global;
+use std::marker::Model;
+use std::sync::ledger::Ledger;
+
+/// The host of a season: it judges what is asked, does it, commits what that changed and answers. Where the keeper failed,
+/// or memory ran out on the way, it is stale, and `ready` makes it anew of the keeper's records. A contract sees its rows,
+/// and the books that they stand for (`StandsIn`).
+#[derive(Drop)]
+pub struct Host {
+    alloc: Global,
+    house: House,
+    stale: bool,
+    reread: bool,
+}
+
+impl Model for Host {
+    ghost use Rattle.season_keeping.specs.Housed.{Housed};
+
+    ghost Value = { Housed };
+
+    ghost view = { λ h. record { rows = h.house; stale = h.stale; reread = h.reread } };
+}
+
+impl Host {
+    /// Opens the host of an operator over a keeper: it stands for the books that the keeper's records tell, and has no season
+    /// where there is no record.
+    pub fn open<K: Keeper>(alloc: Global, keeper: &mut K, operator: &Key) -> Result<Host, OpenFault>
+        ensures opened { MatchResult result (Opens K.tells K.holds K.passes keeper.old keeper.new) (Withholds K.tells K.holds K.passes K.faults keeper.old keeper.new) }
+        ensures operator { IfOk result (λ host. host.rows.operator ≡ operator.now) }
+        ensures reread { IfOk result (λ host. host.reread ≡ false) }
+        ensures counts { result ≢ Err fault.Keeper → K.faults keeper.new ≡ K.faults keeper.old }
+        ensures later { K.faults keeper.old ≤ K.faults keeper.new }
+        ensures told { K.tells keeper.new → K.tells keeper.old }
+        ensures served { K.tells keeper.new → K.serves keeper.new → K.serves keeper.old }
+    {
+        // The law that what was made of a book's records stands for it, for the prover.
+        loaded_rows_stand();
+        let operator = match operator.copy() {
+            Ok(operator) => operator,
+            Err(Memory) => return Err(OpenFault::Memory),
+        };
+        match loaded(alloc, keeper) {
+            Ok(made) => Ok(Host {
+                alloc,
+                house: House::new(alloc, operator, made.running, made.lasts),
+                stale: false,
+                reread: false,
+            }),
+            Err(fault) => Err(fault),
+        }
+    }
+
+    /// Makes a stale host anew of the keeper's records. Where that does not go well it is stale still. A host that is not
+    /// stale stays as it is, and takes no memory.
+    pub fn ready<K: Keeper>(&mut self, keeper: &mut K) -> Result<(), OpenFault>
+        ensures fresh { self.old.stale ≡ false → IsOk result × (self.new ≡ self.old) × (keeper.new ≡ keeper.old) }
+        ensures reread { self.old.stale ≡ true → self.new.reread ≡ true }
+        ensures operator { self.new.rows.operator ≡ self.old.rows.operator }
+        ensures ok { OnOk result (self.new.stale ≡ false) }
+        ensures err { OnErr result ((self.new.stale ≡ true) × (self.new.rows ≡ self.old.rows)) }
+        ensures made { self.old.stale ≡ true → MatchResult result (λ done. Opens K.tells K.holds K.passes keeper.old keeper.new self.new) (Withholds K.tells K.holds K.passes K.faults keeper.old keeper.new) }
+        ensures backs { K.tells keeper.new → K.serves keeper.new → (book : Book) → Backs K.holds K.passes keeper.old self.old book → Backs K.holds K.passes keeper.new self.new book }
+        ensures stops { K.tells keeper.new → (m : Map) → K.holds keeper.old m → (x : Map) → K.passes keeper.new x → K.passes keeper.old x }
+        ensures counts { result ≢ Err fault.Keeper → K.faults keeper.new ≡ K.faults keeper.old }
+        ensures later { K.faults keeper.old ≤ K.faults keeper.new }
+        ensures told { K.tells keeper.new → K.tells keeper.old }
+        ensures served { K.tells keeper.new → K.serves keeper.new → K.serves keeper.old }
+    {
+        // The law that what was made of a book's records stands for it, for the prover.
+        loaded_rows_stand();
+        if !self.stale {
+            return Ok(());
+        }
+        self.reread = true;
+        match loaded(self.alloc, keeper) {
+            Ok(made) => {
+                self.house.replace(made.running, made.lasts);
+                self.stale = false;
+                Ok(())
+            }
+            Err(fault) => Err(fault),
+        }
+    }
+
+    /// Whose key these bytes are; `None` where nobody has it, and so where they are no key. It takes no memory.
+    pub fn owner_of(&self, bytes: &[u8]) -> Option<Caller>
+        ensures { result ≡ owner_of self.now.rows.operator (keys_in self.now.rows) bytes.now }
+    {
+        self.house.owner_of(bytes)
+    }
+
+    /// The number of a caller's last accepted command; 0 where he had none accepted.
+    pub fn last(&self, caller: Caller) -> u64
+        ensures { result ≡ number_at self.now.rows.lasts caller }
+    {
+        self.house.last(caller)
+    }
+
+    /// A law: every host is orderly, so what `rows_tell_histories`, `money_is_recorded` and `batches_move_money` say holds in
+    /// each book that it stands for.
+    pub fn keeps_order(&self)
+        ensures { IsOrderlyHost self.now.rows }
+    {
+        self.house.keeps_order();
+    }
+
+    /// Answers a request of a caller at a moment, once what it changed was committed. `Answer::Keeper`: the keeper failed,
+    /// and the host is stale; so it is after `Answer::Memory`, unless nothing was changed. Then the command was done once or
+    /// not at all, and its repeat tells.
+    pub fn answer<K: Keeper, L: Ledger>(
+        &mut self,
+        keeper: &mut K,
+        caller: Caller,
+        now: Moment,
+        request: &Request,
+        steps: &mut Steps<L>,
+    ) -> Answer
+        requires fresh { self.old.stale ≡ false }
+        requires asked { IsRequest request.now }
+        ensures answered { Answers K.tells K.serves K.holds K.passes keeper.old keeper.new self.old self.new
+            (λ book left. MayAnswer self.old.rows.operator (record { before = K.faults keeper.old; behind = K.faults keeper.new }) book caller now request.now result left) }
+        ensures isolated { result ≢ answer_of.Memory → result ≢ answer_of.Keeper → (book : Book) → StandsIn self.old.rows book → ToldAlike self.old.rows.operator book caller now request.now result }
+        ensures late { self.new.stale ≡ false → (book : Book) → StandsIn self.old.rows book → IsOutLate self.old.rows.operator (pass book now) caller now request.now result }
+        ensures changes { result ≡ answer_of.Keeper → (book : Book) → StandsIn self.old.rows book → WouldChange self.old.rows.operator book caller now request.now }
+        ensures stale { self.new.stale ≡ true → (result ≡ answer_of.Memory) ⊎ (result ≡ answer_of.Keeper) }
+        ensures keeper { result ≡ answer_of.Keeper → self.new.stale ≡ true }
+        ensures operator { self.new.rows.operator ≡ self.old.rows.operator }
+        ensures reread { self.new.reread ≡ self.old.reread }
+        ensures stops { (book : Book) → StandsIn self.old.rows book → StopsLeave self.old.rows.operator K.tells K.holds K.passes keeper.old keeper.new self.old book caller now request.now }
+        ensures later { K.faults keeper.old ≤ K.faults keeper.new }
+        ensures told { K.tells keeper.new → K.tells keeper.old }
+        ensures served { K.tells keeper.new → K.serves keeper.new → K.serves keeper.old }
+    {
+        // The law that what may be answered is isolated, for the prover.
+        answers_are_isolated();
+        match self.lock(keeper, now) {
+            Ok(()) => self.answer_locked(keeper, caller, now, request, steps),
+            Err(fault) => fault_answer(fault),
+        }
+    }
+
+    // Locks the gameweeks whose deadlines have passed, and commits the season's record where one more is locked.
+    fn lock<K: Keeper>(&mut self, keeper: &mut K, now: Moment) -> Result<(), KeeperFault>
+        requires fresh { self.old.stale ≡ false }
+        ensures rows { self.new.rows ≡ passed now self.old.rows }
+        ensures reread { self.new.reread ≡ self.old.reread }
+        ensures ok { OnOk result (self.new.stale ≡ false) }
+        ensures err { OnErr result (self.new.stale ≡ true) }
+        ensures locks { OnErr result ((book : Book) → StandsIn self.old.rows book → pass book now ≡ book → ⊥) }
+        ensures locked { Answers K.tells K.serves K.holds K.passes keeper.old keeper.new self.old self.new (λ book left. EndsCommit result book (pass book now) left) }
+        ensures stops { (book : Book) → StandsIn self.old.rows book → StopsCommit K.tells K.holds K.passes keeper.old keeper.new self.old book (pass book now) }
+        ensures told { K.tells keeper.new → K.tells keeper.old }
+        ensures served { K.tells keeper.new → K.serves keeper.new → K.serves keeper.old }
+        ensures cause { HasKeeperCause (K.faults keeper.old) (K.faults keeper.new) result }
+    {
+        // The laws on what a lock touches and what rows tell, for the prover.
+        locks_keep_records();
+        books_are_early();
+        books_are_in_order();
+        rows_tell_records();
+        items_stay();
+        slots_tell_items();
+        let locks = self.house.pass(now);
+        self.house.keeps_order();
+        if locks {
+            self.commit(keeper, &[Slot::Season])
+        } else {
+            Ok(())
+        }
+    }
+
+    // Commits what these slots tell. Where that does not go well the host is stale.
+    fn commit<K: Keeper>(&mut self, keeper: &mut K, slots: &[Slot]) -> Result<(), KeeperFault>
+        ensures commits { Commits K.tells K.serves K.holds K.passes keeper.old keeper.new slots.now self.old self.new result }
+        ensures told { K.tells keeper.new → K.tells keeper.old }
+        ensures served { K.tells keeper.new → K.serves keeper.new → K.serves keeper.old }
+        ensures cause { HasKeeperCause (K.faults keeper.old) (K.faults keeper.new) result }
+    {
+        match self.house.batch(slots) {
+            Ok(ops) => match keeper.commit(self.alloc, &ops) {
+                Ok(()) => Ok(()),
+                Err(fault) => {
+                    self.stale = true;
+                    Err(fault)
+                }
+            },
+            Err(Memory) => {
+                self.stale = true;
+                Err(KeeperFault::Memory)
+            }
+        }
+    }
+
+    // Answers a request in the book in which the moment's gameweeks are locked.
+    fn answer_locked<K: Keeper, L: Ledger>(
+        &mut self,
+        keeper: &mut K,
+        caller: Caller,
+        now: Moment,
+        request: &Request,
+        steps: &mut Steps<L>,
+    ) -> Answer
+        requires fresh { self.old.stale ≡ false }
+        requires asked { IsRequest request.now }
+        ensures answered { Answers K.tells K.serves K.holds K.passes keeper.old keeper.new self.old self.new
+            (λ book left. MayEnd self.old.rows.operator (record { before = K.faults keeper.old; behind = K.faults keeper.new }) book caller now request.now result left) }
+        ensures late { self.new.stale ≡ false → (book : Book) → StandsIn self.old.rows book → IsOutLate self.old.rows.operator book caller now request.now result }
+        ensures acts { result ≡ answer_of.Keeper → (book : Book) → StandsIn self.old.rows book → WouldAct self.old.rows.operator book caller now request.now }
+        ensures stale { self.new.stale ≡ true → (result ≡ answer_of.Memory) ⊎ (result ≡ answer_of.Keeper) }
+        ensures keeper { result ≡ answer_of.Keeper → self.new.stale ≡ true }
+        ensures operator { self.new.rows.operator ≡ self.old.rows.operator }
+        ensures reread { self.new.reread ≡ self.old.reread }
+        ensures stops { (book : Book) → StandsIn self.old.rows book → StopsEnding self.old.rows.operator K.tells K.holds K.passes keeper.old keeper.new self.old book caller now request.now }
+        ensures later { K.faults keeper.old ≤ K.faults keeper.new }
+        ensures told { K.tells keeper.new → K.tells keeper.old }
+        ensures served { K.tells keeper.new → K.serves keeper.new → K.serves keeper.old }
+    {
+        match request {
+            Request::View(view) => self.house.answer_view(&caller, *view, steps),
+            Request::Command { number, command } => {
+                self.answer_command(keeper, &caller, now, *number, command, steps)
+            }
+        }
+    }
+
+    // The same of a command.
+    fn answer_command<K: Keeper, L: Ledger>(
+        &mut self,
+        keeper: &mut K,
+        caller: &Caller,
+        now: Moment,
+        number: u64,
+        command: &Command,
+        steps: &mut Steps<L>,
+    ) -> Answer
+        requires fresh { self.old.stale ≡ false }
+        requires numbered { 1 ≤ number }
+        requires command { IsCommand command.now }
+        ensures answered { Answers K.tells K.serves K.holds K.passes keeper.old keeper.new self.old self.new
+            (λ book left. MayEnd self.old.rows.operator (record { before = K.faults keeper.old; behind = K.faults keeper.new }) book caller.now now (request_of.Command number command.now) result left) }
+        ensures late { self.new.stale ≡ false → (book : Book) → StandsIn self.old.rows book → IsOutLate self.old.rows.operator book caller.now now (request_of.Command number command.now) result }
+        ensures acts { result ≡ answer_of.Keeper → (book : Book) → StandsIn self.old.rows book → WouldAct self.old.rows.operator book caller.now now (request_of.Command number command.now) }
+        ensures stale { self.new.stale ≡ true → (result ≡ answer_of.Memory) ⊎ (result ≡ answer_of.Keeper) }
+        ensures keeper { result ≡ answer_of.Keeper → self.new.stale ≡ true }
+        ensures operator { self.new.rows.operator ≡ self.old.rows.operator }
+        ensures reread { self.new.reread ≡ self.old.reread }
+        ensures stops { (book : Book) → StandsIn self.old.rows book → StopsEnding self.old.rows.operator K.tells K.holds K.passes keeper.old keeper.new self.old book caller.now now (request_of.Command number command.now) }
+        ensures later { K.faults keeper.old ≤ K.faults keeper.new }
+        ensures told { K.tells keeper.new → K.tells keeper.old }
+        ensures served { K.tells keeper.new → K.serves keeper.new → K.serves keeper.old }
+    {
+        // The laws on what a command touches and what rows tell, for the prover.
+        commands_keep_records();
+        books_are_early();
+        books_are_in_order();
+        rows_tell_records();
+        items_stay();
+        slots_tell_items();
+        let answered = self
+            .house
+            .answer_command(caller, now, number, command, steps);
+        self.house.keeps_order();
+        if answered.slots.as_slice().is_empty() {
+            return answered.answer;
+        }
+        match self.commit(keeper, &answered.slots) {
+            Ok(()) => answered.answer,
+            Err(fault) => fault_answer(fault),
+        }
+    }
+}
+
+// The answer of a keeper's fault.
+fn fault_answer(fault: KeeperFault) -> Answer
+    ensures { result ≡ answer_of_fault fault }
+{
+    match fault {
+        KeeperFault::Failed => Answer::Keeper,
+        KeeperFault::Memory => Answer::Memory,
+    }
+}

@@ -1,0 +1,6 @@
+//! The host of a season over its keeper: it judges what is asked, does it, commits what that changed and answers.
+#![tactic(auto)]
+
+mod host;
+
+pub use host::Host;
