@@ -1,0 +1,2 @@
+pub mod IsolationFacts
+pub mod OnceFacts

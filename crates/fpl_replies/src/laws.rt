@@ -1,0 +1,30 @@
+ghost use Rattle.fpl_replies.specs.Isolation.{MessagesAreIsolated};
+ghost use Rattle.fpl_replies.specs.Once.{MessagesActOnce, OneAsked};
+
+use fpl_routes::targets_ask_one_thing;
+use season_book::commands_act_once;
+use season_isolation::answers_are_isolated;
+
+/// A law on the definitions: a message asks one thing of a host, or is refused in one way before the host judges it.
+pub fn messages_ask_one_thing()
+    ensures { OneAsked }
+{
+    targets_ask_one_thing();
+}
+
+/// A law on the definitions: in every run of messages, what the host judges of them is a run of requests in which no
+/// command acts twice. The other messages leave the host and the moments as they were.
+pub fn messages_act_once()
+    ensures { MessagesActOnce }
+{
+    commands_act_once();
+}
+
+/// A law on the definitions: every reply to a message, but want of memory, a keeper that failed and a record of it that
+/// is not lawful, may be given by every host that is the same to whom the message comes from. So no reply hangs on what
+/// another manager did in an open gameweek.
+pub fn messages_are_isolated()
+    ensures { MessagesAreIsolated }
+{
+    answers_are_isolated();
+}
