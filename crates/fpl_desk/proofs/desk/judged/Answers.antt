@@ -1,0 +1,12 @@
+use Rattle.fpl_desk.specs.Kept.{Kept}
+use Rattle.fpl_desk.proofs.JudgedLemmas.{judged_leads}
+use Rattle.fpl_desk.proofs.desk.judged.Goals as goal
+
+pub returns-clause-judged : goal.returns-clause-judged
+returns-clause-judged g c =
+    judged_leads _ g.K.Keeper.tells g.K.Keeper.serves g.K.Keeper.holds g.K.Keeper.passes
+    (record { host = c.args.host.now; moments = g.C.Clock.left c.args.clock.now; failed = g.K.Keeper.faults c.args.keeper.now; keeper = c.args.keeper.now })
+    (record { host = c.answer-answer.new.self; moments = g.C.Clock.left c.now-now.new.self; failed = g.K.Keeper.faults c.answer-answer.new.keeper; keeper = c.answer-answer.new.keeper })
+    c.args.caller c.now-now.result c.args.request.now c.answer-answer.result c.replied.result
+    c.requires.fresh c.now-now.ensures.told c.answer-answer.ensures.operator c.answer-answer.ensures.stale c.answer-answer.ensures.keeper c.answer-answer.ensures.changes c.answer-answer.ensures.stops
+    c.replied.ensures.reply c.answer-answer.ensures.reread c.answer-answer.ensures.told c.answer-answer.ensures.served c.answer-answer.ensures.answered

@@ -1,0 +1,282 @@
+// The host at its desk: what a message asks of it, and the reply.
+ghost use Rattle.std.specs.Prelude.{◌≡◌, ◌≢◌, ◌≤◌, Err, IfOk, IsTrue, MatchResult, Ok, Some, false, ⊤};
+ghost use Rattle.fpl_base.specs.declared.kinds.Caller.{Caller};
+ghost use Rattle.fpl_http.specs.Responses.{is_answer_status};
+ghost use Rattle.fpl_http.specs.Seen.{reply_seen, request_seen};
+ghost use Rattle.fpl_session.specs.Lifts.{LiftsWhile};
+ghost use Rattle.fpl_session.specs.Splits.{Both};
+ghost use Rattle.fpl_session.specs.Replies.{answer_in};
+ghost use Rattle.fpl_bodies.specs.Requests.{request_of};
+ghost use Rattle.season_book.specs.Hosts.{IsRequest};
+ghost use Rattle.season_keeping.specs.Opening.{Opens, Withholds};
+ghost use Rattle.season_opening.specs.declared.loading.OpenFault.{OpenFault};
+ghost use Rattle.season_opening.specs.declared.loading.OpenFault.TheVariants as fault;
+ghost use Rattle.fpl_desk.specs.Desks.{Asks, IsFaultReply};
+ghost use Rattle.fpl_desk.specs.Kept.{IsStoodByRows, IsStoodByStops, Kept, Leads, StandsByRecords, asked_in, caller_in};
+ghost use Rattle.fpl_replies.specs.Replying.{IsReply, IsReplyUntil, Judges, RepliesTo, asked_by, reply_of, unless_malformed};
+
+use fpl_base::{Caller, Clock, Keeper, Key, Memory, Steps};
+use fpl_http::{Message, Reply};
+use fpl_json::{
+    Found, ReadFault, Route, Routes, Scratch, answer_text, caller_text, key_text, malformed_text,
+    method_text, read_request, unknown_text,
+};
+use fpl_session::Service;
+use season_book::{Answer, Request};
+use season_keeping::Host;
+use season_opening::OpenFault;
+use std::alloc::Global;
+use std::sync::ledger::Ledger;
+
+/// Where messages come to the host: the table of routes, which is built once for all of them.
+#[derive(Drop)]
+pub struct Desk {
+    routes: Routes,
+}
+
+/// The host, and the place in which bodies are read, which is kept from message to message.
+#[derive(Drop)]
+pub struct HostWithScratch {
+    pub host: Host,
+    pub scratch: Scratch,
+}
+
+/// What a message asks by its route, or the reply that refuses it before the host judges it.
+#[derive(Drop)]
+enum Asked {
+    By(Caller, Request),
+    Refused(Reply),
+}
+
+impl Desk {
+    /// A desk. The table of routes takes memory.
+    pub fn new(alloc: Global) -> Result<Self, Memory> {
+        Ok(Desk {
+            routes: Routes::new(alloc)?,
+        })
+    }
+}
+
+/// A desk, and the host that was opened over a keeper. They take memory.
+pub fn opened<K: Keeper>(
+    alloc: Global,
+    key: &Key,
+    keeper: &mut K,
+) -> Result<(Desk, HostWithScratch), OpenFault>
+    ensures opened { MatchResult result (λ opened. Opens K.tells K.holds K.passes keeper.old keeper.new opened.1.host) (Withholds K.tells K.holds K.passes K.faults keeper.old keeper.new) }
+    ensures operator { IfOk result (λ opened. opened.1.host.rows.operator ≡ key.now) }
+    ensures reread { IfOk result (λ opened. opened.1.host.reread ≡ false) }
+    ensures counts { result ≢ Err fault.Keeper → K.faults keeper.new ≡ K.faults keeper.old }
+    ensures later { K.faults keeper.old ≤ K.faults keeper.new }
+    ensures told { K.tells keeper.new → K.tells keeper.old }
+    ensures served { K.tells keeper.new → K.serves keeper.new → K.serves keeper.old }
+{
+    let desk = match Desk::new(alloc) {
+        Ok(desk) => desk,
+        Err(Memory) => return Err(OpenFault::Memory),
+    };
+    match Host::open(alloc, keeper, key) {
+        Ok(host) => Ok((
+            desk,
+            HostWithScratch {
+                host,
+                scratch: Scratch::new(alloc),
+            },
+        )),
+        Err(fault) => Err(fault),
+    }
+}
+
+// What the owner of a message's key asks by a route.
+fn asked_by(
+    alloc: Global,
+    host: &Host,
+    scratch: &mut Scratch,
+    message: &Message<'_>,
+    route: Route,
+    ids: &[u32; 2],
+) -> Result<Asked, Memory>
+    ensures { IfOk result (Asks (asked_in host.now.rows (request_seen message.now) route ids.now)) }
+{
+    match caller_of(host, message) {
+        None => refused(alloc, 401, key_text()),
+        Some(caller) => asked_as(alloc, scratch, &caller, route, ids, message.body),
+    }
+}
+
+// Whose key a message shows.
+fn caller_of(host: &Host, message: &Message<'_>) -> Option<Caller>
+    ensures { result ≡ caller_in host.now.rows (request_seen message.now).key }
+{
+    match message.key {
+        Some(bytes) => host.owner_of(bytes),
+        None => None,
+    }
+}
+
+// What a caller asks by a route.
+fn asked_as(
+    alloc: Global,
+    scratch: &mut Scratch,
+    caller: &Caller,
+    route: Route,
+    ids: &[u32; 2],
+    body: &[u8],
+) -> Result<Asked, Memory>
+    ensures { IfOk result (Asks (asked_by (Some caller.now) route ids.now body.now)) }
+{
+    if route.is_for(*caller) {
+        read(alloc, scratch, caller, route, ids, body)
+    } else {
+        refused(alloc, 403, caller_text())
+    }
+}
+
+// The reply to a message that goes by a route: the caller and the body first, and then the host.
+fn answered<K: Keeper, C: Clock, L: Ledger>(
+    alloc: Global,
+    host: &mut HostWithScratch,
+    keeper: &mut K,
+    clock: &mut C,
+    steps: &mut Steps<L>,
+    message: &Message<'_>,
+    route: Route,
+    ids: &[u32; 2],
+) -> Result<Reply, Memory>
+    requires { host.old.host.stale ≡ false }
+    ensures status { IfOk result (λ reply. IsTrue (is_answer_status reply.status)) }
+    ensures answered { Leads K.tells K.serves K.holds K.passes
+        (record { host = host.old.host; moments = C.left clock.old; failed = K.faults keeper.old; keeper = keeper.old })
+        (record { host = host.new.host; moments = C.left clock.new; failed = K.faults keeper.new; keeper = keeper.new })
+        (λ served behind. RepliesTo (asked_in host.old.host.rows (request_seen message.now) route ids.now) served (answer_in result) behind) }
+{
+    match asked_by(alloc, &host.host, &mut host.scratch, message, route, ids)? {
+        Asked::Refused(reply) => Ok(reply),
+        Asked::By(caller, request) => {
+            judged(
+                alloc,
+                &mut host.host,
+                keeper,
+                clock,
+                steps,
+                caller,
+                &request,
+            )
+        }
+    }
+}
+
+// The reply to what a caller asks, judged at the moment that the clock tells.
+fn judged<K: Keeper, C: Clock, L: Ledger>(
+    alloc: Global,
+    host: &mut Host,
+    keeper: &mut K,
+    clock: &mut C,
+    steps: &mut Steps<L>,
+    caller: Caller,
+    request: &Request,
+) -> Result<Reply, Memory>
+    requires fresh { host.old.stale ≡ false }
+    requires asked { IsRequest request.now }
+    ensures status { IfOk result (λ reply. IsTrue (is_answer_status reply.status)) }
+    ensures judged { Leads K.tells K.serves K.holds K.passes
+        (record { host = host.old; moments = C.left clock.old; failed = K.faults keeper.old; keeper = keeper.old })
+        (record { host = host.new; moments = C.left clock.new; failed = K.faults keeper.new; keeper = keeper.new })
+        (λ served behind. Judges served caller request.now (answer_in result) behind) }
+{
+    let now = clock.now();
+    let answer = host.answer(keeper, caller, now, request, steps);
+    replied(alloc, &answer)
+}
+
+// The reply of an answer.
+fn replied(alloc: Global, answer: &Answer) -> Result<Reply, Memory>
+    ensures reply { IfOk result (λ reply. reply_seen reply ≡ reply_of answer.now) }
+    ensures status { IfOk result (λ reply. IsTrue (is_answer_status reply.status)) }
+{
+    answer_text(alloc, answer)
+}
+
+// A reply of this status and this body.
+fn refusal(alloc: Global, status: u16, body: &'static [u8]) -> Result<Reply, Memory>
+    requires { IsTrue (is_answer_status status) }
+    ensures reply { IfOk result (λ reply. reply_seen reply ≡ (status, body.now)) }
+    ensures status { IfOk result (λ reply. IsTrue (is_answer_status reply.status)) }
+{
+    Ok(Reply {
+        status,
+        body: Vec::from_slice(alloc, body)?,
+    })
+}
+
+// The same, for who asks something.
+fn refused(alloc: Global, status: u16, body: &'static [u8]) -> Result<Asked, Memory>
+    requires { IsTrue (is_answer_status status) }
+    ensures { IfOk result (Asks (Err (status, body.now))) }
+{
+    Ok(Asked::Refused(refusal(alloc, status, body)?))
+}
+
+// What a caller asks by a route and a body.
+fn read(
+    alloc: Global,
+    scratch: &mut Scratch,
+    caller: &Caller,
+    route: Route,
+    ids: &[u32; 2],
+    body: &[u8],
+) -> Result<Asked, Memory>
+    ensures { IfOk result (Asks (unless_malformed caller.now (request_of route ids.now body.now))) }
+{
+    match read_request(alloc, scratch, route, [ids[0], ids[1]], body) {
+        Ok(request) => Ok(Asked::By(*caller, request)),
+        Err(ReadFault::Malformed { field }) => {
+            let body = malformed_text(alloc, field.name())?;
+            Ok(Asked::Refused(Reply { status: 400, body }))
+        }
+        Err(ReadFault::Memory) => Err(Memory),
+    }
+}
+
+// The reply where the host could not be made ready.
+fn unready(alloc: Global, fault: OpenFault) -> Result<Reply, Memory>
+    ensures reply { IfOk result (λ reply. IsFaultReply fault (reply_seen reply)) }
+    ensures status { IfOk result (λ reply. IsTrue (is_answer_status reply.status)) }
+{
+    match fault {
+        OpenFault::Keeper => replied(alloc, &Answer::Keeper),
+        OpenFault::Damaged(key) => replied(alloc, &Answer::Damaged(key)),
+        OpenFault::Memory => Err(Memory),
+    }
+}
+
+impl<K: Keeper, C: Clock, L: Ledger> Service<HostWithScratch, K, C, L> for Desk {
+    ghost State = { Kept K };
+
+    ghost see = { λ now. record { host = now.0.host; moments = C.left now.2; failed = K.faults now.1; keeper = now.1 } };
+
+    ghost answers = { λ _. Both (LiftsWhile (λ _. ⊤) IsStoodByRows IsReplyUntil)
+        (Both (LiftsWhile (λ kept. K.tells kept.keeper) (IsStoodByStops K.holds K.passes) IsReplyUntil)
+        (LiftsWhile (λ kept. K.tells kept.keeper × K.serves kept.keeper) (StandsByRecords K.holds K.passes) IsReply)) };
+
+    ghost ready = { λ _ _. ⊤ };
+
+    fn reply(
+        &self,
+        alloc: Global,
+        host: &mut HostWithScratch,
+        keeper: &mut K,
+        clock: &mut C,
+        steps: &mut Steps<L>,
+        message: &Message<'_>,
+    ) -> Result<Reply, Memory> {
+        match self.routes.find(message.method, message.target) {
+            Found::Unknown => refusal(alloc, 404, unknown_text()),
+            Found::Method => refusal(alloc, 405, method_text()),
+            Found::Route { route, ids } => match host.host.ready(keeper) {
+                Ok(()) => answered(alloc, host, keeper, clock, steps, message, route, &ids),
+                Err(fault) => unready(alloc, fault),
+            },
+        }
+    }
+}
