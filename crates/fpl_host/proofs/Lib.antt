@@ -1,9 +1,6 @@
-pub mod DeskLemmas
-pub mod IsolationFacts
-pub mod KeptLemmas
-pub mod OnceFacts
+pub mod CourseLemmas
 pub mod PipeLemmas
+pub mod RequestLemmas
 pub mod RunLemmas
 pub mod ServeLemmas
 pub mod Taken
-pub mod WordLemmas

@@ -1,11 +1,7 @@
-pub mod Desks
 pub mod Input
-pub mod Kept
 pub mod Laws
-pub mod Once
+pub mod Keeping
 pub mod Pipe
-pub mod Replying
+pub mod Requests
 pub mod Run
 pub mod Serve
-pub mod Words
-pub mod Isolation

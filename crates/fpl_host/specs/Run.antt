@@ -1,10 +1,17 @@
 -- What a run owes to its words and its input, and how it may end.
-use Rattle.std.specs.Prelude.{◌≡◌, ◌≤◌, ◌<◌, ◌++◌, ◌⊎◌, [], ◌∷◌, ℕ, List, Option, length, codes}
+use Rattle.std.specs.Prelude.{◌≡◌, ◌≤◌, ◌<◌, ◌++◌, ◌⊎◌, [], ◌∷◌, ℕ, List, Option, Some, None, IfSome, length, codes}
 use Rattle.std.specs.Fmt.{decimal}
-use Rattle.std.specs.Io.KnownBytes.{Appends, Keeps}
+use Rattle.std.specs.Io.KnownBytes.{Appends, IsAtEnd, Keeps}
 use Rattle.fpl_base.specs.Causes.{AppendsFront}
 use Rattle.fpl_base.specs.declared.kinds.Profile.{Profile}
+use Rattle.fpl_base.specs.Keeping.{Map}
+use Rattle.fpl_base.specs.Moments.{Moments}
+use Rattle.fpl_words.specs.declared.words.Words.{Words}
+use Rattle.fpl_words.specs.declared.words.Words.TheVariants as order
 use Rattle.score_sheet.specs.Sheets.{Scores, HasWrongRow}
+use Rattle.fpl_host.specs.Pipe.{Pipes}
+use Rattle.fpl_host.specs.Requests.{Generates, Loads, Reports}
+use Rattle.fpl_host.specs.Serve.{DoorState, Serves}
 
 -- the text for words that are not read
 abbrev pub not_read_text : List ℕ
@@ -33,3 +40,42 @@ Ends Due status before after =
     ((text : List ℕ) × Due status text × Appends before after text)
     ⊎ ((status ≡ 3) × ((due : ℕ) × (text : List ℕ) × Due due text × AppendsFront before after text))
     ⊎ (((status ≡ 1) ⊎ (status ≡ 6)) × Keeps before after)
+
+-- What a run promises, by its words.
+
+-- what is outside of a run, before it or behind it, as far as it tells: what the input has left, the moments that the clock has
+-- left, what the output took, the keeper, the doors, and the files of the shelf
+pub record Outside (K : Type 0) : Type 0 where
+  pub left : Option (List ℕ)
+  pub moments : Option Moments
+  pub taken : Option (List ℕ)
+  pub keeper : K
+  pub doors : DoorState
+  pub files : Option (List ℕ → List ℕ)
+
+-- a run of `score`: it ended as is due for the bytes that the input had, read it to its end where the status is 0, and wrote
+-- nothing where memory ran out
+pub record Scored (profile : Profile) (left now before after : Option (List ℕ)) (status : ℕ) : Type 0 where
+  pub due : IfSome left (λ bytes. Ends (IsScoreDue profile bytes) status before after)
+  pub end : status ≡ 0 → IsAtEnd now
+  pub statuses : (status ≡ 0) ⊎ (status ≡ 1) ⊎ (status ≡ 3) ⊎ (status ≡ 6) ⊎ (status ≡ 10) ⊎ (status ≡ 11)
+  pub memory : status ≡ 6 → Keeps before after
+
+-- a run by words that order nothing: a line says so, unless there was no memory to read them
+abbrev pub IsUnread : Option (List ℕ) → Option (List ℕ) → ℕ → Type 0
+IsUnread before after status = Ends IsNotReadDue status before after × ((status ≡ 2) ⊎ (status ≡ 3) ⊎ (status ≡ 6))
+
+-- a run by what the words order
+abbrev pub RunsAs : {K : Type 0} → (K → Type 0) → (K → Type 0) → (K → Map → Type 0) → (K → Map → Type 0) → (K → ℕ) → Option Words → Outside K → Outside K → ℕ → Type 0
+RunsAs tells serves holds passes faults (Some (order.Score profile)) old new status = Scored profile old.left new.left old.taken new.taken status
+RunsAs tells serves holds passes faults (Some (order.Pipe key store)) old new status =
+    Pipes tells serves holds passes faults old.keeper new.keeper key old.left new.left old.moments new.moments old.taken new.taken status
+RunsAs tells serves holds passes faults (Some (order.Serve key port connections store)) old new status =
+    Serves tells serves holds passes faults old.keeper new.keeper key connections old.doors new.doors old.moments new.moments old.taken new.taken status
+RunsAs tells serves holds passes faults (Some (order.Load key store folder split profile)) old new status =
+    Loads tells serves holds passes faults old.keeper new.keeper key old.files folder split profile old.moments new.moments old.taken new.taken status
+RunsAs tells serves holds passes faults (Some (order.Report key store shown)) old new status =
+    Reports tells serves holds passes faults old.keeper new.keeper key shown old.moments new.moments old.taken new.taken status
+RunsAs tells serves holds passes faults (Some (order.Generate seed store)) old new status =
+    Generates tells serves holds passes faults old.keeper new.keeper seed old.moments old.taken new.taken status × (new.moments ≡ old.moments)
+RunsAs tells serves holds passes faults None old new status = IsUnread old.taken new.taken status

@@ -2,15 +2,18 @@
 use Rattle.std.specs.Prelude.{◌≡◌, ◌≢◌, ◌⊎◌, ◌<◌, ℕ, zero, suc, List, Option, Some, None, Result, Ok, Err, IfSome, drop, ⊤}
 use Rattle.fpl_base.specs.Causes.{Rose}
 use Rattle.fpl_base.specs.Doors.{Ended, GivesBack, Opens}
+use Rattle.fpl_base.specs.Keeping.{Map}
 use Rattle.fpl_base.specs.Moments.{Moments}
 use Rattle.fpl_base.specs.declared.outside.Failed.{Failed}
-use Rattle.fpl_session.specs.Replies.{Speaks}
-use Rattle.fpl_session.specs.Sessions.{EndsAs, SessionOf, SessionOver}
+use Rattle.fpl_http.specs.Stream.{Request}
+use Rattle.fpl_words.specs.declared.words.Words.{Words}
+use Rattle.fpl_words.specs.declared.words.Words.TheVariants as order
+use Rattle.fpl_session.specs.Sessions.{EndsAs}
 use Rattle.fpl_session.specs.declared.ending.Ending.{Ending}
 use Rattle.fpl_session.specs.declared.ending.Ending.TheVariants.{Read, Write, Memory}
-use Rattle.season_book.specs.Hosts.{HostState}
-use Rattle.fpl_host.specs.Pipe.{opened}
-use Rattle.fpl_host.specs.Replying.{IsReply, Served}
+use Rattle.fpl_replies.specs.Replying.{IsReply, IsReplyUntil}
+use Rattle.fpl_host.specs.Keeping.{IsUnopened, Runs}
+use Rattle.fpl_host.specs.Pipe.{IsSession}
 
 -- what doors tell, and how often they failed
 pub record DoorState : Type 0 where
@@ -21,15 +24,14 @@ pub record DoorState : Type 0 where
 -- one connection: it was opened, it was one session of the host, and it was given back with what that session left of
 -- its source and what its sink took; where it is told what comes, the session is over all that the connection sends. A
 -- read or a write ended it only where a fault of this connection was counted
-pub record IsVisit (before after : DoorState) (old new : Served) (ending : Ending) : Type 0 where
+pub record IsVisit {S : Type 0} (answers : S → Request → ℕ × List ℕ → S → Type 0) (before after : DoorState) (old new : S) (ending : Ending) : Type 0 where
   pub left : Option (List ℕ)
   pub fresh : Option (List ℕ)
   pub back : Ended
   pub opens : Opens before.coming after.coming left fresh
   pub gives : GivesBack before.given_back after.given_back back
   pub faults : after.faults ≡ before.faults
-  pub session : SessionOf (Speaks IsReply) left back.left old new fresh back.taken ending
-  pub over : IfSome left (λ all. SessionOver (Speaks IsReply) all old new fresh back.taken ending)
+  pub session : IsSession answers left back.left fresh back.taken ending old new
   pub exact : IfSome left (λ all. EndsAs all ending)
   pub read : ending ≡ Read → 0 < back.read_faults
   pub write : ending ≡ Write → 0 < back.write_faults
@@ -41,28 +43,34 @@ pub record Fails (before after : DoorState) : Type 0 where
   pub faults : Rose before.faults after.faults
 
 -- the doors were asked once: they failed, or one connection was served
-abbrev pub IsAskedOnce : DoorState → DoorState → Served → Served → Result Ending Failed → Type 0
-IsAskedOnce before after old new (Ok ending) = IsVisit before after old new ending
-IsAskedOnce before after old new (Err failed) = Fails before after × (new ≡ old)
+abbrev pub IsAskedOnce : {S : Type 0} → (S → Request → ℕ × List ℕ → S → Type 0) → DoorState → DoorState → Result Ending Failed → S → S → Type 0
+IsAskedOnce answers before after (Ok ending) old new = IsVisit answers before after old new ending
+IsAskedOnce answers before after (Err failed) old new = Fails before after × (new ≡ old)
 
 -- so many connections are served, one after another, the books following on from each to the next. Status 0 comes behind
 -- the last of them, 8 where the doors failed, and 6 where there was no memory for the session of one, which was given back
-abbrev pub ServesOn : ℕ → DoorState → DoorState → Served → Served → ℕ → Type 0
-ServesOn zero before after old new status = (status ≡ 0) × (after ≡ before) × (new ≡ old)
-ServesOn (suc count) before after old new status =
+abbrev pub ServesOn : {S : Type 0} → (S → Request → ℕ × List ℕ → S → Type 0) → ℕ → DoorState → DoorState → ℕ → S → S → Type 0
+ServesOn answers zero before after status old new = (status ≡ 0) × (after ≡ before) × (new ≡ old)
+ServesOn {S = S} answers (suc count) before after status old new =
     ((status ≡ 8) × Fails before after × (new ≡ old))
-    ⊎ ((status ≡ 6) × IsVisit before after old new Memory)
-    ⊎ ((ending : Ending) × (between : DoorState) × (mid : Served) × (ending ≢ Memory) × IsVisit before between old mid ending × ServesOn count between after mid new status)
+    ⊎ ((status ≡ 6) × IsVisit answers before after old new Memory)
+    ⊎ ((ending : Ending) × (between : DoorState) × (mid : S) × (ending ≢ Memory) × IsVisit answers before between old mid ending × ServesOn answers count between after status mid new)
 
--- a run of the command: the connections were served by the host, from without a season, with the moments that the clock
--- told; or there was no memory for a host, status 6, and no door was asked
-pub record Serves (key : List ℕ) (count : ℕ) (before after : DoorState) (moments later : Option Moments) (failed fails : ℕ) (status : ℕ) : Type 0 where
-  pub host : HostState
-  pub served :
-      ServesOn count before after (opened key moments failed) (record { host = host; moments = later; failed = fails }) status
-      ⊎ ((status ≡ 6) × (after ≡ before) × (record { host = host; moments = later; failed = fails } ≡ opened key moments failed))
+-- a run of the command: the connections were served by the host, from the book that the keeper's records tell, with the
+-- moments that the clock told; or the host was not opened, and no door was asked
+abbrev pub Serves : {K : Type 0} → (K → Type 0) → (K → Type 0) → (K → Map → Type 0) → (K → Map → Type 0) → (K → ℕ) → K → K → List ℕ → ℕ → DoorState → DoorState → Option Moments → Option Moments
+    → Option (List ℕ) → Option (List ℕ) → ℕ → Type 0
+Serves tells serves holds passes faults old new key count before after moments later taken takes status =
+    (Runs tells serves holds passes old new key moments later (faults old) (faults new)
+    (ServesOn IsReplyUntil count before after status) (ServesOn IsReply count before after status) × (takes ≡ taken))
+    ⊎ ((after ≡ before) × (later ≡ moments) × IsUnopened tells holds passes faults old new taken takes status)
 
 -- one connection fewer is to come, where they are told
 abbrev pub OneFewer : Option (List (List ℕ)) → Option (List (List ℕ)) → Type 0
 OneFewer None after = ⊤
 OneFewer (Some all) after = after ≡ Some (drop 1 all)
+
+-- for how many connections words ask
+abbrev pub connections_in : Option Words → ℕ
+connections_in (Some (order.Serve key port connections store)) = connections
+connections_in said = 0

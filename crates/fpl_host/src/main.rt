@@ -1,33 +1,36 @@
 //! The season host: its commands, and the edges to the machine that it runs on.
 #![tactic(auto)]
 
-mod desk;
 mod input;
 mod laws;
+mod opening;
 mod pipe;
+mod requests;
 mod run;
 mod score;
 mod serve;
-mod status;
 
 ghost use Rattle.std.specs.Prelude.{◌≡◌, ◌<◌, None};
 
-use fpl_base::{Doors, Memory, Quiet, Reading, Steps, SystemClock, Text, Writing};
+use fpl_asking::status::MEMORY;
+use fpl_base::{Doors, Keeper, Memory, Quiet, Reading, Shelf, Steps, SystemClock, Text, Writing};
 use fpl_doors::Listening;
+use fpl_shelves::Disk;
 use fpl_words::{WordFault, Words, words_of};
+use season_keeper::FileKeeper;
 use std::alloc::Global;
 use std::io;
 use std::marker::Brand;
-use std::net::Net;
 use std::process::ExitCode;
-use std::rt::{Clock, Env};
+use std::rt::Env;
 use std::sync::ledger::{Blank, Ledger};
+use tree_keeper::TreeKeeper;
 
 fn main(rt: HostRuntime) -> ExitCode {
     let alloc = rt.alloc();
     let status = match given_words(&rt, alloc) {
         Ok(words) => outside(&rt, alloc, words.as_slice()),
-        Err(Memory) => status::MEMORY,
+        Err(Memory) => MEMORY,
     };
     ExitCode::from(status)
 }
@@ -52,24 +55,85 @@ fn given_words<R: Env + AllocGlobal>(rt: &R, alloc: Global) -> Result<Vec<Text>,
     Ok(words)
 }
 
-// Makes the doors that the words ask for, and runs.
-fn outside<R: Input + Print + Clock + Net>(rt: &R, alloc: Global, words: &[Text]) -> u8 {
+// Makes the doors, the shelf and the keeper that the words ask for, and runs.
+fn outside(rt: &HostRuntime, alloc: Global, words: &[Text]) -> u8 {
     match words_of(alloc, words) {
-        Ok(Words::Serve { port, .. }) => {
-            let mut doors = Listening::at(rt, port);
-            counted::<R, Listening<'_, R>, Brand>(rt, alloc, words, &mut doors, Blank::new(1))
+        Ok(Words::Serve { port, store, .. }) => kept(
+            rt,
+            alloc,
+            words,
+            &mut Listening::at(rt, port),
+            &mut Quiet,
+            store,
+        ),
+        Ok(Words::Load { store, .. }) => kept(
+            rt,
+            alloc,
+            words,
+            &mut Quiet,
+            &mut Disk::new(rt),
+            Some(store),
+        ),
+        Ok(Words::Report { store, .. }) => {
+            kept(rt, alloc, words, &mut Quiet, &mut Quiet, Some(store))
         }
-        Err(WordFault::Memory) => status::MEMORY,
-        _ => counted::<R, Quiet, Brand>(rt, alloc, words, &mut Quiet, Blank::new(1)),
+        Ok(Words::Pipe { store, .. }) => kept(rt, alloc, words, &mut Quiet, &mut Quiet, store),
+        Ok(Words::Generate { store, .. }) => {
+            kept(rt, alloc, words, &mut Quiet, &mut Quiet, store)
+        }
+        Err(WordFault::Memory) => MEMORY,
+        _ => kept(rt, alloc, words, &mut Quiet, &mut Quiet, None),
     }
 }
 
-// Runs with these doors, a counter that nobody reads, and nothing else outside but input and output.
-fn counted<R: Input + Print + Clock, D: Doors, L: Ledger>(
-    rt: &R,
+// Runs with these doors and this shelf, over a store in this file, or in memory.
+fn kept<D: Doors, F: Shelf>(
+    rt: &HostRuntime,
     alloc: Global,
     words: &[Text],
     doors: &mut D,
+    shelf: &mut F,
+    store: Option<Text>,
+) -> u8
+    requires untold { (d : D) → D.coming d ≡ None }
+{
+    match store {
+        Some(path) => {
+            let mut keeper = FileKeeper::at(rt, path);
+            counted::<FileKeeper<'_>, D, F, Brand>(
+                rt,
+                alloc,
+                words,
+                &mut keeper,
+                doors,
+                shelf,
+                Blank::new(1),
+            )
+        }
+        None => {
+            let mut keeper = TreeKeeper::new(alloc);
+            counted::<TreeKeeper, D, F, Brand>(
+                rt,
+                alloc,
+                words,
+                &mut keeper,
+                doors,
+                shelf,
+                Blank::new(1),
+            )
+        }
+    }
+}
+
+// Runs with this keeper, these doors and this shelf, a counter that nobody reads, and nothing else outside but input, output
+// and clock.
+fn counted<K: Keeper, D: Doors, F: Shelf, L: Ledger>(
+    rt: &HostRuntime,
+    alloc: Global,
+    words: &[Text],
+    keeper: &mut K,
+    doors: &mut D,
+    shelf: &mut F,
     blank: Blank,
 ) -> u8
     requires untold { (d : D) → D.coming d ≡ None }
@@ -86,9 +150,9 @@ fn counted<R: Input + Print + Clock, D: Doors, L: Ledger>(
         &mut input,
         &mut output,
         &mut SystemClock::new(rt),
-        &mut Quiet,
+        keeper,
         doors,
-        &mut Quiet,
+        shelf,
         &mut steps,
     )
 }

@@ -3,10 +3,11 @@ ghost use Rattle.std.specs.Prelude.{◌≡◌};
 ghost use Rattle.fpl_base.specs.Causes.{Rose};
 ghost use Rattle.fpl_host.specs.Pipe.{Pipes, status_of};
 
-use crate::desk::{Desk, opened};
-use crate::status::{CUT, DONE, MEMORY, READ_FAULT, REFUSED, TOO_LONG, WRITE_FAULT};
-use fpl_base::{Clock, Keeper, Key, Memory, Sink, Source, Steps};
-use fpl_session::{Ending, session, sessions_lift};
+use crate::opening::unopened;
+use fpl_asking::status::{CUT, DONE, MEMORY, READ_FAULT, REFUSED, TOO_LONG, WRITE_FAULT};
+use fpl_base::{Clock, Keeper, Key, Sink, Source, Steps};
+use fpl_desk::{ByRecords, ByRows, ByStops, RowsFirst, StopsFirst, opened};
+use fpl_session::{Ending, session, sessions_lift, sessions_split};
 use std::alloc::Global;
 use std::sync::ledger::Ledger;
 
@@ -20,17 +21,23 @@ pub fn pipe<S: Source, W: Sink, C: Clock, K: Keeper, L: Ledger>(
     keeper: &mut K,
     steps: &mut Steps<L>,
 ) -> u8
-    ensures session { Pipes key.now (S.left input.old) (S.left input.new) (C.left clock.old) (C.left clock.new) (K.faults keeper.old) (K.faults keeper.new) (W.taken output.old) (W.taken output.new) result }
+    ensures session { Pipes K.tells K.serves K.holds K.passes K.faults keeper.old keeper.new key.now (S.left input.old) (S.left input.new) (C.left clock.old) (C.left clock.new) (W.taken output.old) (W.taken output.new) result }
     ensures read { result ≡ 1 → Rose (S.faults input.old) (S.faults input.new) }
     ensures write { result ≡ 3 → Rose (W.faults output.old) (W.faults output.new) }
+    ensures keeper { result ≡ 4 → Rose (K.faults keeper.old) (K.faults keeper.new) }
     ensures no_doors { result ≡ 8 → ⊥ }
+    ensures no_shelf { result ≡ 9 → ⊥ }
 {
-    sessions_lift::<Desk>();
-    match opened(alloc, key, keeper, steps) {
+    sessions_split::<RowsFirst<K>>();
+    sessions_split::<StopsFirst<K>>();
+    sessions_lift::<ByRows<K>>();
+    sessions_lift::<ByStops<K>>();
+    sessions_lift::<ByRecords<K>>();
+    match opened(alloc, key, keeper) {
         Ok((desk, mut host)) => ended(session(
             alloc, &desk, &mut host, keeper, input, output, clock, steps,
         )),
-        Err(Memory) => MEMORY,
+        Err(fault) => unopened(alloc, fault, output),
     }
 }
 
@@ -38,6 +45,8 @@ pub fn pipe<S: Source, W: Sink, C: Clock, K: Keeper, L: Ledger>(
 fn ended(ending: Ending) -> u8
     ensures status { result ≡ status_of ending }
     ensures no_doors { result ≡ 8 → ⊥ }
+    ensures no_shelf { result ≡ 9 → ⊥ }
+    ensures no_keeper { result ≡ 4 → ⊥ }
 {
     match ending {
         Ending::Done => DONE,

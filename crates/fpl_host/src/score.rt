@@ -6,7 +6,7 @@ ghost use Rattle.fpl_host.specs.Run.{IsScoreDue, row_text};
 ghost use Rattle.score_sheet.specs.Sheets.{HasWrongRow};
 
 use crate::input::{InputFault, read_all};
-use crate::status::{DONE, TOO_LONG, WRONG_ROW};
+use fpl_asking::status::{DONE, TOO_LONG, WRONG_ROW};
 use fpl_base::{Memory, Profile, Source};
 use score_sheet::{SheetFault, score_sheet};
 use std::alloc::{AllocError, Global};

@@ -1,35 +1,40 @@
 // The command that serves connections, one after another.
 ghost use Rattle.std.specs.Prelude.{◌≡◌, ◌≤◌, ◌<◌, ◌⊎◌, IfSome, MatchOption, None, OnErr, OnOk, length};
 ghost use Rattle.fpl_base.specs.Causes.{Rose};
-ghost use Rattle.fpl_host.specs.Kept.{Leads};
+ghost use Rattle.fpl_desk.specs.Kept.{LeadsAll};
+ghost use Rattle.fpl_replies.specs.Replying.{IsReply, IsReplyUntil};
 ghost use Rattle.fpl_host.specs.Serve.{IsAskedOnce, OneFewer, Serves, ServesOn};
 
-use crate::desk::{Desk, HostWithScratch, opened};
-use crate::status::{DONE, DOORS, MEMORY};
-use fpl_base::{Clock, Doors, Failed, Keeper, Key, Memory, Steps};
-use fpl_session::{Ending, session, sessions_lift};
+use crate::opening::unopened;
+use fpl_asking::status::{DONE, DOORS, MEMORY};
+use fpl_base::{Clock, Doors, Failed, Keeper, Key, Sink, Steps};
+use fpl_desk::{ByRecords, ByRows, ByStops, Desk, HostWithScratch, RowsFirst, StopsFirst, opened};
+use fpl_session::{Ending, session, sessions_lift, sessions_split};
 use std::alloc::Global;
 use std::sync::ledger::Ledger;
 
 /// Serves so many connections for the operator with this key, and answers the exit status.
-pub fn serve<C: Clock, K: Keeper, D: Doors, L: Ledger>(
+pub fn serve<W: Sink, C: Clock, K: Keeper, D: Doors, L: Ledger>(
     alloc: Global,
     key: &Key,
     connections: u16,
+    output: &mut W,
     clock: &mut C,
     keeper: &mut K,
     doors: &mut D,
     steps: &mut Steps<L>,
 ) -> u8
     requires { MatchOption (D.coming doors.old) ((d : D) → D.coming d ≡ None) (λ all. connections ≤ length all) }
-    ensures served { Serves key.now connections
+    ensures served { Serves K.tells K.serves K.holds K.passes K.faults keeper.old keeper.new key.now connections
         (record { coming = D.coming doors.old; given_back = D.given_back doors.old; faults = D.faults doors.old })
         (record { coming = D.coming doors.new; given_back = D.given_back doors.new; faults = D.faults doors.new })
-        (C.left clock.old) (C.left clock.new) (K.faults keeper.old) (K.faults keeper.new) result }
-    ensures statuses { (result ≡ 0) ⊎ (result ≡ 6) ⊎ (result ≡ 8) }
+        (C.left clock.old) (C.left clock.new) (W.taken output.old) (W.taken output.new) result }
+    ensures statuses { (result ≡ 0) ⊎ (result ≡ 3) ⊎ (result ≡ 4) ⊎ (result ≡ 5) ⊎ (result ≡ 6) ⊎ (result ≡ 8) }
+    ensures write { result ≡ 3 → Rose (W.faults output.old) (W.faults output.new) }
+    ensures keeper { result ≡ 4 → Rose (K.faults keeper.old) (K.faults keeper.new) }
     ensures doors { result ≡ 8 → Rose (D.faults doors.old) (D.faults doors.new) }
 {
-    match opened(alloc, key, keeper, steps) {
+    match opened(alloc, key, keeper) {
         Ok((desk, mut host)) => serve_all(
             alloc,
             &desk,
@@ -40,7 +45,7 @@ pub fn serve<C: Clock, K: Keeper, D: Doors, L: Ledger>(
             doors,
             steps,
         ),
-        Err(Memory) => MEMORY,
+        Err(fault) => unopened(alloc, fault, output),
     }
 }
 
@@ -56,11 +61,15 @@ fn serve_all<C: Clock, K: Keeper, D: Doors, L: Ledger>(
     steps: &mut Steps<L>,
 ) -> u8
     requires { MatchOption (D.coming doors.old) ((d : D) → D.coming d ≡ None) (λ all. connections ≤ length all) }
-    ensures served { Leads (λ served behind. ServesOn connections
+    ensures served { LeadsAll K.tells K.serves K.holds K.passes
+        (record { host = host.old.host; moments = C.left clock.old; failed = K.faults keeper.old; keeper = keeper.old })
+        (record { host = host.new.host; moments = C.left clock.new; failed = K.faults keeper.new; keeper = keeper.new })
+        (ServesOn IsReplyUntil connections
         (record { coming = D.coming doors.old; given_back = D.given_back doors.old; faults = D.faults doors.old })
-        (record { coming = D.coming doors.new; given_back = D.given_back doors.new; faults = D.faults doors.new }) served behind result)
-        (record { host = host.old.host; moments = C.left clock.old; failed = K.faults keeper.old })
-        (record { host = host.new.host; moments = C.left clock.new; failed = K.faults keeper.new }) }
+        (record { coming = D.coming doors.new; given_back = D.given_back doors.new; faults = D.faults doors.new }) result)
+        (ServesOn IsReply connections
+        (record { coming = D.coming doors.old; given_back = D.given_back doors.old; faults = D.faults doors.old })
+        (record { coming = D.coming doors.new; given_back = D.given_back doors.new; faults = D.faults doors.new }) result) }
     ensures statuses { (result ≡ 0) ⊎ (result ≡ 6) ⊎ (result ≡ 8) }
     ensures doors { result ≡ 8 → Rose (D.faults doors.old) (D.faults doors.new) }
 {
@@ -88,16 +97,24 @@ fn serve_one<C: Clock, K: Keeper, D: Doors, L: Ledger>(
     steps: &mut Steps<L>,
 ) -> Result<Ending, Failed>
     requires { IfSome (D.coming doors.old) (λ all. 0 < length all) }
-    ensures served { Leads (λ served behind. IsAskedOnce
+    ensures served { LeadsAll K.tells K.serves K.holds K.passes
+        (record { host = host.old.host; moments = C.left clock.old; failed = K.faults keeper.old; keeper = keeper.old })
+        (record { host = host.new.host; moments = C.left clock.new; failed = K.faults keeper.new; keeper = keeper.new })
+        (IsAskedOnce IsReplyUntil
         (record { coming = D.coming doors.old; given_back = D.given_back doors.old; faults = D.faults doors.old })
-        (record { coming = D.coming doors.new; given_back = D.given_back doors.new; faults = D.faults doors.new }) served behind result)
-        (record { host = host.old.host; moments = C.left clock.old; failed = K.faults keeper.old })
-        (record { host = host.new.host; moments = C.left clock.new; failed = K.faults keeper.new }) }
+        (record { coming = D.coming doors.new; given_back = D.given_back doors.new; faults = D.faults doors.new }) result)
+        (IsAskedOnce IsReply
+        (record { coming = D.coming doors.old; given_back = D.given_back doors.old; faults = D.faults doors.old })
+        (record { coming = D.coming doors.new; given_back = D.given_back doors.new; faults = D.faults doors.new }) result) }
     ensures coming { OnOk result (OneFewer (D.coming doors.old) (D.coming doors.new)) }
     ensures kept { OnOk result (D.faults doors.new ≡ D.faults doors.old) }
     ensures cause { OnErr result (Rose (D.faults doors.old) (D.faults doors.new)) }
 {
-    sessions_lift::<Desk>();
+    sessions_split::<RowsFirst<K>>();
+    sessions_split::<StopsFirst<K>>();
+    sessions_lift::<ByRows<K>>();
+    sessions_lift::<ByStops<K>>();
+    sessions_lift::<ByRecords<K>>();
     let (mut source, mut sink) = doors.next()?;
     let ending = session(
         alloc,

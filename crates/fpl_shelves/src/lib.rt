@@ -1,10 +1,10 @@
-//! Shelves: what holds files, over memory and over a folder of this machine.
+//! Shelves: what holds files, over memory and over the disk of this machine.
 #![tactic(auto)]
 
-mod folder;
+mod disk;
 mod memory;
 
-pub use folder::Folder;
+pub use disk::Disk;
 pub use memory::{FaultyShelf, MemoryShelf};
 
 /// How many bytes a file has at most.

@@ -1,5 +1,5 @@
-use crate::{FaultyShelf, Folder, MemoryShelf};
-use fpl_base::{Plan, Shelf, ShelfFault, Text};
+use crate::{Disk, FaultyShelf, MemoryShelf};
+use fpl_base::{Plan, Shelf, ShelfFault};
 use std::alloc::Global;
 use std::fs;
 use std::test::Fail;
@@ -34,7 +34,7 @@ fn files_are_read_by_their_names(rt: HostRuntime) -> Result<(), Fail> {
 }
 
 #[test]
-fn a_folder_gives_its_files(rt: HostRuntime) -> Result<(), Fail> {
+fn a_disk_gives_its_files(rt: HostRuntime) -> Result<(), Fail> {
     let alloc = rt.alloc();
     fs::create_dir(&rt, "season")?;
     fs::write(&rt, "season/clubs.csv", "1,Arsenal")?;
@@ -42,10 +42,10 @@ fn a_folder_gives_its_files(rt: HostRuntime) -> Result<(), Fail> {
     fs::write(&rt, "season/longest", longest.as_slice())?;
     let longer = vec![in alloc; 0u8; 4_194_305]?;
     fs::write(&rt, "season/longer", longer.as_slice())?;
-    let mut folder = Folder::at(&rt, Text::new(alloc, "season")?);
-    assert_eq!(rt; count(&mut folder, alloc, "clubs.csv"), Some(9));
-    assert_eq!(rt; count(&mut folder, alloc, "longest"), Some(4_194_304));
-    assert!(rt; matches!(folder.read(alloc, "longer"), Err(ShelfFault::Long)));
-    assert!(rt; matches!(folder.read(alloc, "nothing"), Err(ShelfFault::Failed)));
+    let mut disk = Disk::new(&rt);
+    assert_eq!(rt; count(&mut disk, alloc, "season/clubs.csv"), Some(9));
+    assert_eq!(rt; count(&mut disk, alloc, "season/longest"), Some(4_194_304));
+    assert!(rt; matches!(disk.read(alloc, "season/longer"), Err(ShelfFault::Long)));
+    assert!(rt; matches!(disk.read(alloc, "season/nothing"), Err(ShelfFault::Failed)));
     Ok(())
 }

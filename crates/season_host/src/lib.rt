@@ -1,11 +1,9 @@
-//! The host of a season: it judges what is asked, does it and answers.
+//! What a host keeps in memory: it judges what is asked by that alone, does it and answers.
 #![tactic(auto)]
 
 mod accepting;
-mod host;
 mod house;
 #[cfg(test)]
 mod tests;
 
-pub use host::{Host, OpenFault};
 pub use house::{Answered, House};

@@ -1,51 +1,50 @@
-// Commands to a host with ample memory, and what it says.
-ghost use Rattle.std.specs.Prelude.{◌≡◌, ◌<◌};
+// Commands to a house with ample memory, and what it says.
+ghost use Rattle.std.specs.Prelude.{◌≡◌, ◌<◌, ◌≤◌};
 ghost use Rattle.season_book.specs.Commands.{IsCommand};
-ghost use Rattle.season_book.specs.Hosts.{IsRequest};
 
-use crate::Host;
-use fpl_base::{Caller, ClubId, Key, Moment, Name, PlayerId, Position, Profile, Quiet, Steps};
-use season_book::{Answer, Clubs, Command, Moments, Request};
+use crate::House;
+use fpl_base::{Caller, ClubId, Key, Moment, Name, PlayerId, Position, Profile, Steps};
+use season_book::{Answer, Clubs, Command, Moments};
+use season_running::Lasts;
 use std::alloc::Global;
 use std::marker::Brand;
 use std::process::Abort;
 use std::sync::ledger::{Blank, Ledger};
 
-fn opened_by<L: Ledger>(rt: &impl Abort, alloc: Global, blank: Blank) -> Host
-    requires name { blank.name ≡ L.name }
-    requires parts { blank.parts ≡ L.parts }
-    requires some { 0 < blank.parts }
-{
+fn opened(rt: &impl Abort, alloc: Global) -> House {
     let operator = Key::new(alloc, b"operator1")
         .expect(rt, "memory")
         .expect(rt, "a key");
-    let mut steps: Steps<L> = Steps::open(blank);
-    Host::open(alloc, &mut Quiet, &operator, &mut steps).expect(rt, "a host")
+    House::new(alloc, operator, None, Lasts::new(alloc))
 }
 
-fn opened(rt: &impl Abort, alloc: Global) -> Host {
-    opened_by::<Brand>(rt, alloc, Blank::new(1))
-}
-
-fn answer_by<L: Ledger>(host: &mut Host, now: Moment, request: &Request, blank: Blank) -> Answer
+fn answer_by<L: Ledger>(
+    house: &mut House,
+    now: Moment,
+    number: u64,
+    command: &Command,
+    blank: Blank,
+) -> Answer
     requires name { blank.name ≡ L.name }
     requires parts { blank.parts ≡ L.parts }
     requires some { 0 < blank.parts }
-    requires asked { IsRequest request.now }
+    requires numbered { 1 ≤ number }
+    requires asked { IsCommand command.now }
 {
     let mut steps: Steps<L> = Steps::open(blank);
-    host.answer(&mut Quiet, Caller::Operator, now, request, &mut steps)
+    let answered = house.answer_command(&Caller::Operator, now, number, command, &mut steps);
+    answered.answer
 }
 
-// What a host says to the operator's command of a number from 1 to 9: 200, a rule's number, 404, or 0 for all else.
-fn said(host: &mut Host, now: Moment, number: u64, command: Command) -> u16
+// What a house says to the operator's command of a number from 1 to 9: 200, a rule's number, 404, or 0 for all else.
+fn said(house: &mut House, now: Moment, number: u64, command: Command) -> u16
     requires { IsCommand command }
 {
     if number == 0 || number > 9 {
         return 0;
     }
-    let request = Request::Command { number, command };
-    match answer_by::<Brand>(host, now, &request, Blank::new(1)) {
+    let _more = house.pass(now);
+    match answer_by::<Brand>(house, now, number, &command, Blank::new(1)) {
         Answer::Done { .. } => 200,
         Answer::Rule(rule) => u16::from(rule.number()),
         Answer::Unknown => 404,
@@ -98,7 +97,7 @@ fn command(rt: &impl Abort, alloc: Global, word: u8) -> Command
 #[test]
 fn commands_get_their_verdicts(rt: HostRuntime) {
     let alloc = rt.alloc();
-    let mut host = opened(&rt, alloc);
+    let mut house = opened(&rt, alloc);
     let now = Moment::new(500).expect(&rt, "a moment");
     for (number, word, wanted) in [
         (2, 2, 1),
@@ -116,6 +115,6 @@ fn commands_get_their_verdicts(rt: HostRuntime) {
         (3, 2, 200),
     ] {
         let command = command(&rt, alloc, word);
-        assert_eq!(rt; said(&mut host, now, number, command), wanted);
+        assert_eq!(rt; said(&mut house, now, number, command), wanted);
     }
 }

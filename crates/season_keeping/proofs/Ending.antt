@@ -11,7 +11,7 @@ use Rattle.record_codec.specs.declared.slot.Slot.{Slot}
 use Rattle.rule_book.specs.ById.{at_id, placed_at}
 use Rattle.rule_book.proofs.AtId.{placed_same}
 use Rattle.season_book.specs.Book.{Book, Last, caller_number, last_number, last_of}
-use Rattle.season_book.specs.Doing.{IsShown, MayAnswerIn}
+use Rattle.season_book.specs.Doing.{IsShown, IsStoreless, MayAnswerIn}
 use Rattle.season_book.specs.Hosts.{number_in}
 use Rattle.season_book.specs.Verdict.{Failures, IsRepeat, IsVerdictIn, MayAnswer, MayBeLeft, Outcome, Verdict, accepted, fresh_verdict, number_refusal, pass, ruled, settled, unless_misnumbered, view_answer}
 use Rattle.season_book.specs.declared.answer.Answer.{Answer}
@@ -21,7 +21,7 @@ use Rattle.season_book.specs.declared.made.Made.{Made}
 use Rattle.season_book.specs.declared.request.Request.{Request}
 use Rattle.season_book.specs.declared.request.Request.TheVariants as request
 use Rattle.season_book.specs.declared.request.View.{View}
-use Rattle.season_keeping.specs.Answering.{EndsCommit, Fails, LeadsOn, MayEnd, WouldAct, WouldChange, answer_of_fault}
+use Rattle.season_keeping.specs.Answering.{EndsCommit, Fails, IsCaused, LeadsOn, MayEnd, WouldAct, WouldChange, answer_of_fault}
 use Rattle.season_keeping.specs.Housed.{Housed}
 
 -- Numbers.
@@ -109,9 +109,34 @@ pub fails_by : {T : Type 0} (result : Result T KeeperFault) (why : KeeperFault) 
 fails_by result fault.Failed failed fails is cause = inr (refl, cause.failed is)
 fails_by result fault.Memory failed fails is cause = inl refl
 
+-- an answer that speaks of no store says nothing of its keeper
+pub caused_storeless : (failures : Failures) (reply : Answer) → IsStoreless reply → IsCaused failures reply
+caused_storeless failures (answer.Done number made) is = tt
+caused_storeless failures (answer.Shown shown) is = tt
+caused_storeless failures (answer.Rule rule) is = tt
+caused_storeless failures answer.Unknown is = tt
+caused_storeless failures answer.Keeper is = absurd is
+caused_storeless failures (answer.Damaged key) is = absurd is
+caused_storeless failures answer.Memory is = tt
+
+pub caused_fault : {T : Type 0} (result : Result T KeeperFault) (why : KeeperFault) (failed fails : ℕ) → result ≡ Err why
+    → HasKeeperCause failed fails result → IsCaused (record { before = failed; behind = fails }) (answer_of_fault why)
+caused_fault result fault.Failed failed fails is cause = cause.failed is
+caused_fault result fault.Memory failed fails is cause = tt
+
 -- a count that rose behind some calls rose over all of them
 rose_over : (first middle last : ℕ) → first ≤ middle → Rose middle last → Rose first last
 rose_over first middle last less rose = omega (arith, less, rose)
+
+pub caused_over : (first middle last : ℕ) (reply : Answer) → first ≤ middle → IsCaused (record { before = middle; behind = last }) reply
+    → IsCaused (record { before = first; behind = last }) reply
+caused_over first middle last (answer.Done number made) less is = tt
+caused_over first middle last (answer.Shown shown) less is = tt
+caused_over first middle last (answer.Rule rule) less is = tt
+caused_over first middle last answer.Unknown less is = tt
+caused_over first middle last answer.Keeper less is = rose_over first middle last less is
+caused_over first middle last (answer.Damaged key) less is = absurd is
+caused_over first middle last answer.Memory less is = tt
 
 fails_over : (first middle last : ℕ) (reply : Answer) → first ≤ middle → Fails (record { before = middle; behind = last }) reply
     → Fails (record { before = first; behind = last }) reply

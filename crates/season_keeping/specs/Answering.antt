@@ -1,5 +1,5 @@
 -- What a host answers over its keeper, and what both are behind it.
-use Rattle.std.specs.Prelude.{◌≡◌, ◌⊎◌, ℕ, true, false, List, OnErr, OnOk, Result, Ok, Err}
+use Rattle.std.specs.Prelude.{◌≡◌, ◌⊎◌, ℕ, ⊤, true, false, List, OnErr, OnOk, Result, Ok, Err}
 use Rattle.fpl_base.specs.Causes.{Rose}
 use Rattle.fpl_base.specs.Keeping.{Map, applied}
 use Rattle.fpl_base.specs.declared.kinds.Caller.{Caller}
@@ -105,3 +105,9 @@ StopsEnding operator tells holds passes before after old book caller now request
 abbrev pub answer_of_fault : KeeperFault → Answer
 answer_of_fault fault.Failed = answer.Keeper
 answer_of_fault fault.Memory = answer.Memory
+
+-- an answer says that the keeper failed only where its count rose meanwhile, and never that a record is damaged
+abbrev pub IsCaused : Failures → Answer → Type 0
+IsCaused failures answer.Keeper = Rose failures.before failures.behind
+IsCaused failures (answer.Damaged key) = ⊥
+IsCaused failures reply = ⊤

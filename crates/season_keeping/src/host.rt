@@ -12,7 +12,7 @@ ghost use Rattle.season_isolation.specs.Isolation.{ToldAlike};
 ghost use Rattle.season_running.specs.EntryLaws.{IsOrderlyHost};
 ghost use Rattle.season_running.specs.Standing.{StandsIn, keys_in, number_at, passed};
 ghost use Rattle.season_opening.specs.declared.loading.OpenFault.TheVariants as fault;
-ghost use Rattle.season_keeping.specs.Answering.{Answers, Commits, EndsCommit, MayEnd, StopsEnding, StopsLeave, StopsCommit, WouldAct, WouldChange, answer_of_fault};
+ghost use Rattle.season_keeping.specs.Answering.{Answers, Commits, EndsCommit, IsCaused, MayEnd, StopsEnding, StopsLeave, StopsCommit, WouldAct, WouldChange, answer_of_fault};
 ghost use Rattle.season_keeping.specs.Housed.{Backs};
 ghost use Rattle.season_keeping.specs.Opening.{Opens, Withholds};
 
@@ -156,6 +156,7 @@ impl Host {
         ensures operator { self.new.rows.operator ≡ self.old.rows.operator }
         ensures reread { self.new.reread ≡ self.old.reread }
         ensures stops { (book : Book) → StandsIn self.old.rows book → StopsLeave self.old.rows.operator K.tells K.holds K.passes keeper.old keeper.new self.old book caller now request.now }
+        ensures caused { IsCaused (record { before = K.faults keeper.old; behind = K.faults keeper.new }) result }
         ensures later { K.faults keeper.old ≤ K.faults keeper.new }
         ensures told { K.tells keeper.new → K.tells keeper.old }
         ensures served { K.tells keeper.new → K.serves keeper.new → K.serves keeper.old }
@@ -240,6 +241,7 @@ impl Host {
         ensures operator { self.new.rows.operator ≡ self.old.rows.operator }
         ensures reread { self.new.reread ≡ self.old.reread }
         ensures stops { (book : Book) → StandsIn self.old.rows book → StopsEnding self.old.rows.operator K.tells K.holds K.passes keeper.old keeper.new self.old book caller now request.now }
+        ensures caused { IsCaused (record { before = K.faults keeper.old; behind = K.faults keeper.new }) result }
         ensures later { K.faults keeper.old ≤ K.faults keeper.new }
         ensures told { K.tells keeper.new → K.tells keeper.old }
         ensures served { K.tells keeper.new → K.serves keeper.new → K.serves keeper.old }
@@ -274,6 +276,7 @@ impl Host {
         ensures operator { self.new.rows.operator ≡ self.old.rows.operator }
         ensures reread { self.new.reread ≡ self.old.reread }
         ensures stops { (book : Book) → StandsIn self.old.rows book → StopsEnding self.old.rows.operator K.tells K.holds K.passes keeper.old keeper.new self.old book caller.now now (request_of.Command number command.now) }
+        ensures caused { IsCaused (record { before = K.faults keeper.old; behind = K.faults keeper.new }) result }
         ensures later { K.faults keeper.old ≤ K.faults keeper.new }
         ensures told { K.tells keeper.new → K.tells keeper.old }
         ensures served { K.tells keeper.new → K.serves keeper.new → K.serves keeper.old }

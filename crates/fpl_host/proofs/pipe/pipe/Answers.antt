@@ -1,28 +1,32 @@
-use Rattle.std.proofs.Common.{ap, subst, sym}
-use Rattle.fpl_host.specs.Kept.{Kept}
-use Rattle.fpl_host.specs.Pipe.{Pipes}
-use Rattle.fpl_host.proofs.PipeLemmas.{no_session, one_session}
+use Rattle.std.proofs.Common.{inl}
+use Rattle.fpl_desk.specs.Kept.{Kept}
+use Rattle.fpl_host.specs.Pipe.{IsSession}
+use Rattle.fpl_replies.specs.Replying.{IsReply, IsReplyUntil}
+use Rattle.fpl_host.proofs.CourseLemmas.{runs_of, session_leads}
+use Rattle.fpl_host.proofs.PipeLemmas.{unopened_pipes}
 use Rattle.fpl_host.proofs.pipe.pipe.Goals as goal
 
 pub returns-in-Ok-clause-session : goal.returns-in-Ok-clause-session
 returns-in-Ok-clause-session g c =
     let left = g.S.Source.left c.args.input.now in
-    let later = g.S.Source.left c.session.new.src in
-    let moments = g.C.Clock.left c.args.clock.now in
-    let told = g.C.Clock.left c.session.new.clock in
+    let now = g.S.Source.left c.session.new.src in
     let before = g.W.Sink.taken c.args.output.now in
     let after = g.W.Sink.taken c.session.new.out in
-    let fails = g.K.Keeper.faults c.session.new.keeper in
-    let first : Kept = record { host = c.in-Ok.host.host; moments = moments; failed = g.K.Keeper.faults c.opened.new.keeper } in
-    let last : Kept = record { host = c.session.new.host.host; moments = told; failed = fails } in
-    subst (λ failed. Pipes c.args.key.now left later moments told failed fails before after c.ended.result) (ap g.K.Keeper.faults c.opened.ensures.keeper)
-    (one_session c.args.key.now left later first last before after c.ended.result c.session.result c.sessions_lift.ensures.sessions
-    c.in-Ok.ensures.opened c.ended.ensures.status c.session.ensures.session c.session.ensures.exact)
+    let ending = c.session.result in
+    let first : Kept _ = record { host = c.in-Ok.host.host; moments = g.C.Clock.left c.args.clock.now; failed = g.K.Keeper.faults c.opened.new.keeper; keeper = c.opened.new.keeper } in
+    let last : Kept _ = record { host = c.session.new.host.host; moments = g.C.Clock.left c.session.new.clock; failed = g.K.Keeper.faults c.session.new.keeper; keeper = c.session.new.keeper } in
+    inl (record {
+      ending = ending;
+      is_status = c.ended.ensures.status;
+      exact = c.session.ensures.exact;
+      runs = runs_of _ g.K.Keeper.tells g.K.Keeper.serves g.K.Keeper.holds g.K.Keeper.passes c.args.keeper.now first last c.args.key.now (g.K.Keeper.faults c.args.keeper.now)
+          c.in-Ok.ensures.opened c.in-Ok.ensures.operator c.in-Ok.ensures.reread (c.in-Ok.ensures.counts (λ is. cc))
+          (IsSession IsReplyUntil left now before after ending) (IsSession IsReply left now before after ending)
+          (session_leads _ g.K.Keeper.tells g.K.Keeper.serves g.K.Keeper.holds g.K.Keeper.passes c.sessions_split.ensures.sessions c.sessions_split-2.ensures.sessions
+          c.sessions_lift.ensures.sessions c.sessions_lift-2.ensures.sessions c.sessions_lift-3.ensures.sessions first last left now before after ending c.session.ensures.session);
+    })
 
 pub returns-in-Err-clause-session : goal.returns-in-Err-clause-session
 returns-in-Err-clause-session g c =
-    let left = g.S.Source.left c.args.input.now in
-    let moments = g.C.Clock.left c.args.clock.now in
-    let before = g.W.Sink.taken c.args.output.now in
-    subst (λ fails. Pipes c.args.key.now left left moments moments (g.K.Keeper.faults c.args.keeper.now) fails before before 6) (sym (ap g.K.Keeper.faults c.opened.ensures.keeper))
-    (no_session c.args.key.now left moments (g.K.Keeper.faults c.args.keeper.now) before)
+    unopened_pipes _ g.K.Keeper.tells g.K.Keeper.serves g.K.Keeper.holds g.K.Keeper.passes g.K.Keeper.faults c.args.keeper.now c.opened.new.keeper c.args.key.now (g.S.Source.left c.args.input.now) (g.C.Clock.left c.args.clock.now)
+    (g.W.Sink.taken c.args.output.now) (g.W.Sink.taken c.unopened.new.output) c.unopened.result c.in-Err.fault c.in-Err.ensures.opened c.unopened.ensures.told

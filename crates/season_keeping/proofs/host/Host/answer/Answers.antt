@@ -4,9 +4,9 @@ use Rattle.season_book.specs.Verdict.{Failures, MayAnswer, pass}
 use Rattle.season_book.specs.declared.answer.Answer.{Answer}
 use Rattle.season_records.specs.Commits.{HoldsLeft}
 use Rattle.season_running.specs.Standing.{HostRows}
-use Rattle.season_keeping.specs.Answering.{MayEnd, WouldChange}
+use Rattle.season_keeping.specs.Answering.{IsCaused, MayEnd, WouldChange}
 use Rattle.season_keeping.proofs.Acting.{backs_between, left_of_commit, left_of_ending, stands_between, then_leads}
-use Rattle.season_keeping.proofs.Ending.{change_of_act, change_of_lock, fails_by, leads_map, may_behind, may_of_lock}
+use Rattle.season_keeping.proofs.Ending.{caused_fault, caused_over, change_of_act, change_of_lock, fails_by, leads_map, may_behind, may_of_lock}
 use Rattle.season_keeping.proofs.host.Host.answer.Goals as goal
 
 pub returns-in-Ok-clause-answered : goal.returns-in-Ok-clause-answered
@@ -118,3 +118,14 @@ returns-in-Ok-clause-stops g c = λ book stands tell backs x passed.
 pub returns-in-Err-clause-stops : goal.returns-in-Err-clause-stops
 returns-in-Err-clause-stops g c = λ book stands tell backs x passed.
     left_of_commit c.args.self.now.rows.operator book c.args.caller c.args.now c.args.request.now x (c.in-Err.ensures.stops book stands tell backs x passed)
+
+pub returns-in-Ok-clause-caused : goal.returns-in-Ok-clause-caused
+returns-in-Ok-clause-caused g c =
+    caused_over (g.K.Keeper.faults c.args.keeper.now) (g.K.Keeper.faults c.lock.new.keeper) (g.K.Keeper.faults c.answer_locked.new.keeper) c.answer_locked.result
+    c.lock.ensures.cause.later c.answer_locked.ensures.caused
+
+pub returns-in-Err-clause-caused : goal.returns-in-Err-clause-caused
+returns-in-Err-clause-caused g c =
+    let failures : Failures = record { before = g.K.Keeper.faults c.args.keeper.now; behind = g.K.Keeper.faults c.lock.new.keeper } in
+    subst (λ (a : Answer). IsCaused failures a) (sym c.fault_answer.ensures)
+    (caused_fault c.lock.result c.in-Err.fault (g.K.Keeper.faults c.args.keeper.now) (g.K.Keeper.faults c.lock.new.keeper) c.in-Err.is c.lock.ensures.cause)

@@ -4,11 +4,11 @@ use Rattle.season_book.specs.Book.{Book}
 use Rattle.season_book.specs.Verdict.{Failures}
 use Rattle.season_book.specs.declared.answer.Answer.{Answer}
 use Rattle.season_book.specs.declared.request.Request.TheVariants as request
-use Rattle.season_keeping.specs.Answering.{MayEnd}
+use Rattle.season_keeping.specs.Answering.{IsCaused, MayEnd}
 use Rattle.season_keeping.specs.Housed.{Housed}
 use Rattle.season_keeping.proofs.Acting.{acted_leads, acted_stops, acts, after_rests, followed, none_of, rest_leads, some_of}
 use Rattle.season_keeping.proofs.Committing.{commits_at}
-use Rattle.season_keeping.proofs.Ending.{end_of_fault, end_of_may, fails_by}
+use Rattle.season_keeping.proofs.Ending.{caused_fault, caused_storeless, end_of_fault, end_of_may, fails_by}
 use Rattle.season_keeping.proofs.host.Host.answer_command.Goals as goal
 
 pub returns-then-is_empty-clause-answered : goal.returns-then-is_empty-clause-answered
@@ -113,3 +113,17 @@ returns-in-Err-clause-acts g c = λ is book stands.
     _ _ g.K.Keeper.tells g.K.Keeper.serves g.K.Keeper.holds g.K.Keeper.passes c.args.keeper.now c.commit.new.keeper old mid c.commit.new.self
     old.rows.operator caller c.args.now c.args.number command slots reply c.keeps_order.ensures (some_of slots (c.if-is_empty.ensures ∙ ap (λ (s : List Slot). length s == 0) c.as_slice.ensures.value)) _ (commits_at _ _ g.K.Keeper.tells g.K.Keeper.serves g.K.Keeper.holds g.K.Keeper.passes c.args.keeper.now c.commit.new.keeper c.deref.result.now slots mid c.commit.new.self _ c.deref.ensures.value c.in-Err.ensures.commits)
     book led.0 led.1 led.2
+
+pub returns-then-is_empty-clause-caused : goal.returns-then-is_empty-clause-caused
+returns-then-is_empty-clause-caused g c =
+    caused_storeless (record { before = g.K.Keeper.faults c.args.keeper.now; behind = g.K.Keeper.faults c.args.keeper.now }) c.answer_command-answered.result.answer c.answer_command-answered.ensures.storeless
+
+pub returns-in-Ok-clause-caused : goal.returns-in-Ok-clause-caused
+returns-in-Ok-clause-caused g c =
+    caused_storeless (record { before = g.K.Keeper.faults c.args.keeper.now; behind = g.K.Keeper.faults c.commit.new.keeper }) c.answer_command-answered.result.answer c.answer_command-answered.ensures.storeless
+
+pub returns-in-Err-clause-caused : goal.returns-in-Err-clause-caused
+returns-in-Err-clause-caused g c =
+    let failures : Failures = record { before = g.K.Keeper.faults c.args.keeper.now; behind = g.K.Keeper.faults c.commit.new.keeper } in
+    subst (λ (a : Answer). IsCaused failures a) (sym c.fault_answer.ensures)
+    (caused_fault c.commit.result c.in-Err.fault (g.K.Keeper.faults c.args.keeper.now) (g.K.Keeper.faults c.commit.new.keeper) c.in-Err.is c.commit.ensures.cause)

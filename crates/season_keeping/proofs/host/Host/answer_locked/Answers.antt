@@ -5,7 +5,7 @@ use Rattle.season_keeping.specs.Answering.{MayEnd}
 use Rattle.season_keeping.specs.Housed.{Housed}
 use Rattle.season_running.specs.Standing.{HostRows, StandsIn}
 use Rattle.season_keeping.proofs.Acting.{rest_leads}
-use Rattle.season_keeping.proofs.Ending.{end_of_view}
+use Rattle.season_keeping.proofs.Ending.{caused_storeless, end_of_view}
 use Rattle.season_keeping.proofs.host.Host.answer_locked.Goals as goal
 
 pub returns-in-View-clause-answered : goal.returns-in-View-clause-answered
@@ -26,3 +26,7 @@ returns-in-Command-clause-stops g c = rw c.in-Command.is c.answer_command.ensure
 
 pub returns-in-Command-clause-acts : goal.returns-in-Command-clause-acts
 returns-in-Command-clause-acts g c = rw c.in-Command.is c.answer_command.ensures.acts
+
+pub returns-in-View-clause-caused : goal.returns-in-View-clause-caused
+returns-in-View-clause-caused g c =
+    caused_storeless (record { before = g.K.Keeper.faults c.args.keeper.now; behind = g.K.Keeper.faults c.args.keeper.now }) c.answer_view.result c.answer_view.ensures.storeless
