@@ -8,7 +8,7 @@ their sheets, of 12 lines, once they are locked, and ENTRIES (2048, and 1024 at 
 each gameweek that is played. Leagues and cups are made in the first gameweek, and start with it.
 
 What a request takes is the difference between a run with some of them and one without them, by valgrind's callgrind
-and with the clock of tests/clock.c, as managers.py says. Tables and cups are looked at with one gameweek locked, and
+and with the clock of tests/outside.c, as managers.py says. Tables and cups are looked at with one gameweek locked, and
 with all but the last. Joining and drawing are asked in the first gameweek. The peak of the memory is read from /proc
 while a run without valgrind waits for more input. An answer that accepts nothing ends the script.
 """

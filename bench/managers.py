@@ -6,7 +6,7 @@ The season has 20 clubs, 120 players and 38 gameweeks (or GAMEWEEKS), each with 
 lines, once it is locked. Each entry makes a transfer or sets its lineup in each gameweek, and plays a chip in three.
 Then come, in the last gameweek, TIMES (100) requests of a kind, by entries spread over all; of chips that stay, one an
 entry at most. What one takes is the difference between a run with them and one without them, by valgrind's callgrind,
-all but what the clock takes, which is that of tests/clock.c: gcc builds it. An answer that accepts nothing ends the
+all but what the clock takes, which is that of tests/outside.c: gcc builds it. An answer that accepts nothing ends the
 script. The peak of the memory is read from /proc while a run without valgrind waits for more input.
 """
 import os
@@ -148,7 +148,7 @@ class Place:
     def __init__(self, program, folder):
         self.words = [program, "pipe", "--key", "operator1"]
         self.folder, self.clock = Path(folder), Path(folder) / "clock.so"
-        subprocess.run(["gcc", "-O1", "-shared", "-fPIC", "-o", self.clock, TOP / "tests/clock.c"], check=True)
+        subprocess.run(["gcc", "-O1", "-shared", "-fPIC", "-o", self.clock, TOP / "tests/outside.c"], check=True)
 
     def surroundings(self, stream):
         (self.folder / "moments").write_text("".join(stream.moments))
