@@ -10,10 +10,9 @@ use Rattle.sqlite.specs.declared.error.Error.{Error}
 use Rattle.sqlite.specs.Effect.{Database}
 use Rattle.sqlite.specs.State.{State, IsUnchanged, IsRolledBack, KeepsCommit, IsNotRun, FailsToQuery, FailsToShow, IsTooLate, Shown, Shows, ShowsRows}
 use Rattle.season_keeper.specs.Table.{are_both, schema_of, two}
-use Rattle.season_keeper.specs.Rows.{HasNoLine, IsReading}
+use Rattle.season_keeper.specs.Rows.{IsReading}
 use Rattle.season_keeper.specs.Holding.{Store, records_of, lines_of, Inside}
-use Rattle.season_keeper.proofs.Texts.{asking, is_kind, read_below, read_lines, read_above, record_columns, line_columns, record_order, line_order, record_names, line_names, record_tree, line_tree, reads_below, reads_lines, reads_above}
-use Rattle.sqlite_sql.specs.declared.ops.CompareOp.TheVariants.{Gt}
+use Rattle.season_keeper.proofs.Texts.{asking, read_records, read_lines, line_columns, record_names, line_names, line_tree, reads_records, reads_lines}
 use Rattle.season_keeper.proofs.TwoTables.{Pair, pair_of}
 use Rattle.season_keeper.proofs.Reading.{answers, same_after, reading}
 use Rattle.season_keeper.proofs.Batches.{still_kept, inside_then}
@@ -53,18 +52,14 @@ unfolding Shown
 shown_inside old new sql params rows mode h =
     let same = shows_inside old new sql h.0 _ rows h.0.returning mode h.2 in record { was_open = λ _. same.was_open; mode = same.mode; committed = same.committed_is; makes = tt }
 
--- and so do three
-pub three_inside : (old one two_ new : State) (sql other last : List ℕ) (params : Row) (low lines high : List Row) → IsTrue old.in_transaction → Shown sql params old one low → Shown other params one two_ lines
-    → Shown last params two_ new high → Inside old new Anything
-three_inside old one two_ new sql other last params low lines high mode below between above =
-    let first = shown_inside old one sql params low mode below in
-    let second = shown_inside one two_ other params lines first.mode between in
-    let third = shown_inside two_ new last params high second.mode above in
-    inside_then old one new Anything Anything Anything first (inside_then one two_ new Anything Anything Anything second third (λ _ _. tt)) (λ _ _. tt)
+-- and so do two
+pub two_inside : (old one new : State) (sql other : List ℕ) (params : Row) (records lines : List Row) → IsTrue old.in_transaction → Shown sql params old one records → Shown other params one new lines → Inside old new Anything
+two_inside old one new sql other params records lines mode shown then =
+    let first = shown_inside old one sql params records mode shown in
+    inside_then old one new Anything Anything Anything first (shown_inside one new other params lines first.mode then) (λ _ _. tt)
 
--- the three readings
-module _ (old one two_ new : State) (low lines high : List Row) (store : Store old.now) (both : are_both store.tables ≡ true) (below : Shown read_below [] old one low) (between : Shown read_lines [] one two_ lines)
-    (above : Shown read_above [] two_ new high) where
+-- the two readings
+module _ (old one new : State) (records lines : List Row) (store : Store old.now) (both : are_both store.tables ≡ true) (shown : Shown read_records [] old one records) (then : Shown read_lines [] one new lines) where
   abbrev first : Bool
   first = (pair_of old.now store both).0
 
@@ -72,27 +67,18 @@ module _ (old one two_ new : State) (low lines high : List Row) (store : Store o
   pair = (pair_of old.now store both).1.pair
 
   one_is : one.now ≡ old.now
-  one_is = (same_after (schema_of (two first)) read_below _ record_names (reads_below first) old one low pair.schema below).0.now_is
+  one_is = (same_after (schema_of (two first)) read_records _ record_names (reads_records first) old one records pair.schema shown).0.now_is
 
   one_schema : one.now.schema ≡ schema_of (two first)
   one_schema = ap (λ (d : Database). d.schema) one_is ∙ pair.schema
 
-  two_is : two_.now ≡ old.now
-  two_is = (same_after (schema_of (two first)) read_lines _ line_names (reads_lines first) one two_ lines one_schema between).0.now_is ∙ one_is
+  pub two_same : new.now ≡ old.now
+  two_same = (same_after (schema_of (two first)) read_lines _ line_names (reads_lines first) one new lines one_schema then).0.now_is ∙ one_is
 
-  two_schema : two_.now.schema ≡ schema_of (two first)
-  two_schema = ap (λ (d : Database). d.schema) two_is ∙ pair.schema
-
-  pub three_same : new.now ≡ old.now
-  three_same = (same_after (schema_of (two first)) read_above _ record_names (reads_above first) two_ new high two_schema above).0.now_is ∙ two_is
-
-  pub three_read : HasNoLine (records_of store) → IsReading (records_of store) (lines_of store) ((low ++ lines) ++ high)
-  three_read none =
+  pub two_read : IsReading (records_of store) (lines_of store) (records ++ lines)
+  two_read =
       let of = (pair_of old.now store both).1 in
-      let low_is = answers (schema_of (two first)) read_below _ record_names (reads_below first) old one low pair.schema below in
-      let lines_are = answers (schema_of (two first)) read_lines _ line_names (reads_lines first) one two_ lines one_schema between in
-      let high_is = answers (schema_of (two first)) read_above _ record_names (reads_above first) two_ new high two_schema above in
-      let it = reading first old.now pair (subst HasNoLine of.records_are none) low lines high low_is
-      (subst (λ (d : Database). IsAnswer (asking (line_tree first) [] line_columns [] line_order) (overlay d.trees []) [] lines) one_is lines_are)
-      (subst (λ (d : Database). IsAnswer (asking (record_tree first) (is_kind Gt) record_columns [] record_order) (overlay d.trees []) [] high) two_is high_is) in
-      subst (λ l. IsReading (records_of store) l ((low ++ lines) ++ high)) (sym of.lines_are) (subst (λ r. IsReading r (old.now.trees (line_tree first)) ((low ++ lines) ++ high)) (sym of.records_are) it)
+      let first_is = answers (schema_of (two first)) read_records _ record_names (reads_records first) old one records pair.schema shown in
+      let then_is = answers (schema_of (two first)) read_lines _ line_names (reads_lines first) one new lines one_schema then in
+      let it = reading first old.now pair records lines first_is (subst (λ (d : Database). IsAnswer (asking (line_tree first) [] line_columns [] []) (overlay d.trees []) [] lines) one_is then_is) in
+      subst (λ l. IsReading (records_of store) l (records ++ lines)) (sym of.lines_are) (subst (λ r. IsReading r (old.now.trees (line_tree first)) (records ++ lines)) (sym of.records_are) it)

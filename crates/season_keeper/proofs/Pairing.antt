@@ -11,13 +11,16 @@ use Rattle.fpl_base.specs.declared.records.RecordKey.{RecordKey as Key}
 use Rattle.std.specs.List.{All}
 use Rattle.std.proofs.lemmas.List.{get_or_default}
 use Rattle.std.proofs.lemmas.List.Elements.{All-head, All-tail}
+use Rattle.std.proofs.lemmas.List.Sorted.{IsPermutation-sym}
+use Rattle.std.proofs.lemmas.List.Quantifiers.{all_pairs_push}
 use Rattle.std.proofs.lemmas.Bool.{cases_eq}
 use Rattle.sqlite.specs.Effect.{Database}
 use Rattle.fpl_base.specs.Keeping.{Map, KeysRise, map_of, precedes, is_same_key}
 use Rattle.fpl_base.proofs.Around.{AllPairs-head, AllPairs-tail}
 use Rattle.fpl_base.proofs.KeyLemmas.{precedes_trans, precedes_not_back, same_key, same_key_self}
 use Rattle.season_keeper.specs.Holding.{Store, Holds, Tells, Keeps, Moves, records_of, lines_of}
-use Rattle.season_keeper.specs.Rows.{record_values, Stored, IsReading, Shows, ShowEach}
+use Rattle.season_keeper.specs.Rows.{record_values, Stored, IsReading, Shows, ShowAll, ShowEach}
+use Rattle.season_keeper.proofs.Lists.{has_permuted}
 
 pub show_more : (rows : List Row) (i : ℕ) (row : Row) (all new : List (Key × List ℕ)) (one : Key × List ℕ) → i < length rows → row ≡ get_or rows i row → new ≡ all ++ one ∷ []
     → ShowEach (take i rows) all → Shows row one → ShowEach (take (i + 1) rows) new
@@ -52,18 +55,18 @@ zip_has R (a ∷ xs) (b ∷ ys) x all (inl same) = (b, inl refl, subst (λ q. R 
 zip_has R (a ∷ xs) (b ∷ ys) x all (inr more) = let it = zip_has R xs ys x all.1 more in (it.0, inr it.1, it.2)
 
 -- the pairs are those of the table, and no other
-pub pairs_sound : (records lines rows : List Row) (pairs : List (Key × List ℕ)) → IsReading records lines rows → ShowEach rows pairs → (p : Key × List ℕ) → Has pairs p → Stored records lines p.0 p.1
-pairs_sound records lines rows pairs reading each p h =
-    let row = has_zip Shows rows pairs p each h in
+pub pairs_sound : (records lines rows : List Row) (pairs : List (Key × List ℕ)) → IsReading records lines rows → ShowAll rows pairs → (p : Key × List ℕ) → Has pairs p → Stored records lines p.0 p.1
+pairs_sound records lines rows pairs reading all p h =
+    let row = has_zip Shows rows all.0 p all.1 (has_permuted all.0 pairs p all.2 h) in
     let it = reading.sound row.0 row.1 in
     let same = shown_is it.0 it.1 p (subst (λ r. Shows r p) it.3 row.2) in
     subst (λ k. Stored records lines k p.1) same.0 (subst (Stored records lines it.0) same.1 it.2)
 
-pub pairs_complete : (records lines rows : List Row) (pairs : List (Key × List ℕ)) → IsReading records lines rows → ShowEach rows pairs → (k : Key) (body : List ℕ) → Stored records lines k body
+pub pairs_complete : (records lines rows : List Row) (pairs : List (Key × List ℕ)) → IsReading records lines rows → ShowAll rows pairs → (k : Key) (body : List ℕ) → Stored records lines k body
     → (p : Key × List ℕ) × Has pairs p × (k ≡ p.0) × (body ≡ p.1)
-pairs_complete records lines rows pairs reading each k body h =
-    let p = zip_has Shows rows pairs (record_values k body) each (reading.complete k body h) in
-    let same = shown_is k body p.0 p.2 in (p.0, p.1, same.0, same.1)
+pairs_complete records lines rows pairs reading all k body h =
+    let p = zip_has Shows rows all.0 (record_values k body) all.1 (reading.complete k body h) in
+    let same = shown_is k body p.0 p.2 in (p.0, has_permuted pairs all.0 p.0 (IsPermutation-sym _ _ all.2) p.1, same.0, same.1)
 
 abbrev Rises : (Key × List ℕ) → (Key × List ℕ) → Type 0
 Rises x y = IsTrue (precedes x.0 y.0)
@@ -79,6 +82,12 @@ all_before pairs key last rise is before k d low = elim (cases_eq k (length pair
   | inl same ↦ subst (λ p. precedes p.0 key ≡ true) (is ∙ get_or_default pairs (length pairs - 1) last d (omega (arith, low)) ∙ ap (λ i. get_or pairs i d) (sym same)) before
   | inr other ↦ precedes_trans (get_or pairs k d).0 last.0 key (subst (λ p. precedes (get_or pairs k d).0 p.0 ≡ true) (get_or_default pairs (length pairs - 1) d last (omega (arith, low)) ∙ sym is) (rise k (length pairs - 1) d (omega (arith, low, other)) (omega (arith, low)))) before
 ]
+
+-- where the next key stands behind all before it, one more rises
+pub rise_more : (pairs : List (Key × List ℕ)) (i : ℕ) (pair : Key × List ℕ) → i < length pairs → pair ≡ get_or pairs i pair → KeysRise (take i pairs) → All (λ p. precedes p.0 pair.0 ≡ true) (take i pairs) → KeysRise (take (i + 1) pairs)
+rise_more pairs i pair low is rise behind =
+    let more : take (i + 1) pairs ≡ take i pairs ++ pair ∷ [] = take_more pairs i pair low ∙ ap (λ p. take i pairs ++ p ∷ []) (sym is) in
+    subst KeysRise (sym more) (all_pairs_push Rises (take i pairs) pair rise behind)
 
 -- a pair of rising keys is in the map
 map_has : (pairs : List (Key × List ℕ)) (p : Key × List ℕ) → KeysRise pairs → Has pairs p → map_of pairs p.0 ≡ Some p.1
@@ -100,7 +109,7 @@ has_map (q ∷ more) k body h = go (is_same_key q.0 k) refl h (has_map more k bo
     go false e f rest = let it = rest f in (it.0, inr it.1, it.2, it.3)
 
 -- the pairs of a reading are the map that the table holds
-pub reading_holds : (records lines rows : List Row) (pairs : List (Key × List ℕ)) → IsReading records lines rows → ShowEach rows pairs → KeysRise pairs → Holds records lines (map_of pairs)
+pub reading_holds : (records lines rows : List Row) (pairs : List (Key × List ℕ)) → IsReading records lines rows → ShowAll rows pairs → KeysRise pairs → Holds records lines (map_of pairs)
 reading_holds records lines rows pairs reading each rise = record {
   sound = λ k body stores.
       let it = pairs_complete records lines rows pairs reading each k body stores in

@@ -7,7 +7,7 @@ use Rattle.sqlite_value.specs.declared.keys.Collation.TheVariants.{Binary}
 use Rattle.sqlite_sql.specs.Term.{Term, lit, col, op2}
 use Rattle.sqlite_sql.specs.declared.ops.BinaryOp.TheVariants.{Compare}
 use Rattle.sqlite_sql.specs.declared.ops.CompareOp.{CompareOp}
-use Rattle.sqlite_sql.specs.declared.ops.CompareOp.TheVariants.{Eq, Lt, Gt}
+use Rattle.sqlite_sql.specs.declared.ops.CompareOp.TheVariants.{Eq}
 use Rattle.sqlite_sql.specs.Query.{Query, inner, end}
 use Rattle.sqlite_schema.specs.declared.command.Upsert.{Upsert}
 use Rattle.sqlite_schema.specs.declared.command.Source.TheVariants as source
@@ -107,9 +107,6 @@ two_rest_line false = record { command_is = refl; plain = (refl, refl) }
 two_rest_line true = record { command_is = refl; plain = (refl, refl) }
 
 -- ---- queries
-
-abbrev pub by_first : Key
-by_first = record { collation = Binary; descending = false }
 
 -- a query over one table
 abbrev pub asking : ℕ → List Term → List Term → List Collation → List (Term × Key) → Query
@@ -226,26 +223,17 @@ clear_lines_means true = record { command_is = refl; plain = (refl, refl) }
 
 -- ---- readings
 
-abbrev pub read_below : List ℕ
-read_below = codes "SELECT kind, a, b, c, body FROM record WHERE kind < 5 ORDER BY kind, a, b, c"
+abbrev pub read_records : List ℕ
+read_records = codes "SELECT kind, a, b, c, body FROM record"
 
 abbrev pub read_lines : List ℕ
-read_lines = codes "SELECT 5, a, b, c, body FROM line ORDER BY a, b, c"
-
-abbrev pub read_above : List ℕ
-read_above = codes "SELECT kind, a, b, c, body FROM record WHERE kind > 5 ORDER BY kind, a, b, c"
+read_lines = codes "SELECT 5, a, b, c, body FROM line"
 
 abbrev pub record_names : List (List ℕ)
 record_names = codes "kind" ∷ codes "a" ∷ codes "b" ∷ codes "c" ∷ codes "body" ∷ []
 
 abbrev pub line_names : List (List ℕ)
 line_names = codes "5" ∷ codes "a" ∷ codes "b" ∷ codes "c" ∷ codes "body" ∷ []
-
-abbrev pub record_order : List (Term × Key)
-record_order = (col 1 1, by_first) ∷ (col 1 2, by_first) ∷ (col 1 3, by_first) ∷ (col 1 4, by_first) ∷ []
-
-abbrev pub line_order : List (Term × Key)
-line_order = (col 1 1, by_first) ∷ (col 1 2, by_first) ∷ (col 1 3, by_first) ∷ []
 
 -- the columns of `record`, and those of `line` behind the kind 5
 abbrev pub record_columns : List Term
@@ -259,17 +247,12 @@ pub record Reads (schema : Schema) (text : List ℕ) (query : Query) (names : Li
   pub means : Means schema text (Select (program query) names)
   pub unlisted : reads_listing schema text ≡ false
 
-pub reads_below : (first : Bool) → Reads (schema_of (two first)) read_below (asking (record_tree first) (is_kind Lt) record_columns [] record_order) record_names
+pub reads_records : (first : Bool) → Reads (schema_of (two first)) read_records (asking (record_tree first) [] record_columns [] []) record_names
 unfolding understood everything
-reads_below false = record { means = record { command_is = refl; plain = (refl, refl) }; unlisted = refl }
-reads_below true = record { means = record { command_is = refl; plain = (refl, refl) }; unlisted = refl }
+reads_records false = record { means = record { command_is = refl; plain = (refl, refl) }; unlisted = refl }
+reads_records true = record { means = record { command_is = refl; plain = (refl, refl) }; unlisted = refl }
 
-pub reads_lines : (first : Bool) → Reads (schema_of (two first)) read_lines (asking (line_tree first) [] line_columns [] line_order) line_names
+pub reads_lines : (first : Bool) → Reads (schema_of (two first)) read_lines (asking (line_tree first) [] line_columns [] []) line_names
 unfolding understood everything
 reads_lines false = record { means = record { command_is = refl; plain = (refl, refl) }; unlisted = refl }
 reads_lines true = record { means = record { command_is = refl; plain = (refl, refl) }; unlisted = refl }
-
-pub reads_above : (first : Bool) → Reads (schema_of (two first)) read_above (asking (record_tree first) (is_kind Gt) record_columns [] record_order) record_names
-unfolding understood everything
-reads_above false = record { means = record { command_is = refl; plain = (refl, refl) }; unlisted = refl }
-reads_above true = record { means = record { command_is = refl; plain = (refl, refl) }; unlisted = refl }

@@ -1,5 +1,5 @@
 -- The rows of the two tables as records.
-use Rattle.std.specs.Prelude.{◌≡◌, ◌≢◌, ◌⊎◌, ◌<◌, ℕ, ℤ, pos, List, [], ◌∷◌, ◌++◌}
+use Rattle.std.specs.Prelude.{◌≡◌, ◌≢◌, ◌⊎◌, ℕ, ℤ, pos, List, [], ◌∷◌, IsPermutation}
 use Rattle.std.specs.List.{AllZip}
 use Rattle.sqlite_value.specs.declared.value.Value.TheVariants.{Int, Blob}
 use Rattle.sqlite_value.specs.Order.{Row, column}
@@ -54,19 +54,8 @@ AreApart records lines = (at : LineKey) (x y : List ℕ) → Stores record_value
 abbrev pub HasNoLine : List Row → Type 0
 HasNoLine records = (k : Key) (body : List ℕ) → Stores record_values records k body → k.kind ≢ 5
 
--- the kind of each record that the rows show stands so to 5
-abbrev pub AreOfKind : (ℕ → Type 0) → List Row → Type 0
-AreOfKind Stands rows = (k : Key) (body : List ℕ) → Has rows (record_values k body) → Stands k.kind
-
--- The reading shows each record of the two tables, and no other row: those below kind 5, the lines, and those above.
+-- the reading shows each record of the two tables, and no other row
 pub record IsReading (records lines out : List Row) : Type 0 where
-  pub below : List Row
-  pub between : List Row
-  pub above : List Row
-  pub all : out ≡ (below ++ between) ++ above
-  pub is_below : AreOfKind (λ kind. kind < 5) below
-  pub is_between : AreOfKind (λ kind. kind ≡ 5) between
-  pub is_above : AreOfKind (λ kind. 5 < kind) above
   pub sound : (x : Row) → Has out x → (k : Key) × (body : List ℕ) × Stored records lines k body × (x ≡ record_values k body)
   pub complete : (k : Key) (body : List ℕ) → Stored records lines k body → Has out (record_values k body)
 
@@ -81,3 +70,7 @@ pub record Shows (row : Row) (pair : Key × List ℕ) : Type 0 where
 -- each row shows the pair at its place
 abbrev pub ShowEach : List Row → List (Key × List ℕ) → Type 0
 ShowEach = AllZip Shows
+
+-- the rows show these pairs, in whatever order
+abbrev pub ShowAll : List Row → List (Key × List ℕ) → Type 0
+ShowAll rows pairs = (in_turn : List (Key × List ℕ)) × ShowEach rows in_turn × IsPermutation in_turn pairs

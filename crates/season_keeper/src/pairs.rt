@@ -1,7 +1,7 @@
 // Rows of the table as records.
 ghost use Rattle.std.specs.Prelude.{◌≡◌, true, All, IfOk, IfSome, IsTrue};
 ghost use Rattle.fpl_base.specs.Keeping.{KeysRise, precedes};
-ghost use Rattle.season_keeper.specs.Rows.{Shows, ShowEach};
+ghost use Rattle.season_keeper.specs.Rows.{Shows, ShowAll, ShowEach};
 
 use fpl_base::{Bytes, RecordKey};
 use sqlite::{Error, Row};
@@ -33,21 +33,44 @@ fn goes_behind(pairs: &[(RecordKey, Bytes)], key: RecordKey) -> bool
     }
 }
 
-// The records that the rows show, or none where a number is out of its range, or a key does not stand behind the one
-// before it.
-pub fn pairs_of(alloc: Global, rows: &[Row]) -> Result<Option<Vec<(RecordKey, Bytes)>>, Error>
-    ensures shown { IfOk result (λ found. IfSome found (λ pairs. ShowEach rows.now pairs.items)) }
-    ensures rise { IfOk result (λ found. IfSome found (λ pairs. KeysRise pairs.items)) }
+// Whether each key stands behind the one before it.
+fn do_rise(pairs: &[(RecordKey, Bytes)]) -> bool
+    ensures { IsTrue result → KeysRise pairs.now }
 {
-    let mut all = Vec::new(alloc);
+    'pairs: for (place, pair) in pairs.iter().enumerate() {
+        if !goes_behind(&pairs[..place], pair.0) {
+            return false;
+        }
+    }
+    true
+}
+
+// The records that the rows show, in turn, or none where a number is out of its range.
+fn shown_by(
+    alloc: Global,
+    rows: &[Row],
+) -> Result<Option<Vec<(RecordKey, Bytes)>>, Error>
+    ensures { IfOk result (λ found. IfSome found (λ pairs. ShowEach rows.now pairs.items)) }
+{
+    let mut all = Vec::with_capacity(alloc, rows.len())?;
     'rows: for row in rows {
         let Some(one) = pair_of(row)? else {
             return Ok(None);
         };
-        if !goes_behind(&all, one.0) {
-            return Ok(None);
-        }
         all.push(one)?;
     }
     Ok(Some(all))
+}
+
+// The records that the rows show, in the order of their keys, or none where a number is out of its range, or a key
+// comes twice.
+pub fn pairs_of(alloc: Global, rows: &[Row]) -> Result<Option<Vec<(RecordKey, Bytes)>>, Error>
+    ensures shown { IfOk result (λ found. IfSome found (λ pairs. ShowAll rows.now pairs.items)) }
+    ensures rise { IfOk result (λ found. IfSome found (λ pairs. KeysRise pairs.items)) }
+{
+    let Some(mut all) = shown_by(alloc, rows)? else {
+        return Ok(None);
+    };
+    all.sort_by_key(|pair| pair.0)?;
+    if do_rise(&all) { Ok(Some(all)) } else { Ok(None) }
 }

@@ -34,5 +34,5 @@ returns-clause-read g c clean mode was =
     let moved = c.in_ok-move_lines.ensures.made later grown.mode in
     let grows = grown.makes was in
     let moves = grown_moves old.now one.now two.now was grows (moved.makes grows.store grows.both) in
-    ok_both c.read_rows.result (c.read_rows.ensures.made clean moved.mode) (c.read_rows.ensures.read clean moves.store moves.both moves.moved)
+    ok_both c.read_rows.result (c.read_rows.ensures.made clean moved.mode) (c.read_rows.ensures.read clean moves.store moves.both)
     (λ rows same reading. subst (λ (db : Database). (it : Moves old.now db was) × IsReading (records_of it.store) (lines_of it.store) rows.items) (sym (same.makes moves.store moves.both)) (moves, reading))

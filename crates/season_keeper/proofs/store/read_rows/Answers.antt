@@ -1,10 +1,10 @@
-use Rattle.std.proofs.Common.{arith, ◌∙◌, ◌++◌, ap, sym, subst}
+use Rattle.std.proofs.Common.{arith, sym, subst}
 use Rattle.sqlite.specs.State.{HasCleanDisk}
 use Rattle.sqlite.specs.Held.{state}
 use Rattle.season_keeper.specs.Rows.{IsReading}
 use Rattle.season_keeper.specs.Holding.{records_of, lines_of}
 use Rattle.season_keeper.proofs.Batches.{on_err, inside_kept, inside_commit}
-use Rattle.season_keeper.proofs.Loading.{query_kept, shown_inside, three_inside, three_same, three_read}
+use Rattle.season_keeper.proofs.Loading.{query_kept, shown_inside, two_inside, two_same, two_read}
 use Rattle.season_keeper.proofs.store.read_rows.Goals as goal
 
 pub returns-in_err-rows-clause-undone : goal.returns-in_err-rows-clause-undone
@@ -18,60 +18,29 @@ returns-in_err-lines-clause-undone g c clean mode =
     let early : HasCleanDisk one = omega (arith, c.query_all-2.ensures.survives.clean) in
     on_err _ (inside_kept old one new _ (shown_inside old one _ _ _ mode (c.in_ok-rows.ensures.ok early)) (query_kept one new _ _ _ (c.in_err-lines.ensures.err clean)))
 
-pub returns-in_err-above-clause-undone : goal.returns-in_err-above-clause-undone
-returns-in_err-above-clause-undone g c clean mode =
-    let old = state g.S.Store c.args.tx.now.conn.now in
-    let one = state g.S.Store c.query_all.new.self.conn.now in
-    let two = state g.S.Store c.query_all-2.new.self.conn.now in
-    let new = state g.S.Store c.query_all-3.new.self.conn.now in
-    let later : HasCleanDisk two = omega (arith, c.query_all-3.ensures.survives.clean) in
-    let early : HasCleanDisk one = omega (arith, c.query_all-2.ensures.survives.clean) in
-    let first = shown_inside old one _ _ _ mode (c.in_ok-rows.ensures.ok early) in
-    let second = shown_inside one two _ _ _ first.mode (c.in_ok-lines.ensures.ok later) in
-    on_err _ (inside_kept old one new _ first (inside_kept one two new _ second (query_kept two new _ _ _ (c.in_err-above.ensures.err clean))))
-
 pub returns-in_err-append-clause-undone : goal.returns-in_err-append-clause-undone
 returns-in_err-append-clause-undone g c clean mode =
     let old = state g.S.Store c.args.tx.now.conn.now in
     let one = state g.S.Store c.query_all.new.self.conn.now in
-    let two = state g.S.Store c.query_all-2.new.self.conn.now in
-    let new = state g.S.Store c.query_all-3.new.self.conn.now in
-    let later : HasCleanDisk two = omega (arith, c.query_all-3.ensures.survives.clean) in
+    let new = state g.S.Store c.query_all-2.new.self.conn.now in
     let early : HasCleanDisk one = omega (arith, c.query_all-2.ensures.survives.clean) in
-    on_err _ (inside_commit old new _ (three_inside old one two new _ _ _ _ _ _ _ mode (c.in_ok-rows.ensures.ok early) (c.in_ok-lines.ensures.ok later) (c.in_ok-above.ensures.ok clean)))
-
-pub returns-in_err-append-2-clause-undone : goal.returns-in_err-append-2-clause-undone
-returns-in_err-append-2-clause-undone g c clean mode =
-    let old = state g.S.Store c.args.tx.now.conn.now in
-    let one = state g.S.Store c.query_all.new.self.conn.now in
-    let two = state g.S.Store c.query_all-2.new.self.conn.now in
-    let new = state g.S.Store c.query_all-3.new.self.conn.now in
-    let later : HasCleanDisk two = omega (arith, c.query_all-3.ensures.survives.clean) in
-    let early : HasCleanDisk one = omega (arith, c.query_all-2.ensures.survives.clean) in
-    on_err _ (inside_commit old new _ (three_inside old one two new _ _ _ _ _ _ _ mode (c.in_ok-rows.ensures.ok early) (c.in_ok-lines.ensures.ok later) (c.in_ok-above.ensures.ok clean)))
+    on_err _ (inside_commit old new _ (two_inside old one new _ _ _ _ _ mode (c.in_ok-rows.ensures.ok early) (c.in_ok-lines.ensures.ok clean)))
 
 pub returns-clause-made : goal.returns-clause-made
 returns-clause-made g c clean mode =
     let old = state g.S.Store c.args.tx.now.conn.now in
     let one = state g.S.Store c.query_all.new.self.conn.now in
-    let two = state g.S.Store c.query_all-2.new.self.conn.now in
-    let new = state g.S.Store c.query_all-3.new.self.conn.now in
-    let later : HasCleanDisk two = omega (arith, c.query_all-3.ensures.survives.clean) in
+    let new = state g.S.Store c.query_all-2.new.self.conn.now in
     let early : HasCleanDisk one = omega (arith, c.query_all-2.ensures.survives.clean) in
-    let below = c.in_ok-rows.ensures.ok early in
-    let between = c.in_ok-lines.ensures.ok later in
-    let above = c.in_ok-above.ensures.ok clean in
-    let it = three_inside old one two new _ _ _ _ _ _ _ mode below between above in
-    record { was_open = it.was_open; mode = it.mode; committed = it.committed; makes = λ store both. three_same old one two new _ _ _ store both below between above }
+    let records = c.in_ok-rows.ensures.ok early in
+    let lines = c.in_ok-lines.ensures.ok clean in
+    let it = two_inside old one new _ _ _ _ _ mode records lines in
+    record { was_open = it.was_open; mode = it.mode; committed = it.committed; makes = λ store both. two_same old one new _ _ store both records lines }
 
 pub returns-clause-read : goal.returns-clause-read
-returns-clause-read g c clean store both none =
+returns-clause-read g c clean store both =
     let old = state g.S.Store c.args.tx.now.conn.now in
     let one = state g.S.Store c.query_all.new.self.conn.now in
-    let two = state g.S.Store c.query_all-2.new.self.conn.now in
-    let new = state g.S.Store c.query_all-3.new.self.conn.now in
-    let later : HasCleanDisk two = omega (arith, c.query_all-3.ensures.survives.clean) in
+    let new = state g.S.Store c.query_all-2.new.self.conn.now in
     let early : HasCleanDisk one = omega (arith, c.query_all-2.ensures.survives.clean) in
-    let it = three_read old one two new _ _ _ store both (c.in_ok-rows.ensures.ok early) (c.in_ok-lines.ensures.ok later) (c.in_ok-above.ensures.ok clean) none in
-    let all = c.in_ok-append-2.ensures.items ∙ ap (λ l. l ++ c.in_ok-above.above.items) c.in_ok-append.ensures.items in
-    subst (IsReading (records_of store) (lines_of store)) (sym all) it
+    subst (IsReading (records_of store) (lines_of store)) (sym c.in_ok-append.ensures.items) (two_read old one new _ _ store both (c.in_ok-rows.ensures.ok early) (c.in_ok-lines.ensures.ok clean))

@@ -1,7 +1,0 @@
-use Rattle.std.proofs.Common.{take}
-use Rattle.fpl_base.specs.Keeping.{KeysRise}
-use Rattle.season_keeper.specs.Rows.{ShowEach}
-use Rattle.season_keeper.proofs.pairs.pairs_of.Given as goal
-
-abbrev pub invariant-rows : goal.invariant-rows
-invariant-rows l = ShowEach (take l.row-index l.rows) l.all.items × KeysRise l.all.items
