@@ -3,11 +3,13 @@
 and opening a large store, beside the sqlite3 shell that reads the same rows.
 
 usage: keeper.py PROGRAM [COMMANDS [RECORDS]]
-COMMANDS (1000) prices are set over a season of 600 players. Instructions are those of a run with them less those of one
-without, by valgrind's callgrind, a command; for SQLite those of the sqlite3 shell, which puts the two rows that a price
-changes in one transaction, with prepared statements' parameters as literals. Seconds are of whole runs, each commit synced
-to the disk that TMPDIR lies on. Then a store of some RECORDS (900000) records is made by this script, which `pipe` opens on
-an empty input and the shell reads in the order of its keys: seconds of processor, and the peak of memory.
+COMMANDS (1000) prices are set over a season of 600 players, each of which commits two records, and then a tenth as many
+sheets of 49 lines, each of which takes the place of one with 49 others and so commits a hundred. Instructions are those of
+a run with them less those of one without, by valgrind's callgrind, a command; for SQLite those of the sqlite3 shell, which
+puts and deletes the same rows in one transaction, with prepared statements' parameters as literals. Seconds are of whole
+runs, each commit synced to the disk that TMPDIR lies on. Then a store of some RECORDS (900000) records is made by this
+script, which `pipe` opens on an empty input and the shell reads in the order of its keys: seconds of processor, and the peak
+of memory.
 """
 import os
 import re
@@ -23,6 +25,7 @@ PROGRAM = Path(sys.argv[1]).resolve()
 COMMANDS = int(sys.argv[2]) if len(sys.argv) > 2 else 1000
 RECORDS = int(sys.argv[3]) if len(sys.argv) > 3 else 900000
 PLAYERS = 600
+LINES = 49  # of a sheet
 RECORD = "kind INTEGER NOT NULL, a INTEGER NOT NULL, b INTEGER NOT NULL, c INTEGER NOT NULL, body BLOB NOT NULL, PRIMARY KEY (kind, a, b, c)"
 LINE = "a INTEGER NOT NULL, b INTEGER NOT NULL, c INTEGER NOT NULL, body BLOB NOT NULL, PRIMARY KEY (a, b, c)"
 
@@ -32,13 +35,29 @@ def post(target, number, members):
     return f"POST {target} HTTP/1.1\r\nFpl-Key: operator1\r\nContent-Length: {len(body)}\r\n\r\n{body}"
 
 
-def season():
-    asked = [post("/season", 1, '"deadlines":[253402300000],"split":1,"clubs":[' + ",".join(f'{{"id":{c},"name":"Club {c}"}}' for c in range(1, 21)) + "]")]
+def season(deadline):
+    asked = [post("/season", 1, f'"deadlines":[{deadline}],"split":1,"clubs":[' + ",".join(f'{{"id":{c},"name":"Club {c}"}}' for c in range(1, 21)) + "]")]
     return asked + [post("/players", p + 1, f'"id":{p},"name":"Player {p}","position":"M","club":{p % 20 + 1},"price":50') for p in range(1, PLAYERS + 1)]
 
 
 def prices(count):
     return [post("/prices", PLAYERS + 2 + n, f'"player":{n * 7 % PLAYERS + 1},"price":{51 + n % 100}') for n in range(count)]
+
+
+def sheets(count):
+    """A season whose gameweek is locked at the second message, since its deadline has passed, and the sheets of its fixture."""
+    asked = [*season(1000000), post("/fixtures", PLAYERS + 2, '"id":1,"home":1,"away":2,"gameweek":1,"kickoff":2000000')]
+    figures = ",".join(["90"] + ["0"] * 27)
+    for n in range(count):
+        lines = ",".join(f'{{"player":{p},"figures":[{figures}]}}' for p in lined_up(n))
+        asked.append(post("/fixtures/1/sheet", PLAYERS + 3 + n, f'"lines":[{lines}],"finished":false'))
+    return "".join(asked).encode()
+
+
+def lined_up(n):
+    """The players of the n-th sheet."""
+    first = 1 + n % 2 * LINES
+    return range(first, first + LINES)
 
 
 def number(n, size):
@@ -65,6 +84,18 @@ def script(count):
     return "\n".join(lines).encode()
 
 
+def sheet_script(count):
+    """What the shell is told: the tables, and a transaction for each sheet."""
+    lines = ["PRAGMA journal_mode = WAL;", "PRAGMA synchronous = FULL;", f"CREATE TABLE record ({RECORD}) STRICT;", f"CREATE TABLE line ({LINE}) STRICT;"]
+    put = lambda table, row: f"INSERT INTO {table} VALUES ({','.join(str(it) for it in row[:-1])},x'{row[-1].hex()}') ON CONFLICT DO UPDATE SET body = excluded.body;"
+    for n in range(count):
+        last = number(PLAYERS + 3 + n, 8) + number(200, 2) + number(0, 4) + bytes([9]) + bytes(12 + 60 * LINES)
+        lines += ["BEGIN;", put("record", (12, 0, 0, 0, last)), put("record", (4, 1, 0, 0, bytes([1, 2, 1]) + number(2000000, 8) + bytes([0])))]
+        lines += [f"DELETE FROM line WHERE a = 1 AND b = {p} AND c = 0;" for p in lined_up(n + 1)]
+        lines += [put("line", (1, p, 0, number(90, 2) + bytes(54))) for p in lined_up(n)] + ["COMMIT;"]
+    return "\n".join(lines).encode()
+
+
 def ran(words, data, place, counted):
     """The instructions of a run, or its seconds."""
     words = ["valgrind", "--tool=callgrind", "--callgrind-out-file=/dev/null", *words] if counted else words
@@ -75,22 +106,21 @@ def ran(words, data, place, counted):
     return time.monotonic() - began
 
 
-def cost(words, data_of, counted):
+def cost(words, data_of, counted, most):
     """A command's part of it."""
     found = []
-    for count in (0, COMMANDS):
+    for count in (0, most):
         with tempfile.TemporaryDirectory() as place:
             found.append(ran(words, data_of(count), place, counted))
-    return (found[1] - found[0]) / COMMANDS
+    return (found[1] - found[0]) / most
 
 
-def commands():
-    stream = lambda count: "".join(season() + prices(count)).encode()
+def commands(what, stream, told, most):
     pipe = [str(PROGRAM), "pipe", "--key", "operator1"]
-    runs = {"pipe in memory": (pipe, stream), "pipe over a store": ([*pipe, "--store", "s"], stream), "sqlite3 shell": (["sqlite3", "s"], script)}
-    found = {name: (cost(words, data, True), cost(words, data, False)) for name, (words, data) in runs.items()}
+    runs = {"pipe in memory": (pipe, stream), "pipe over a store": ([*pipe, "--store", "s"], stream), "sqlite3 shell": (["sqlite3", "s"], told)}
+    found = {name: (cost(words, data, True, most), cost(words, data, False, most)) for name, (words, data) in runs.items()}
     for name, (counted, seconds) in found.items():
-        print(f"{name}: {counted:,.0f} instructions and {seconds * 1000:.3f} ms a command")
+        print(f"{name}: {counted:,.0f} instructions and {seconds * 1000:.3f} ms a {what}")
     one, other = found["pipe over a store"], found["sqlite3 shell"]
     print(f"over a store {one[0] / other[0]:.2f} times the instructions of SQLite, and {one[1] / other[1]:.2f} times its time")
 
@@ -163,5 +193,6 @@ def opening():
         print(f"opening {count:,} records ({size / 2**20:.0f} MiB): {ours[0]:.2f} seconds and {ours[1]:.0f} MiB; the sqlite3 shell reads them in {shell[0]:.2f} and {shell[1]:.0f}")
 
 
-commands()
+commands("price", lambda count: "".join(season(253402300000) + prices(count)).encode(), script, COMMANDS)
+commands("sheet", sheets, sheet_script, max(COMMANDS // 10, 1))
 opening()
