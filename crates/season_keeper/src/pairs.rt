@@ -46,10 +46,7 @@ fn do_rise(pairs: &[(RecordKey, Bytes)]) -> bool
 }
 
 // The records that the rows show, in turn, or none where a number is out of its range.
-fn shown_by(
-    alloc: Global,
-    rows: &[Row],
-) -> Result<Option<Vec<(RecordKey, Bytes)>>, Error>
+fn shown_by(alloc: Global, rows: &[Row]) -> Result<Option<Vec<(RecordKey, Bytes)>>, Error>
     ensures { IfOk result (λ found. IfSome found (λ pairs. ShowEach rows.now pairs.items)) }
 {
     let mut all = Vec::with_capacity(alloc, rows.len())?;
@@ -72,5 +69,9 @@ pub fn pairs_of(alloc: Global, rows: &[Row]) -> Result<Option<Vec<(RecordKey, By
         return Ok(None);
     };
     all.sort_by_key(|pair| pair.0)?;
-    if do_rise(&all) { Ok(Some(all)) } else { Ok(None) }
+    if do_rise(&all) {
+        Ok(Some(all))
+    } else {
+        Ok(None)
+    }
 }

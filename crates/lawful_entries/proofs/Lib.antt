@@ -1,0 +1,12 @@
+pub mod Batches
+pub mod Chips
+pub mod Deeds
+pub mod Firsts
+pub mod Grows
+pub mod Lineups
+pub mod Players
+pub mod Recorded
+pub mod Standing
+pub mod Stay
+pub mod Transfers
+pub mod Unbroken

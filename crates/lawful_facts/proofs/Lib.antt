@@ -1,0 +1,14 @@
+pub mod Among
+pub mod Counting
+pub mod Crowds
+pub mod Families
+pub mod FixturesKept
+pub mod Found
+pub mod Keeping
+pub mod Lines
+pub mod MatchesKept
+pub mod PlayersKept
+pub mod Rising
+pub mod Rules
+pub mod SeasonKept
+pub mod Telling

@@ -1,0 +1,12 @@
+use Rattle.lawful_facts.proofs.Keeping.{granted_are_lawful}
+use Rattle.lawful_facts.proofs.SeasonKept.{moments_are_lawful, new_seasons_are_lawful}
+use Rattle.lawful_facts.proofs.laws.facts_stay_lawful.Goals as goal
+
+pub returns-clause-begin : goal.returns-clause-begin
+returns-clause-begin c = new_seasons_are_lawful
+
+pub returns-clause-command : goal.returns-clause-command
+returns-clause-command c = granted_are_lawful
+
+pub returns-clause-moment : goal.returns-clause-moment
+returns-clause-moment c = moments_are_lawful

@@ -1,0 +1,4 @@
+pub mod Facts
+pub mod Keeping
+pub mod Rules
+pub mod Telling

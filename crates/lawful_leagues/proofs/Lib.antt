@@ -1,0 +1,11 @@
+pub mod Numbers
+pub mod Tests
+pub mod Grown
+pub mod Keys
+pub mod Memberships
+pub mod LeaguesKept
+pub mod CupsKept
+pub mod BookKept
+pub mod Asked
+pub mod MembersTold
+pub mod RulesHold

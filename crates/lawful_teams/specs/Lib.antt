@@ -1,0 +1,2 @@
+pub mod Fifteens
+pub mod TeamsTold

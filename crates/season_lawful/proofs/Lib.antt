@@ -1,0 +1,3 @@
+pub mod Stood
+pub mod Judged
+pub mod Kept

@@ -1,0 +1,7 @@
+//! Lawful books: laws on the definitions of `season_book` and `season_books`. Every book of a run is lawful, and of a
+//! lawful book no record is one that a host, which is made anew of them, would find damaged.
+#![tactic(auto)]
+
+mod laws;
+
+pub use laws::{books_are_lawful, lawful_books_are_whole};
