@@ -1,5 +1,5 @@
 -- The whole way of a message, from the host made ready to the reply.
-use Rattle.std.proofs.Common.{◌≡◌, ◌∙◌, ◌⊎◌, ◌≤◌, Bool, true, false, true≢false, ap, sym, subst, ℕ, List, Option, Some, None, Result, Ok, Err, IfOk, inl, inr, refl}
+use Rattle.std.proofs.Common.{◌≡◌, ◌∙◌, ◌⊎◌, ◌≤◌, Bool, true, false, ap, sym, subst, ℕ, List, Option, Some, None, Result, Ok, Err, IfOk, inl, inr, refl}
 use Rattle.std.specs.Prelude.{is_some, ⊤}
 use Rattle.serde_json.specs.Written.{compact_text}
 use Rattle.fpl_base.specs.Causes.{Rose}
@@ -20,13 +20,15 @@ use Rattle.fpl_session.specs.Splits.{Both}
 use Rattle.season_book.specs.Book.{Book}
 use Rattle.season_records.specs.Records.{records}
 use Rattle.season_running.specs.Standing.{StandsIn}
+use Rattle.season_opening.specs.Opening.{IsKeepable}
 use Rattle.season_opening.specs.declared.loading.OpenFault.{OpenFault}
 use Rattle.season_opening.specs.declared.loading.OpenFault.TheVariants as fault
 use Rattle.season_keeping.specs.Housed.{Backs}
 use Rattle.season_keeping.specs.Opening.{Withholds}
-use Rattle.fpl_desk.specs.Desks.{IsFaultReply}
-use Rattle.fpl_desk.specs.Kept.{Agrees, IsStoodByRows, IsStoodByStops, Kept, Leads, StandsByRecords, StandsByRows, StandsByStops, asked_in}
-use Rattle.fpl_replies.specs.Replying.{Goes, IsLeftAt, IsRebuildFault, IsReply, IsReplyUntil, RebuildFails, RepliesAlong, RepliesTo, Served, asked_by, caller_of, error_reply, full_reply, way_of}
+use Rattle.fpl_desk.specs.Desks.{IsFaultReply, RepliesAs}
+use Rattle.fpl_desk.specs.Kept.{IsStoodByRows, IsStoodByStops, Kept, Leads, StandsByRecords, StandsByRows, StandsByStops, asked_in}
+use Rattle.fpl_replies.specs.Replying.{Asking, Goes, IsAsked, IsRebuildFault, IsReply, IsReplyUntil, RepliesAlong, RepliesTo, Served, asked_by, caller_of, error_reply, way_of}
+use Rattle.fpl_replies.specs.Whole.{CanBeJudged, IsKept, IsKeptReply}
 use Rattle.fpl_desk.proofs.KeptLemmas.{caller_stood, is_from, is_none}
 
 -- what is replied, by each of the three
@@ -34,7 +36,11 @@ abbrev pub RepliesAll : {K : Type 0} → (K → Type 0) → (K → Type 0) → (
 RepliesAll {K = K} tells serves holds passes =
     Both (LiftsWhile (λ (_ : Kept K). ⊤) IsStoodByRows IsReplyUntil)
     (Both (LiftsWhile (λ (kept : Kept K). tells kept.keeper) (IsStoodByStops holds passes) IsReplyUntil)
-    (LiftsWhile (λ (kept : Kept K). tells kept.keeper × serves kept.keeper) (StandsByRecords holds passes) IsReply))
+    (LiftsWhile (λ (kept : Kept K). tells kept.keeper × serves kept.keeper) (StandsByRecords holds passes) IsKeptReply))
+
+-- a message behind which the host is as it was before
+kept_same : (message : Message) (reply : ℕ × List ℕ) (served : Served) → IsKeepable served.host.book → IsKept served message reply served
+kept_same message reply served keepable = record { keepable = keepable; asks = inl refl }
 
 -- ---- a message that goes nowhere
 
@@ -57,7 +63,7 @@ module _ (message : Message) (at : Found) (status : ℕ) (word body : List ℕ) 
     (λ followed. followed, λ _ state stood. (state, stood, nowhere_until state)),
     (
       (λ followed. followed, λ _ state stood. (state, stood, nowhere_until state)),
-      (λ followed. followed, λ _ state stood. (state, stood, goes_nowhere state)),
+      (λ followed. followed, λ _ state stood. (state, stood, (goes_nowhere state, kept_same message (answer_in r) state stood.backs.keepable))),
     ),
   )
 
@@ -79,7 +85,7 @@ module _ (message : Message) (route : Route) (ids : List ℕ) (is_found : IsFoun
 
     -- the host was made ready, and what the message asks of it then was replied to
     module _ (new : Kept K) (r : Result Reply Memory) (fresh : mid.host.stale ≡ false) (failed : mid.failed ≡ old.failed)
-        (leads : Leads tells serves holds passes mid new (λ served behind. RepliesTo (asked_in mid.host.rows message route ids) served (answer_in r) behind)) where
+        (leads : Leads tells serves holds passes mid new (λ served behind. RepliesAs (asked_in mid.host.rows message route ids) served (answer_in r) behind)) where
       asked_is : (served : Served) → served.host.operator ≡ mid.host.rows.operator → StandsIn mid.host.rows served.host.book
           → asked_in mid.host.rows message route ids ≡ asked_by (caller_of served.host message.key) route ids message.body
       asked_is served own stands = ap (λ (caller : Option Caller). asked_by caller route ids message.body) (sym (caller_stood mid.host.rows served.host message.key own stands))
@@ -96,6 +102,12 @@ module _ (message : Message) (route : Route) (ids : List ℕ) (is_found : IsFoun
         inr (ready served, refl, subst (λ (asking : _). RepliesTo asking (ready served) (answer_in r) behind) (asked_is served own stands) replied),
       )
 
+      asks_in : (served behind : Served) → served.host.operator ≡ mid.host.rows.operator → StandsIn mid.host.rows served.host.book
+          → (behind.host ≡ served.host) ⊎ CanBeJudged (asked_in mid.host.rows message route ids)
+          → (behind.host ≡ served.host) ⊎ ((asking : Asking) × IsAsked served.host message asking × CanBeJudged asking)
+      asks_in served behind own stands (inl same) = inl same
+      asks_in served behind own stands (inr can) = inr (asked_in mid.host.rows message route ids, (Ok (route, ids), goes, asked_is served own stands), can)
+
       ready_is : (served : Served) → is_some served.stale ≡ false → ready served ≡ served
       ready_is served is = ap (λ (stale : Option Book). record served { stale = stale }) (sym (is_none served.stale is))
 
@@ -108,7 +120,7 @@ module _ (message : Message) (route : Route) (ids : List ℕ) (is_found : IsFoun
             Some led.0,
             led.1,
             replies served led.0 stood.agrees.operator (stood.rows fresh)
-                (subst (λ (s : Served). RepliesTo (asked_in mid.host.rows message route ids) s (answer_in r) led.0) (sym (ready_is served (stood.agrees.stale ∙ fresh))) led.2),
+                (subst (λ (s : Served). RepliesTo (asked_in mid.host.rows message route ids) s (answer_in r) led.0) (sym (ready_is served (stood.agrees.stale ∙ fresh))) led.2.0),
           )
 
       by_stops_fresh : old.host.stale ≡ false → tells new.keeper → (served : Served) → StandsByStops holds passes old served
@@ -119,7 +131,7 @@ module _ (message : Message) (route : Route) (ids : List ℕ) (is_found : IsFoun
             Some led.0,
             led.1,
             replies served led.0 stood.by_rows.agrees.operator (stood.by_rows.rows fresh)
-                (subst (λ (s : Served). RepliesTo (asked_in mid.host.rows message route ids) s (answer_in r) led.0) (sym (ready_is served (stood.by_rows.agrees.stale ∙ fresh))) led.2),
+                (subst (λ (s : Served). RepliesTo (asked_in mid.host.rows message route ids) s (answer_in r) led.0) (sym (ready_is served (stood.by_rows.agrees.stale ∙ fresh))) led.2.0),
           )
 
       -- and where it was
@@ -154,12 +166,14 @@ module _ (message : Message) (route : Route) (ids : List ℕ) (is_found : IsFoun
           }
 
       by_records : tells new.keeper → serves new.keeper → (served : Served) → StandsByRecords holds passes old served
-          → (behind : Served) × StandsByRecords holds passes new behind × IsReply served message (answer_in r) behind
+          → (behind : Served) × StandsByRecords holds passes new behind × IsKeptReply served message (answer_in r) behind
       by_records tell serve served stands =
           let told = leads.told tell in
           let stood = ready_stands told (leads.served tell serve) served stands in
           let led = leads.by_records tell serve (ready served) stood in
-          (led.0, led.1, replies served led.0 stood.agrees.operator (stood.backs.stands fresh) led.2)
+          let own = stood.agrees.operator in
+          let stands_now = stood.backs.stands fresh in
+          (led.0, led.1, (replies served led.0 own stands_now led.2.0, record { keepable = led.1.backs.keepable; asks = asks_in served led.0 own stands_now led.2.1 }))
 
       asked_by_rows : LiftsWhile (λ (_ : Kept K). ⊤) IsStoodByRows IsReplyUntil old message (answer_in r) new
       asked_by_rows = (λ followed. followed, λ _ state stands. until_rows old.host.stale refl state stands)
@@ -167,7 +181,7 @@ module _ (message : Message) (route : Route) (ids : List ℕ) (is_found : IsFoun
       asked_by_stops : LiftsWhile (λ (kept : Kept K). tells kept.keeper) (IsStoodByStops holds passes) IsReplyUntil old message (answer_in r) new
       asked_by_stops = (λ tell. tell_on (leads.told tell), λ tell state stands. until_stops old.host.stale refl tell state stands)
 
-      asked_by_records : LiftsWhile (λ (kept : Kept K). tells kept.keeper × serves kept.keeper) (StandsByRecords holds passes) IsReply old message (answer_in r) new
+      asked_by_records : LiftsWhile (λ (kept : Kept K). tells kept.keeper × serves kept.keeper) (StandsByRecords holds passes) IsKeptReply old message (answer_in r) new
       asked_by_records = (
         λ follows. (tell_on (leads.told follows.0), serve_on (leads.told follows.0) (leads.served follows.0 follows.1)),
         λ follows served stands. by_records follows.0 follows.1 served stands,
@@ -215,21 +229,24 @@ module _ (message : Message) (route : Route) (ids : List ℕ) (is_found : IsFoun
       }
 
       unready : tells mid.keeper → serves mid.keeper → (served : Served) → StandsByRecords holds passes old served
-          → (behind : Served) × StandsByRecords holds passes mid behind × IsReply served message (answer_in r) behind
+          → (behind : Served) × StandsByRecords holds passes mid behind × IsKeptReply served message (answer_in r) behind
       unready tell serve served stands =
           let from = is_from served.stale (stands.agrees.stale ∙ was_stale) in (
             fails served,
             unready_stands tell serve served stands,
             (
-              Ok (route, ids),
-              goes,
-              inl (record {
-                from = from.0;
-                stale = from.1;
-                cause = cause tell served stands why withholds r written;
-                later = subst (λ (n : ℕ). n ≤ mid.failed) (sym stands.agrees.failed) later;
-                stays = refl;
-              }),
+              (
+                Ok (route, ids),
+                goes,
+                inl (record {
+                  from = from.0;
+                  stale = from.1;
+                  cause = cause tell served stands why withholds r written;
+                  later = subst (λ (n : ℕ). n ≤ mid.failed) (sym stands.agrees.failed) later;
+                  stays = refl;
+                }),
+              ),
+              record { keepable = stands.backs.keepable; asks = inl refl },
             ),
           )
 
@@ -247,7 +264,7 @@ module _ (message : Message) (route : Route) (ids : List ℕ) (is_found : IsFoun
       unready_by_stops : LiftsWhile (λ (kept : Kept K). tells kept.keeper) (IsStoodByStops holds passes) IsReplyUntil old message (answer_in r) mid
       unready_by_stops = (λ tell. tell_on tell, λ tell state stands. unready_stops state stands)
 
-      unready_by_records : LiftsWhile (λ (kept : Kept K). tells kept.keeper × serves kept.keeper) (StandsByRecords holds passes) IsReply old message (answer_in r) mid
+      unready_by_records : LiftsWhile (λ (kept : Kept K). tells kept.keeper × serves kept.keeper) (StandsByRecords holds passes) IsKeptReply old message (answer_in r) mid
       unready_by_records = (
         λ follows. (tell_on follows.0, serve_on follows.0 follows.1),
         λ follows served stands. unready follows.0 follows.1 served stands,

@@ -1,5 +1,5 @@
 -- Replies to what the host judged.
-use Rattle.std.proofs.Common.{◌≡◌, ◌≢◌, ◌∙◌, ◌⊎◌, Bool, true, false, true≢false, ap, arith, sym, subst, ℕ, List, Option, Some, None, Result, Ok, Err, IfOk, inl, inr, refl}
+use Rattle.std.proofs.Common.{◌≡◌, ◌∙◌, ◌⊎◌, Bool, true, false, true≢false, ap, arith, sym, subst, ℕ, List, None, Result, Ok, Err, IfOk, inl, inr, refl}
 use Rattle.fpl_base.specs.Keeping.{Map}
 use Rattle.fpl_base.specs.declared.kinds.Caller.{Caller}
 use Rattle.fpl_base.specs.declared.memory.Memory.{Memory}
@@ -20,8 +20,7 @@ use Rattle.season_records.specs.Commits.{HoldsLeft}
 use Rattle.season_records.specs.Records.{records}
 use Rattle.season_running.specs.Standing.{StandsIn}
 use Rattle.season_keeping.specs.Answering.{Answers, StopsLeave, WouldChange}
-use Rattle.season_keeping.specs.Housed.{Backs}
-use Rattle.fpl_desk.specs.Kept.{Kept, Leads, StandsByRecords, StandsByRows, StandsByStops}
+use Rattle.fpl_desk.specs.Kept.{Kept, Leads}
 use Rattle.fpl_replies.specs.Replying.{IsJudged, IsLeftAt, IsStaleBehind, Judges, Served, reply_of}
 use Rattle.fpl_desk.proofs.KeptLemmas.{agrees_with, served_is, stale_from, stale_is, with_book}
 

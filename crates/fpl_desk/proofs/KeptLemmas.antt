@@ -7,13 +7,14 @@ use Rattle.fpl_base.specs.declared.kinds.Caller.{Caller}
 use Rattle.manager_book.specs.declared.manager.Manager.{Manager}
 use Rattle.rule_book.specs.declared.player.Player.{Player}
 use Rattle.season_book.specs.Book.{Book, EntryFacts}
-use Rattle.season_book.specs.Hosts.{HostState, keys_of}
+use Rattle.season_book.specs.Hosts.{HostState, IsRequest, keys_of}
 use Rattle.season_entries.specs.Entries.{AreEntries}
 use Rattle.season_running.specs.Standing.{HostRows, StandsIn}
 use Rattle.season_keeping.specs.Housed.{Housed}
-use Rattle.fpl_desk.specs.Kept.{Agrees, Kept, Leads, StandsByRecords, StandsByRows, StandsByStops, caller_in}
+use Rattle.fpl_desk.specs.Desks.{RepliesAs}
+use Rattle.fpl_desk.specs.Kept.{Agrees, Kept, Leads, caller_in}
 use Rattle.season_book.specs.declared.request.Request.{Request}
-use Rattle.fpl_replies.specs.Replying.{Asking, Judges, RepliesTo, Reply, Served, caller_of, shown_by}
+use Rattle.fpl_replies.specs.Replying.{Asking, Judges, Reply, Served, caller_of, shown_by}
 
 -- ---- the keys are the same
 
@@ -99,11 +100,11 @@ module _ (K : Type 0) (tells serves : K → Type 0) (holds passes : K → Map �
   }
 
   -- what is asked is judged
-  pub asked_leads : (old new : Kept K) (asking : Asking) (caller : Caller) (request : Request) (reply : Reply) → asking ≡ Ok (caller, request)
+  pub asked_leads : (old new : Kept K) (asking : Asking) (caller : Caller) (request : Request) (reply : Reply) → asking ≡ Ok (caller, request) → IsRequest request
       → Leads tells serves holds passes old new (λ served behind. Judges served caller request reply behind)
-      → Leads tells serves holds passes old new (λ served behind. RepliesTo asking served reply behind)
-  asked_leads old new asking caller request reply is =
-      leads_on old new _ _ (λ served behind judged. subst (λ (a : Asking). RepliesTo a served reply behind) (sym is) (inr judged))
+      → Leads tells serves holds passes old new (λ served behind. RepliesAs asking served reply behind)
+  asked_leads old new asking caller request reply is can =
+      leads_on old new _ _ (λ served behind judged. subst (λ (a : Asking). RepliesAs a served reply behind) (sym is) (inr judged, inr can))
 
 -- a host that is not stale is ready as it is
 pub kept_is : (K : Type 0) (faults : K → ℕ) (moments : Option Moments) (one other : Housed) (first second : K) → one ≡ other → first ≡ second

@@ -1,5 +1,5 @@
 -- What a message was found to ask.
-use Rattle.std.specs.Prelude.{◌≡◌, Ok, Err, IsTrue}
+use Rattle.std.specs.Prelude.{◌≡◌, ◌⊎◌, Ok, Err, IsTrue}
 use Rattle.fpl_http.specs.Responses.{is_answer_status}
 use Rattle.fpl_http.specs.Seen.{reply_seen}
 use Rattle.season_book.specs.Hosts.{IsRequest}
@@ -8,7 +8,8 @@ use Rattle.season_opening.specs.declared.loading.OpenFault.{OpenFault}
 use Rattle.season_opening.specs.declared.loading.OpenFault.TheVariants as fault
 use Rattle.fpl_desk.specs.declared.desk.Asked.{Asked}
 use Rattle.fpl_desk.specs.declared.desk.Asked.TheVariants as asked
-use Rattle.fpl_replies.specs.Replying.{Asking, Reply, reply_of}
+use Rattle.fpl_replies.specs.Replying.{Asking, RepliesTo, Reply, Served, reply_of}
+use Rattle.fpl_replies.specs.Whole.{CanBeJudged}
 
 -- who asks what, or the reply that refuses it
 abbrev pub asking_in : Asked → Asking
@@ -24,6 +25,10 @@ CanFollow (asked.Refused reply) = IsTrue (is_answer_status reply.status)
 pub record Asks (asking : Asking) (found : Asked) : Type 0 where
   pub same : asking_in found ≡ asking
   pub follows : CanFollow found
+
+-- what was asked of a host that is ready was replied to; and the host is as it was before, or what was asked can be asked
+abbrev pub RepliesAs : Asking → Served → Reply → Served → Type 0
+RepliesAs asking old reply new = RepliesTo asking old reply new × ((new.host ≡ old.host) ⊎ CanBeJudged asking)
 
 -- the reply where the host could not be made ready for this: a fault of the keeper, or the key of a record that is not
 -- lawful; for want of memory there is none

@@ -11,9 +11,10 @@ ghost use Rattle.season_book.specs.Hosts.{IsRequest};
 ghost use Rattle.season_keeping.specs.Opening.{Opens, Withholds};
 ghost use Rattle.season_opening.specs.declared.loading.OpenFault.{OpenFault};
 ghost use Rattle.season_opening.specs.declared.loading.OpenFault.TheVariants as fault;
-ghost use Rattle.fpl_desk.specs.Desks.{Asks, IsFaultReply};
+ghost use Rattle.fpl_desk.specs.Desks.{Asks, IsFaultReply, RepliesAs};
 ghost use Rattle.fpl_desk.specs.Kept.{IsStoodByRows, IsStoodByStops, Kept, Leads, StandsByRecords, asked_in, caller_in};
-ghost use Rattle.fpl_replies.specs.Replying.{IsReply, IsReplyUntil, Judges, RepliesTo, asked_by, reply_of, unless_malformed};
+ghost use Rattle.fpl_replies.specs.Replying.{IsReplyUntil, Judges, asked_by, reply_of, unless_malformed};
+ghost use Rattle.fpl_replies.specs.Whole.{IsKeptReply};
 
 use fpl_base::{Caller, Clock, Keeper, Key, Memory, Steps};
 use fpl_http::{Message, Reply};
@@ -148,7 +149,7 @@ fn answered<K: Keeper, C: Clock, L: Ledger>(
     ensures answered { Leads K.tells K.serves K.holds K.passes
         (record { host = host.old.host; moments = C.left clock.old; failed = K.faults keeper.old; keeper = keeper.old })
         (record { host = host.new.host; moments = C.left clock.new; failed = K.faults keeper.new; keeper = keeper.new })
-        (λ served behind. RepliesTo (asked_in host.old.host.rows (request_seen message.now) route ids.now) served (answer_in result) behind) }
+        (λ served behind. RepliesAs (asked_in host.old.host.rows (request_seen message.now) route ids.now) served (answer_in result) behind) }
 {
     match asked_by(alloc, &host.host, &mut host.scratch, message, route, ids)? {
         Asked::Refused(reply) => Ok(reply),
@@ -257,7 +258,7 @@ impl<K: Keeper, C: Clock, L: Ledger> Service<HostWithScratch, K, C, L> for Desk 
 
     ghost answers = { λ _. Both (LiftsWhile (λ _. ⊤) IsStoodByRows IsReplyUntil)
         (Both (LiftsWhile (λ kept. K.tells kept.keeper) (IsStoodByStops K.holds K.passes) IsReplyUntil)
-        (LiftsWhile (λ kept. K.tells kept.keeper × K.serves kept.keeper) (StandsByRecords K.holds K.passes) IsReply)) };
+        (LiftsWhile (λ kept. K.tells kept.keeper × K.serves kept.keeper) (StandsByRecords K.holds K.passes) IsKeptReply)) };
 
     ghost ready = { λ _ _. ⊤ };
 

@@ -1,7 +1,8 @@
 // What the host and its keeper stand for, of which the promises of a session speak: three views of it.
 ghost use Rattle.std.specs.Prelude.{Option, ⊤};
 ghost use Rattle.fpl_desk.specs.Kept.{IsStoodByRows, IsStoodByStops, Kept, StandsByRecords};
-ghost use Rattle.fpl_replies.specs.Replying.{IsReply, IsReplyUntil, Served};
+ghost use Rattle.fpl_replies.specs.Replying.{IsReplyUntil, Served};
+ghost use Rattle.fpl_replies.specs.Whole.{IsKeptReply};
 ghost use Rattle.fpl_session.specs.Lifts.{LiftsWhile};
 ghost use Rattle.fpl_session.specs.Splits.{Both};
 
@@ -59,7 +60,7 @@ impl<K: Keeper> Standing for ByRecords<K> {
 
     ghost stands = { StandsByRecords K.holds K.passes };
 
-    ghost answers = { IsReply };
+    ghost answers = { IsKeptReply };
 }
 
 /// What a desk answers, as its promises speak of it: by the rows, and by the other two.
@@ -74,7 +75,7 @@ impl<K: Keeper> Answering for RowsFirst<K> {
     ghost one = { LiftsWhile (λ _. ⊤) IsStoodByRows IsReplyUntil };
 
     ghost other = { Both (LiftsWhile (λ kept. K.tells kept.keeper) (IsStoodByStops K.holds K.passes) IsReplyUntil)
-        (LiftsWhile (λ kept. K.tells kept.keeper × K.serves kept.keeper) (StandsByRecords K.holds K.passes) IsReply) };
+        (LiftsWhile (λ kept. K.tells kept.keeper × K.serves kept.keeper) (StandsByRecords K.holds K.passes) IsKeptReply) };
 }
 
 /// The other two: with what a stop leaves, and by the keeper's records.
@@ -88,5 +89,5 @@ impl<K: Keeper> Answering for StopsFirst<K> {
 
     ghost one = { LiftsWhile (λ kept. K.tells kept.keeper) (IsStoodByStops K.holds K.passes) IsReplyUntil };
 
-    ghost other = { LiftsWhile (λ kept. K.tells kept.keeper × K.serves kept.keeper) (StandsByRecords K.holds K.passes) IsReply };
+    ghost other = { LiftsWhile (λ kept. K.tells kept.keeper × K.serves kept.keeper) (StandsByRecords K.holds K.passes) IsKeptReply };
 }

@@ -12,7 +12,8 @@ use Rattle.season_book.specs.Book.{Book, empty_book}
 use Rattle.season_running.specs.Standing.{StandsIn}
 use Rattle.season_keeping.specs.Opening.{Opens}
 use Rattle.fpl_desk.specs.Kept.{Agrees, IsStoodByRows, IsStoodByStops, Kept, LeadsAll, StandsByRecords, StandsByRows, StandsByStops}
-use Rattle.fpl_replies.specs.Replying.{IsLeftAt, IsReply, IsReplyUntil, Served}
+use Rattle.fpl_replies.specs.Replying.{IsLeftAt, IsReplyUntil, Served}
+use Rattle.fpl_replies.specs.Whole.{IsKeptReply}
 use Rattle.fpl_host.specs.Keeping.{IsBehind, Runs, opened}
 use Rattle.fpl_host.specs.Pipe.{IsSession}
 
@@ -69,15 +70,15 @@ module _ (K : Type 0) (tells serves : K → Type 0) (holds passes : K → Map �
   Stops = LiftsWhile (λ (kept : Kept K). tells kept.keeper) (IsStoodByStops holds passes) IsReplyUntil
 
   abbrev Records : Kept K → Request → ℕ × List ℕ → Kept K → Type 0
-  Records = LiftsWhile (λ (kept : Kept K). tells kept.keeper × serves kept.keeper) (StandsByRecords holds passes) IsReply
+  Records = LiftsWhile (λ (kept : Kept K). tells kept.keeper × serves kept.keeper) (StandsByRecords holds passes) IsKeptReply
 
   pub session_leads : SessionsSplit Rows (Both Stops Records) → SessionsSplit Stops Records
       → SessionsLift (λ (_ : Kept K). ⊤) IsStoodByRows IsReplyUntil
       → SessionsLift (λ (kept : Kept K). tells kept.keeper) (IsStoodByStops holds passes) IsReplyUntil
-      → SessionsLift (λ (kept : Kept K). tells kept.keeper × serves kept.keeper) (StandsByRecords holds passes) IsReply
+      → SessionsLift (λ (kept : Kept K). tells kept.keeper × serves kept.keeper) (StandsByRecords holds passes) IsKeptReply
       → (first last : Kept K) (left now before after : Option (List ℕ)) (ending : Ending)
       → SessionOf (Speaks (Both Rows (Both Stops Records))) left now first last before after ending
-      → LeadsAll tells serves holds passes first last (IsSession IsReplyUntil left now before after ending) (IsSession IsReply left now before after ending)
+      → LeadsAll tells serves holds passes first last (IsSession IsReplyUntil left now before after ending) (IsSession IsKeptReply left now before after ending)
   session_leads apart asunder by_rows by_stops by_records first last left now before after ending session =
       let one = apart left now first last before after ending session in
       let two = asunder left now first last before after ending one.1 in

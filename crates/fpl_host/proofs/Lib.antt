@@ -4,3 +4,4 @@ pub mod RequestLemmas
 pub mod RunLemmas
 pub mod ServeLemmas
 pub mod Taken
+pub mod WholeLemmas

@@ -9,7 +9,8 @@ use Rattle.fpl_session.specs.Sessions.{EndsAs}
 use Rattle.fpl_session.specs.declared.ending.Ending.{Ending}
 use Rattle.fpl_session.specs.declared.ending.Ending.TheVariants as ends
 use Rattle.fpl_desk.specs.Kept.{Kept, LeadsAll}
-use Rattle.fpl_replies.specs.Replying.{IsReply, IsReplyUntil, Served}
+use Rattle.fpl_replies.specs.Replying.{IsReplyUntil, Served}
+use Rattle.fpl_replies.specs.Whole.{IsKeptReply}
 use Rattle.fpl_host.specs.Pipe.{IsSession}
 use Rattle.fpl_host.specs.Serve.{DoorState, Fails, IsAskedOnce, IsVisit, OneFewer, ServesOn}
 use Rattle.fpl_host.proofs.CourseLemmas.{leads_all_on, leads_all_same, leads_all_then}
@@ -46,11 +47,11 @@ module _ (K : Type 0) (tells serves : K → Type 0) (holds passes : K → Map �
       → Opens before.coming middle.coming left fresh → middle.given_back ≡ before.given_back → middle.faults ≡ before.faults
       → after.coming ≡ middle.coming → GivesBack middle.given_back after.given_back (record { left = now; taken = taken; read_faults = read; write_faults = written })
       → after.faults ≡ middle.faults → reads ≡ 0 → writes ≡ 0
-      → LeadsAll tells serves holds passes first last (IsSession IsReplyUntil left now fresh taken ending) (IsSession IsReply left now fresh taken ending)
+      → LeadsAll tells serves holds passes first last (IsSession IsReplyUntil left now fresh taken ending) (IsSession IsKeptReply left now fresh taken ending)
       → IfSome left (λ all. EndsAs all ending) → (ending ≡ ends.Read → Rose reads read) → (ending ≡ ends.Write → Rose writes written)
-      → LeadsAll tells serves holds passes first last (IsAskedOnce IsReplyUntil before after (Ok ending)) (IsAskedOnce IsReply before after (Ok ending))
+      → LeadsAll tells serves holds passes first last (IsAskedOnce IsReplyUntil before after (Ok ending)) (IsAskedOnce IsKeptReply before after (Ok ending))
   one_visit first last before middle after left now fresh taken reads writes read written ending opens back faults coming gives same no_reads no_writes leads exact reading writing =
-      leads_all_on K tells serves holds passes first last _ _ _ _ (λ s b session. visit (Option Served) IsReplyUntil s b session) (λ s b session. visit Served IsReply s b session) leads
+      leads_all_on K tells serves holds passes first last _ _ _ _ (λ s b session. visit (Option Served) IsReplyUntil s b session) (λ s b session. visit Served IsKeptReply s b session) leads
     where
       visit : (S : Type 0) (answers : S → Request → ℕ × List ℕ → S → Type 0) (s b : S) → IsSession answers left now fresh taken ending s b → IsVisit answers before after s b ending
       visit S answers s b session = record {
@@ -68,7 +69,7 @@ module _ (K : Type 0) (tells serves : K → Type 0) (holds passes : K → Map �
 
   -- a door that failed
   pub no_visit : (kept : Kept K) (before after : DoorState) → Fails before after
-      → LeadsAll tells serves holds passes kept kept (IsAskedOnce IsReplyUntil before after (Err (record {}))) (IsAskedOnce IsReply before after (Err (record {})))
+      → LeadsAll tells serves holds passes kept kept (IsAskedOnce IsReplyUntil before after (Err (record {}))) (IsAskedOnce IsKeptReply before after (Err (record {})))
   no_visit kept before after fails = leads_all_same K tells serves holds passes kept _ _ (λ state. (fails, refl)) (λ served. (fails, refl))
 
   -- some of the connections were served, and so many are left: whatever becomes of these is the end of all
@@ -77,7 +78,7 @@ module _ (K : Type 0) (tells serves : K → Type 0) (holds passes : K → Map �
       (after : DoorState) (new : S) (status : ℕ) → ServesOn answers count between after status mid new → ServesOn answers whole before after status old new
 
   pub record Underway (count whole : ℕ) (first last : Kept K) (before between : DoorState) : Type 0 where
-    pub on : LeadsAll tells serves holds passes first last (On (Option Served) IsReplyUntil count whole before between) (On Served IsReply count whole before between)
+    pub on : LeadsAll tells serves holds passes first last (On (Option Served) IsReplyUntil count whole before between) (On Served IsKeptReply count whole before between)
     pub faults : between.faults ≡ before.faults
 
   pub underway_start : (count : ℕ) (kept : Kept K) (door : DoorState) → Underway count count kept kept door door
@@ -88,7 +89,7 @@ module _ (K : Type 0) (tells serves : K → Type 0) (holds passes : K → Map �
 
   step_on : (count whole : ℕ) (first mid last : Kept K) (before between after : DoorState) (ending : Ending)
       → Underway (suc count) whole first mid before between → ending ≢ ends.Memory
-      → LeadsAll tells serves holds passes mid last (IsAskedOnce IsReplyUntil between after (Ok ending)) (IsAskedOnce IsReply between after (Ok ending))
+      → LeadsAll tells serves holds passes mid last (IsAskedOnce IsReplyUntil between after (Ok ending)) (IsAskedOnce IsKeptReply between after (Ok ending))
       → after.faults ≡ between.faults → Underway count whole first last before after
   step_on count whole first mid last before between after ending underway fits leads same = record {
     on = leads_all_then K tells serves holds passes first mid last _ _ _ _ _ _
@@ -101,22 +102,22 @@ module _ (K : Type 0) (tells serves : K → Type 0) (holds passes : K → Map �
   -- what is left goes down by one
   pub underway_more : (left count whole : ℕ) (first mid last : Kept K) (before between after : DoorState) (ending : Ending)
       → left ≡ suc count → Underway left whole first mid before between → ending ≢ ends.Memory
-      → LeadsAll tells serves holds passes mid last (IsAskedOnce IsReplyUntil between after (Ok ending)) (IsAskedOnce IsReply between after (Ok ending))
+      → LeadsAll tells serves holds passes mid last (IsAskedOnce IsReplyUntil between after (Ok ending)) (IsAskedOnce IsKeptReply between after (Ok ending))
       → after.faults ≡ between.faults → Underway count whole first last before after
   underway_more left count whole first mid last before between after ending is underway =
       step_on count whole first mid last before between after ending (subst (λ n. Underway n whole first mid before between) is underway)
 
   -- all were served
   pub underway_end : (count whole : ℕ) (first last : Kept K) (before after : DoorState) → Underway count whole first last before after → count ≡ 0
-      → LeadsAll tells serves holds passes first last (ServesOn IsReplyUntil whole before after 0) (ServesOn IsReply whole before after 0)
+      → LeadsAll tells serves holds passes first last (ServesOn IsReplyUntil whole before after 0) (ServesOn IsKeptReply whole before after 0)
   underway_end zero whole first last before after underway none =
       leads_all_on K tells serves holds passes first last _ _ _ _ (λ s b on. on after b 0 (refl, refl, refl)) (λ s b on. on after b 0 (refl, refl, refl)) underway.on
   underway_end (suc count) whole first last before after underway none = absurd (omega (arith, none))
 
   -- there was no memory for a session
   pub underway_stop : (left count whole : ℕ) (first mid last : Kept K) (before between after : DoorState) → left ≡ suc count → Underway left whole first mid before between
-      → LeadsAll tells serves holds passes mid last (IsAskedOnce IsReplyUntil between after (Ok ends.Memory)) (IsAskedOnce IsReply between after (Ok ends.Memory))
-      → LeadsAll tells serves holds passes first last (ServesOn IsReplyUntil whole before after 6) (ServesOn IsReply whole before after 6)
+      → LeadsAll tells serves holds passes mid last (IsAskedOnce IsReplyUntil between after (Ok ends.Memory)) (IsAskedOnce IsKeptReply between after (Ok ends.Memory))
+      → LeadsAll tells serves holds passes first last (ServesOn IsReplyUntil whole before after 6) (ServesOn IsKeptReply whole before after 6)
   underway_stop left count whole first mid last before between after is underway leads =
       let here = subst (λ n. Underway n whole first mid before between) is underway in
       leads_all_then K tells serves holds passes first mid last _ _ _ _ _ _
@@ -124,8 +125,8 @@ module _ (K : Type 0) (tells serves : K → Type 0) (holds passes : K → Map �
 
   -- the doors failed
   pub underway_fail : (left count whole : ℕ) (first mid last : Kept K) (before between after : DoorState) → left ≡ suc count → Underway left whole first mid before between
-      → LeadsAll tells serves holds passes mid last (IsAskedOnce IsReplyUntil between after (Err (record {}))) (IsAskedOnce IsReply between after (Err (record {})))
-      → LeadsAll tells serves holds passes first last (ServesOn IsReplyUntil whole before after 8) (ServesOn IsReply whole before after 8)
+      → LeadsAll tells serves holds passes mid last (IsAskedOnce IsReplyUntil between after (Err (record {}))) (IsAskedOnce IsKeptReply between after (Err (record {})))
+      → LeadsAll tells serves holds passes first last (ServesOn IsReplyUntil whole before after 8) (ServesOn IsKeptReply whole before after 8)
   underway_fail left count whole first mid last before between after is underway leads =
       let here = subst (λ n. Underway n whole first mid before between) is underway in
       leads_all_then K tells serves holds passes first mid last _ _ _ _ _ _

@@ -5,3 +5,4 @@ pub mod Pipe
 pub mod Requests
 pub mod Run
 pub mod Serve
+pub mod Whole

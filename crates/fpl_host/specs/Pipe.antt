@@ -7,7 +7,8 @@ use Rattle.fpl_session.specs.Replies.{Speaks}
 use Rattle.fpl_session.specs.Sessions.{EndsAs, SessionOf, SessionOver}
 use Rattle.fpl_session.specs.declared.ending.Ending.{Ending}
 use Rattle.fpl_session.specs.declared.ending.Ending.TheVariants.{Done, Closed, Cut, Refused, Read, Write, Long, Memory}
-use Rattle.fpl_replies.specs.Replying.{IsReply, IsReplyUntil}
+use Rattle.fpl_replies.specs.Replying.{IsReplyUntil}
+use Rattle.fpl_replies.specs.Whole.{IsKeptReply}
 use Rattle.fpl_host.specs.Keeping.{IsUnopened, Runs}
 
 -- the exit status of a session: 0 where it ended with the input or with a message that closes, and else a number for each cause
@@ -35,7 +36,7 @@ pub record IsPiped {K : Type 0} (tells serves : K → Type 0) (holds passes : K 
   pub is_status : status ≡ status_of ending
   pub exact : IfSome left (λ all. EndsAs all ending)
   pub runs : Runs tells serves holds passes old new key moments later failed fails
-      (IsSession IsReplyUntil left now before after ending) (IsSession IsReply left now before after ending)
+      (IsSession IsReplyUntil left now before after ending) (IsSession IsKeptReply left now before after ending)
 
 -- or the host was not opened, and nothing was read
 abbrev pub Pipes : {K : Type 0} → (K → Type 0) → (K → Type 0) → (K → Map → Type 0) → (K → Map → Type 0) → (K → ℕ) → K → K → List ℕ → Option (List ℕ) → Option (List ℕ) → Option Moments → Option Moments

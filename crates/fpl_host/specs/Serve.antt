@@ -11,7 +11,8 @@ use Rattle.fpl_words.specs.declared.words.Words.TheVariants as order
 use Rattle.fpl_session.specs.Sessions.{EndsAs}
 use Rattle.fpl_session.specs.declared.ending.Ending.{Ending}
 use Rattle.fpl_session.specs.declared.ending.Ending.TheVariants.{Read, Write, Memory}
-use Rattle.fpl_replies.specs.Replying.{IsReply, IsReplyUntil}
+use Rattle.fpl_replies.specs.Replying.{IsReplyUntil}
+use Rattle.fpl_replies.specs.Whole.{IsKeptReply}
 use Rattle.fpl_host.specs.Keeping.{IsUnopened, Runs}
 use Rattle.fpl_host.specs.Pipe.{IsSession}
 
@@ -62,7 +63,7 @@ abbrev pub Serves : {K : Type 0} → (K → Type 0) → (K → Type 0) → (K �
     → Option (List ℕ) → Option (List ℕ) → ℕ → Type 0
 Serves tells serves holds passes faults old new key count before after moments later taken takes status =
     (Runs tells serves holds passes old new key moments later (faults old) (faults new)
-    (ServesOn IsReplyUntil count before after status) (ServesOn IsReply count before after status) × (takes ≡ taken))
+    (ServesOn IsReplyUntil count before after status) (ServesOn IsKeptReply count before after status) × (takes ≡ taken))
     ⊎ ((after ≡ before) × (later ≡ moments) × IsUnopened tells holds passes faults old new taken takes status)
 
 -- one connection fewer is to come, where they are told

@@ -2,7 +2,8 @@
 ghost use Rattle.std.specs.Prelude.{◌≡◌, ◌≤◌, ◌<◌, ◌⊎◌, IfSome, MatchOption, None, OnErr, OnOk, length};
 ghost use Rattle.fpl_base.specs.Causes.{Rose};
 ghost use Rattle.fpl_desk.specs.Kept.{LeadsAll};
-ghost use Rattle.fpl_replies.specs.Replying.{IsReply, IsReplyUntil};
+ghost use Rattle.fpl_replies.specs.Replying.{IsReplyUntil};
+ghost use Rattle.fpl_replies.specs.Whole.{IsKeptReply};
 ghost use Rattle.fpl_host.specs.Serve.{IsAskedOnce, OneFewer, Serves, ServesOn};
 
 use crate::opening::unopened;
@@ -67,7 +68,7 @@ fn serve_all<C: Clock, K: Keeper, D: Doors, L: Ledger>(
         (ServesOn IsReplyUntil connections
         (record { coming = D.coming doors.old; given_back = D.given_back doors.old; faults = D.faults doors.old })
         (record { coming = D.coming doors.new; given_back = D.given_back doors.new; faults = D.faults doors.new }) result)
-        (ServesOn IsReply connections
+        (ServesOn IsKeptReply connections
         (record { coming = D.coming doors.old; given_back = D.given_back doors.old; faults = D.faults doors.old })
         (record { coming = D.coming doors.new; given_back = D.given_back doors.new; faults = D.faults doors.new }) result) }
     ensures statuses { (result ≡ 0) ⊎ (result ≡ 6) ⊎ (result ≡ 8) }
@@ -103,7 +104,7 @@ fn serve_one<C: Clock, K: Keeper, D: Doors, L: Ledger>(
         (IsAskedOnce IsReplyUntil
         (record { coming = D.coming doors.old; given_back = D.given_back doors.old; faults = D.faults doors.old })
         (record { coming = D.coming doors.new; given_back = D.given_back doors.new; faults = D.faults doors.new }) result)
-        (IsAskedOnce IsReply
+        (IsAskedOnce IsKeptReply
         (record { coming = D.coming doors.old; given_back = D.given_back doors.old; faults = D.faults doors.old })
         (record { coming = D.coming doors.new; given_back = D.given_back doors.new; faults = D.faults doors.new }) result) }
     ensures coming { OnOk result (OneFewer (D.coming doors.old) (D.coming doors.new)) }

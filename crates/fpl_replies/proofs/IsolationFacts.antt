@@ -42,7 +42,7 @@ asks_as None route ids body asker request is = absurd (no_asker asker (ap asker_
 asks_as (Some caller) route ids body asker request is =
     asks_by (is_for route caller) caller asker request (request_of route ids body) (error_reply 403 (codes "caller")) is
 
-asks_along : (host : HostState) (message : Request) (way : Way) (asker : Caller) (request : Asked) → Ok (asker, request) ≡ asked_along host message way → caller_of host message.key ≡ Some asker
+pub asks_along : (host : HostState) (message : Request) (way : Way) (asker : Caller) (request : Asked) → Ok (asker, request) ≡ asked_along host message way → caller_of host message.key ≡ Some asker
 asks_along host message (Err refusal) asker request is = absurd (no_asker asker (ap asker_of (sym is)))
 asks_along host message (Ok (route, ids)) asker request is = asks_as (caller_of host message.key) route ids message.body asker request (sym is)
 

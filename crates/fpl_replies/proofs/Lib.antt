@@ -1,2 +1,4 @@
 pub mod IsolationFacts
 pub mod OnceFacts
+pub mod StorelessFacts
+pub mod WholeFacts

@@ -1,3 +1,4 @@
 pub mod Isolation
 pub mod Once
 pub mod Replying
+pub mod Whole

@@ -1,9 +1,13 @@
 ghost use Rattle.fpl_replies.specs.Isolation.{MessagesAreIsolated};
 ghost use Rattle.fpl_replies.specs.Once.{MessagesActOnce, OneAsked};
+ghost use Rattle.fpl_replies.specs.Replying.{Served};
+ghost use Rattle.fpl_replies.specs.Whole.{IsKeptReply, IsWhole, IsWholeReply, RepliesAreWhole, RunsAreWhole, SessionsAreWhole};
 
 use fpl_routes::targets_ask_one_thing;
+use fpl_session::{Staying, sessions_stay};
 use season_book::commands_act_once;
 use season_isolation::answers_are_isolated;
+use season_lawful::{books_are_lawful, lawful_books_are_judged};
 
 /// A law on the definitions: a message asks one thing of a host, or is refused in one way before the host judges it.
 pub fn messages_ask_one_thing()
@@ -27,4 +31,32 @@ pub fn messages_are_isolated()
     ensures { MessagesAreIsolated }
 {
     answers_are_isolated();
+}
+
+/// What stays true of what is served where the keeper tells and serves: there are rows and records of its book, and the
+/// book is lawful.
+#[derive(Clone, Copy)]
+pub struct Wholeness;
+
+impl Staying for Wholeness {
+    ghost State = { Served };
+
+    ghost holds = { IsWhole };
+
+    ghost one = { IsKeptReply };
+
+    ghost other = { IsWholeReply };
+}
+
+/// A law on the definitions: where a host over a keeper that tells and serves has a lawful book, no reply is 500, and a
+/// lawful book is left. So it is in every run of messages, and in every session.
+pub fn replies_are_whole()
+    ensures reply { RepliesAreWhole }
+    ensures run { RunsAreWhole }
+    ensures session { SessionsAreWhole }
+{
+    books_are_lawful();
+    lawful_books_are_judged();
+    targets_ask_one_thing();
+    sessions_stay::<Wholeness>();
 }

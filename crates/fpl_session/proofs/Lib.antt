@@ -3,3 +3,4 @@ pub mod RunLemmas
 mod ServedLemmas
 mod SessionLemmas
 mod SplitLemmas
+mod StayLemmas

@@ -11,7 +11,7 @@ use Rattle.fpl_session.specs.Splits.{Both, SessionsSplit, SessionsSplitOver}
 use Rattle.fpl_session.specs.Stops.{BatchFailed, LastFailed, WriteFailed}
 
 module _ {S : Type 0} (step other : S → Request → List ℕ → S → Type 0) (each : (old : S) (m : Request) (t : List ℕ) (new : S) → step old m t new → other old m t new) where
-  run_allowed : (a c : S) (ms : List Request) (ts : List (List ℕ)) → Run step a ms ts c → Run other a ms ts c
+  pub run_allowed : (a c : S) (ms : List Request) (ts : List (List ℕ)) → Run step a ms ts c → Run other a ms ts c
   run_allowed a c [] [] same = same
   run_allowed a c [] (t ∷ ts) run = absurd run
   run_allowed a c (m ∷ ms) [] run = absurd run
@@ -52,7 +52,7 @@ module _ {S : Type 0} (step other : S → Request → List ℕ → S → Type 0)
     failed = write_allowed (x.rest ++ x.piece) x.mid c x.between v x.failed;
   }
 
-  session_allowed : (left now : Option (List ℕ)) (a c : S) (u v : Option (List ℕ)) (e : Ending) → SessionOf step left now a c u v e → SessionOf other left now a c u v e
+  pub session_allowed : (left now : Option (List ℕ)) (a c : S) (u v : Option (List ℕ)) (e : Ending) → SessionOf step left now a c u v e → SessionOf other left now a c u v e
   session_allowed left now a c u v Ends.Done (got, taken, short, end, x) = (got, taken, short, end, heard_allowed got _ a c u v [] x)
   session_allowed left now a c u v Ends.Cut (got, rest, taken, short, end, some, x) = (got, rest, taken, short, end, some, heard_allowed got _ a c u v [] x)
   session_allowed left now a c u v Ends.Closed (got, taken, short, x) = (got, taken, short, heard_allowed got _ a c u v [] x)

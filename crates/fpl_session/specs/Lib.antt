@@ -4,4 +4,5 @@ pub mod Runs
 pub mod Stops
 pub mod Sessions
 pub mod Splits
+pub mod Stays
 pub mod Turns

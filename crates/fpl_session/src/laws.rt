@@ -3,6 +3,7 @@ ghost use Rattle.std.specs.Prelude.{ℕ, List};
 ghost use Rattle.fpl_http.specs.Stream.{Request};
 ghost use Rattle.fpl_session.specs.Lifts.{RunsLift, SessionsLift};
 ghost use Rattle.fpl_session.specs.Splits.{SessionsSplit, SessionsSplitOver};
+ghost use Rattle.fpl_session.specs.Stays.{RunsStay, SessionsStay};
 
 /// What is kept, and what it stands for: a service may keep something else than what the promises of a session speak of.
 pub trait Standing {
@@ -47,4 +48,27 @@ pub trait Answering {
 pub fn sessions_split<T: Answering>()
     ensures sessions { SessionsSplit T.one T.other }
     ensures over { SessionsSplitOver T.one T.other }
+{}
+
+/// Something that may be true of a state, and two kinds of answers.
+pub trait Staying {
+    /// The state in which a message is answered.
+    ghost State: { Type 0 };
+
+    /// What may be true of it.
+    ghost holds: { State → Type 0 };
+
+    /// In this state a message may get that answer, a status and a body, and that state is left behind.
+    ghost one: { State → Request → ℕ × List ℕ → State → Type 0 };
+
+    /// An answer of the other kind.
+    ghost other: { State → Request → ℕ × List ℕ → State → Type 0 };
+}
+
+/// A law on the definitions: where something that is true of a state makes each answer of the one kind one of the other
+/// kind, and is true behind it, runs of messages and whole sessions of the one kind that begin where it is true are runs and
+/// sessions of the other, and it is true behind them.
+pub fn sessions_stay<T: Staying>()
+    ensures runs { RunsStay T.holds T.one T.other }
+    ensures sessions { SessionsStay T.holds T.one T.other }
 {}

@@ -14,7 +14,7 @@ mod service;
 mod turn;
 
 pub use ending::Ending;
-pub use laws::{Answering, Standing, sessions_lift, sessions_split};
+pub use laws::{Answering, Standing, Staying, sessions_lift, sessions_split, sessions_stay};
 pub use opening::session;
 pub use service::Service;
 

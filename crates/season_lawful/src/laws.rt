@@ -11,9 +11,13 @@ pub fn books_are_lawful()
     ensures run { RunsKeepLaws }
 {}
 
-/// A law on the definitions: none of the records of a lawful book is named as one that is not lawful; so a keeper that
-/// tells, and held the records of such a book, is not found damaged when it is loaded.
+/// A law on the definitions: none of the records of a lawful book is named as one that is not lawful.
+pub fn lawful_books_are_judged()
+    ensures { LawfulBooksAreJudged }
+{}
+
+/// A law on the definitions: a keeper that tells, and held the records of a lawful book, is not found damaged when it is
+/// loaded.
 pub fn lawful_books_are_whole<K: Keeper>()
-    ensures judged { LawfulBooksAreJudged }
-    ensures whole { (old new : K) → LawfulBooksAreWhole (K.tells new) (K.holds old) (K.holds new) (K.passes new) }
+    ensures { (old new : K) → LawfulBooksAreWhole (K.tells new) (K.holds old) (K.holds new) (K.passes new) }
 {}

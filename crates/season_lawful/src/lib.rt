@@ -4,4 +4,4 @@
 
 mod laws;
 
-pub use laws::{books_are_lawful, lawful_books_are_whole};
+pub use laws::{books_are_lawful, lawful_books_are_judged, lawful_books_are_whole};

@@ -1,4 +1,3 @@
-use Rattle.fpl_desk.specs.Kept.{Kept}
 use Rattle.fpl_desk.proofs.JudgedLemmas.{judged_leads}
 use Rattle.fpl_desk.proofs.desk.judged.Goals as goal
 

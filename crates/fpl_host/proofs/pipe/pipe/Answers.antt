@@ -1,7 +1,8 @@
 use Rattle.std.proofs.Common.{inl}
 use Rattle.fpl_desk.specs.Kept.{Kept}
 use Rattle.fpl_host.specs.Pipe.{IsSession}
-use Rattle.fpl_replies.specs.Replying.{IsReply, IsReplyUntil}
+use Rattle.fpl_replies.specs.Replying.{IsReplyUntil}
+use Rattle.fpl_replies.specs.Whole.{IsKeptReply}
 use Rattle.fpl_host.proofs.CourseLemmas.{runs_of, session_leads}
 use Rattle.fpl_host.proofs.PipeLemmas.{unopened_pipes}
 use Rattle.fpl_host.proofs.pipe.pipe.Goals as goal
@@ -21,7 +22,7 @@ returns-in-Ok-clause-session g c =
       exact = c.session.ensures.exact;
       runs = runs_of _ g.K.Keeper.tells g.K.Keeper.serves g.K.Keeper.holds g.K.Keeper.passes c.args.keeper.now first last c.args.key.now (g.K.Keeper.faults c.args.keeper.now)
           c.in-Ok.ensures.opened c.in-Ok.ensures.operator c.in-Ok.ensures.reread (c.in-Ok.ensures.counts (λ is. cc))
-          (IsSession IsReplyUntil left now before after ending) (IsSession IsReply left now before after ending)
+          (IsSession IsReplyUntil left now before after ending) (IsSession IsKeptReply left now before after ending)
           (session_leads _ g.K.Keeper.tells g.K.Keeper.serves g.K.Keeper.holds g.K.Keeper.passes c.sessions_split.ensures.sessions c.sessions_split-2.ensures.sessions
           c.sessions_lift.ensures.sessions c.sessions_lift-2.ensures.sessions c.sessions_lift-3.ensures.sessions first last left now before after ending c.session.ensures.session);
     })

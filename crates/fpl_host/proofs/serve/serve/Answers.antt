@@ -1,7 +1,8 @@
 use Rattle.std.proofs.Common.{inl, inr, refl}
 use Rattle.fpl_desk.specs.Kept.{Kept}
 use Rattle.fpl_host.specs.Serve.{DoorState, ServesOn}
-use Rattle.fpl_replies.specs.Replying.{IsReply, IsReplyUntil}
+use Rattle.fpl_replies.specs.Replying.{IsReplyUntil}
+use Rattle.fpl_replies.specs.Whole.{IsKeptReply}
 use Rattle.fpl_host.proofs.CourseLemmas.{runs_of}
 use Rattle.fpl_host.proofs.serve.serve.Goals as goal
 
@@ -15,7 +16,7 @@ returns-in-Ok-clause-served g c =
     inl (
       runs_of _ g.K.Keeper.tells g.K.Keeper.serves g.K.Keeper.holds g.K.Keeper.passes c.args.keeper.now first last c.args.key.now (g.K.Keeper.faults c.args.keeper.now)
           c.in-Ok.ensures.opened c.in-Ok.ensures.operator c.in-Ok.ensures.reread (c.in-Ok.ensures.counts (λ is. cc))
-          (ServesOn IsReplyUntil c.args.connections before after c.serve_all.result) (ServesOn IsReply c.args.connections before after c.serve_all.result) c.serve_all.ensures.served,
+          (ServesOn IsReplyUntil c.args.connections before after c.serve_all.result) (ServesOn IsKeptReply c.args.connections before after c.serve_all.result) c.serve_all.ensures.served,
       refl,
     )
 

@@ -1,7 +1,8 @@
 use Rattle.std.proofs.Common.{rules, arith, ◌≡◌, ◌≢◌, ◌+◌, ◌-◌, suc, subst, Ok}
 use Rattle.fpl_session.specs.declared.ending.Ending.TheVariants as ends
 use Rattle.fpl_desk.specs.Kept.{Kept, LeadsAll}
-use Rattle.fpl_replies.specs.Replying.{IsReply, IsReplyUntil}
+use Rattle.fpl_replies.specs.Replying.{IsReplyUntil}
+use Rattle.fpl_replies.specs.Whole.{IsKeptReply}
 use Rattle.fpl_host.specs.Serve.{DoorState, IsAskedOnce}
 use Rattle.fpl_host.proofs.ServeLemmas.{remain_more, underway_end, underway_fail, underway_more, underway_stop}
 use Rattle.fpl_host.proofs.serve.serve_all.Goals as goal
@@ -20,7 +21,7 @@ returns-then-eq-clause-served g c =
     let between : DoorState = record { coming = g.D.Doors.coming c.loop.doors; given_back = g.D.Doors.given_back c.loop.doors; faults = g.D.Doors.faults c.loop.doors } in
     let after : DoorState = record { coming = g.D.Doors.coming one.doors; given_back = g.D.Doors.given_back one.doors; faults = g.D.Doors.faults one.doors } in
     underway_stop _ g.K.Keeper.tells g.K.Keeper.serves g.K.Keeper.holds g.K.Keeper.passes left count c.args.connections first mid last before between after more c.loop.invariant.0
-    (subst (λ e. LeadsAll g.K.Keeper.tells g.K.Keeper.serves g.K.Keeper.holds g.K.Keeper.passes mid last (IsAskedOnce IsReplyUntil between after (Ok e)) (IsAskedOnce IsReply between after (Ok e))) none c.in-Ok.ensures.served)
+    (subst (λ e. LeadsAll g.K.Keeper.tells g.K.Keeper.serves g.K.Keeper.holds g.K.Keeper.passes mid last (IsAskedOnce IsReplyUntil between after (Ok e)) (IsAskedOnce IsKeptReply between after (Ok e))) none c.in-Ok.ensures.served)
 
 pub returns-in-Err-clause-served : goal.returns-in-Err-clause-served
 returns-in-Err-clause-served g c =

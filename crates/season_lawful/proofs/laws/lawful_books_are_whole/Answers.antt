@@ -1,9 +1,6 @@
-use Rattle.season_lawful.proofs.Judged.{lawful_books_are_judged, lawful_books_are_whole}
+use Rattle.season_lawful.proofs.Judged.{lawful_books_are_whole}
 use Rattle.season_lawful.proofs.laws.lawful_books_are_whole.Goals as goal
 
-pub returns-clause-judged : goal.returns-clause-judged
-returns-clause-judged g c = lawful_books_are_judged
-
-pub returns-clause-whole : goal.returns-clause-whole
-returns-clause-whole g c old new =
+pub returns : goal.returns
+returns g c old new =
     lawful_books_are_whole (g.K.Keeper.tells new) (g.K.Keeper.holds old) (g.K.Keeper.holds new) (g.K.Keeper.passes new)
