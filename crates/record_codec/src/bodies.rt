@@ -1,5 +1,5 @@
 // The bodies of records, appended to bytes.
-ghost use Rattle.std.specs.Prelude.{◌≡◌, ◌≤◌, ℕ, IfOk, IsTrue, length};
+ghost use Rattle.std.specs.Prelude.{[], ◌≡◌, ◌≤◌, ℕ, IfOk, IsTrue, length};
 ghost use Rattle.record_codec.specs.Commands.{is_command};
 ghost use Rattle.record_codec.specs.Fields.{short_text};
 ghost use Rattle.record_codec.specs.Items.{body_of, is_item};
@@ -20,6 +20,9 @@ use fpl_base::{
 use rule_book::{Coins, LeagueKind, Line, Slots};
 use season_book::{Command, Moments, Order};
 use std::alloc::Global;
+
+// The bytes that most bodies have at most: a team has 97, a line 56.
+const ROOM: usize = 100;
 
 // The body of an item.
 pub fn body(alloc: Global, item: &Item) -> Result<Bytes, Memory>
@@ -98,6 +101,13 @@ pub fn body(alloc: Global, item: &Item) -> Result<Bytes, Memory>
     }
 }
 
+// No bytes yet, and room for those of most bodies, so that they are not moved as they grow.
+fn no_bytes(alloc: Global) -> Result<Vec<u8>, Memory>
+    ensures { IfOk result (λ bytes. bytes.items ≡ []) }
+{
+    Ok(Vec::with_capacity(alloc, ROOM)?)
+}
+
 fn season_body(
     alloc: Global,
     profile: Profile,
@@ -108,24 +118,25 @@ fn season_body(
     requires { length deadlines.now ≤ 255 }
     ensures { IfOk result (λ bytes. bytes ≡ bodies.season_body profile split locked deadlines.now) }
 {
-    let mut bytes = Bytes::new(alloc);
+    let mut bytes = no_bytes(alloc)?;
     append_u8(&mut bytes, profile_byte(profile))?;
     append_u8(&mut bytes, deadlines.as_slice().len() as u8)?;
     append_u8(&mut bytes, split)?;
     append_u8(&mut bytes, locked)?;
     append_moments(&mut bytes, deadlines.as_slice())?;
-    Ok(bytes)
+    Ok(Bytes::from_vec(bytes))
 }
 
 fn club_body(alloc: Global, name: &Name) -> Result<Bytes, Memory>
     ensures { IfOk result (λ bytes. bytes ≡ short_text name.now) }
 {
-    let mut bytes = Bytes::new(alloc);
+    let mut bytes = no_bytes(alloc)?;
     append_short_text(&mut bytes, name.bytes())?;
-    Ok(bytes)
+    Ok(Bytes::from_vec(bytes))
 }
 
-fn player_body(
+// The body of a player.
+pub fn player_body(
     alloc: Global,
     position: Position,
     club: ClubId,
@@ -135,13 +146,13 @@ fn player_body(
 ) -> Result<Bytes, Memory>
     ensures { IfOk result (λ bytes. bytes ≡ bodies.player_body position club price gone name.now) }
 {
-    let mut bytes = Bytes::new(alloc);
+    let mut bytes = no_bytes(alloc)?;
     append_u8(&mut bytes, position_byte(position))?;
     append_u8(&mut bytes, club.get())?;
     append_u16(&mut bytes, price)?;
     append_u8(&mut bytes, flag_byte(gone))?;
     append_short_text(&mut bytes, name.bytes())?;
-    Ok(bytes)
+    Ok(Bytes::from_vec(bytes))
 }
 
 fn fixture_body(
@@ -154,31 +165,31 @@ fn fixture_body(
 ) -> Result<Bytes, Memory>
     ensures { IfOk result (λ bytes. bytes ≡ bodies.fixture_body home away gameweek kickoff finished) }
 {
-    let mut bytes = Bytes::new(alloc);
+    let mut bytes = no_bytes(alloc)?;
     append_u8(&mut bytes, home.get())?;
     append_u8(&mut bytes, away.get())?;
     append_u8(&mut bytes, gameweek_byte(gameweek))?;
     append_u64(&mut bytes, kickoff.get())?;
     append_u8(&mut bytes, flag_byte(finished))?;
-    Ok(bytes)
+    Ok(Bytes::from_vec(bytes))
 }
 
 fn line_body(alloc: Global, line: &Line) -> Result<Bytes, Memory>
     ensures { IfOk result (λ bytes. bytes ≡ bodies.line_body line.now) }
 {
-    let mut bytes = Bytes::new(alloc);
+    let mut bytes = no_bytes(alloc)?;
     append_figures(&mut bytes, &line.figures)?;
-    Ok(bytes)
+    Ok(Bytes::from_vec(bytes))
 }
 
 fn entry_body(alloc: Global, first: Option<Gw>, key: &Key, name: &Name) -> Result<Bytes, Memory>
     ensures { IfOk result (λ bytes. bytes ≡ bodies.entry_body first key.now name.now) }
 {
-    let mut bytes = Bytes::new(alloc);
+    let mut bytes = no_bytes(alloc)?;
     append_u8(&mut bytes, gameweek_byte(first))?;
     append_short_text(&mut bytes, key.bytes())?;
     append_short_text(&mut bytes, name.bytes())?;
-    Ok(bytes)
+    Ok(Bytes::from_vec(bytes))
 }
 
 fn team_body(
@@ -191,13 +202,13 @@ fn team_body(
 ) -> Result<Bytes, Memory>
     ensures { IfOk result (λ bytes. bytes ≡ bodies.team_body picks.now captain vice bank chip) }
 {
-    let mut bytes = Bytes::new(alloc);
+    let mut bytes = no_bytes(alloc)?;
     append_picks(&mut bytes, picks)?;
     append_u8(&mut bytes, captain)?;
     append_u8(&mut bytes, vice)?;
     append_u32(&mut bytes, bank)?;
     append_u8(&mut bytes, chip_byte(chip))?;
-    Ok(bytes)
+    Ok(Bytes::from_vec(bytes))
 }
 
 fn transfer_body(
@@ -209,12 +220,12 @@ fn transfer_body(
 ) -> Result<Bytes, Memory>
     ensures { IfOk result (λ bytes. bytes ≡ bodies.transfer_body out into sold bought) }
 {
-    let mut bytes = Bytes::new(alloc);
+    let mut bytes = no_bytes(alloc)?;
     append_u32(&mut bytes, out.get())?;
     append_u32(&mut bytes, into.get())?;
     append_u16(&mut bytes, sold)?;
     append_u16(&mut bytes, bought)?;
-    Ok(bytes)
+    Ok(Bytes::from_vec(bytes))
 }
 
 fn league_body(
@@ -229,7 +240,7 @@ fn league_body(
     requires { length order.now ≤ 255 }
     ensures { IfOk result (λ bytes. bytes ≡ bodies.league_body kind start creator order.now code.now name.now) }
 {
-    let mut bytes = Bytes::new(alloc);
+    let mut bytes = no_bytes(alloc)?;
     append_u8(&mut bytes, kind_byte(kind))?;
     append_u8(&mut bytes, start.get())?;
     append_u32(&mut bytes, creator.get())?;
@@ -237,22 +248,23 @@ fn league_body(
     append_order(&mut bytes, order.as_slice())?;
     append_short_text(&mut bytes, code.bytes())?;
     append_short_text(&mut bytes, name.bytes())?;
-    Ok(bytes)
+    Ok(Bytes::from_vec(bytes))
 }
 
 fn cup_body(alloc: Global, start: Gw, slots: &Slots, coins: &Coins) -> Result<Bytes, Memory>
     requires { length slots.now ≤ 65535 }
     ensures { IfOk result (λ bytes. bytes ≡ bodies.cup_body start slots.now coins.now) }
 {
-    let mut bytes = Bytes::new(alloc);
+    let mut bytes = no_bytes(alloc)?;
     append_u8(&mut bytes, start.get())?;
     append_u16(&mut bytes, slots.as_slice().len() as u16)?;
     append_slots(&mut bytes, slots.as_slice())?;
     append_coins(&mut bytes, coins.as_slice())?;
-    Ok(bytes)
+    Ok(Bytes::from_vec(bytes))
 }
 
-fn last_body(
+// The body of a caller's last command.
+pub fn last_body(
     alloc: Global,
     number: u64,
     status: u16,
@@ -262,10 +274,10 @@ fn last_body(
     requires { IsTrue (is_command command.now) }
     ensures { IfOk result (λ bytes. bytes ≡ bodies.last_body number status made command.now) }
 {
-    let mut bytes = Bytes::new(alloc);
+    let mut bytes = no_bytes(alloc)?;
     append_u64(&mut bytes, number)?;
     append_u16(&mut bytes, status)?;
     append_u32(&mut bytes, made)?;
     append_command(&mut bytes, command)?;
-    Ok(bytes)
+    Ok(Bytes::from_vec(bytes))
 }

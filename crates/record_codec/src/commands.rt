@@ -13,16 +13,15 @@ use crate::lists::{
     append_whole_entries, append_whole_players, append_whole_slots,
 };
 use fpl_base::{
-    Bytes, Chip, ClubId, Code, FixtureId, Gw, Key, Memory, Moment, Name, PlayerId, Position,
-    Profile,
+    Chip, ClubId, Code, FixtureId, Gw, Key, Memory, Moment, Name, PlayerId, Position, Profile,
 };
 use rule_book::{Coins, LeagueKind, Line, Slots};
 use season_book::{Clubs, Command, Lines, Moments, Order, Swaps};
 
 // A command's number, the ids of its target, and its members in order.
-pub fn append_command(bytes: &mut Bytes, command: &Command) -> Result<(), Memory>
+pub fn append_command(bytes: &mut Vec<u8>, command: &Command) -> Result<(), Memory>
     requires { IsTrue (is_command command.now) }
-    ensures { OnOk result (bytes.new ≡ bytes.old ++ bytes_of_command command.now) }
+    ensures { OnOk result (bytes.new.items ≡ bytes.old.items ++ bytes_of_command command.now) }
 {
     match *command {
         Command::Season {
@@ -106,8 +105,8 @@ pub fn append_command(bytes: &mut Bytes, command: &Command) -> Result<(), Memory
     }
 }
 
-fn append_two(bytes: &mut Bytes, number: u8, first: u64, second: u64) -> Result<(), Memory>
-    ensures { OnOk result (bytes.new ≡ bytes.old ++ byte number ++ whole first ++ whole second) }
+fn append_two(bytes: &mut Vec<u8>, number: u8, first: u64, second: u64) -> Result<(), Memory>
+    ensures { OnOk result (bytes.new.items ≡ bytes.old.items ++ byte number ++ whole first ++ whole second) }
 {
     append_u8(bytes, number)?;
     append_u64(bytes, first)?;
@@ -115,7 +114,7 @@ fn append_two(bytes: &mut Bytes, number: u8, first: u64, second: u64) -> Result<
 }
 
 fn append_season(
-    bytes: &mut Bytes,
+    bytes: &mut Vec<u8>,
     profile: Profile,
     deadlines: &Moments,
     split: u8,
@@ -124,7 +123,7 @@ fn append_season(
     requires deadlines { length deadlines.now ≤ 38 }
     requires clubs { length clubs.now ≤ 20 }
     ensures { OnOk result
-        (bytes.new ≡ bytes.old ++ bytes_of_command (command.Season profile deadlines.now split clubs.now)) }
+        (bytes.new.items ≡ bytes.old.items ++ bytes_of_command (command.Season profile deadlines.now split clubs.now)) }
 {
     append_u8(bytes, 1)?;
     append_u16(bytes, deadlines.as_slice().len() as u16)?;
@@ -136,8 +135,8 @@ fn append_season(
 }
 
 // What a season command ends with: nothing for profile A, and the number of B.
-fn append_profile_end(bytes: &mut Bytes, profile: Profile) -> Result<(), Memory>
-    ensures { OnOk result (bytes.new ≡ bytes.old ++ profile_end profile) }
+fn append_profile_end(bytes: &mut Vec<u8>, profile: Profile) -> Result<(), Memory>
+    ensures { OnOk result (bytes.new.items ≡ bytes.old.items ++ profile_end profile) }
 {
     match profile {
         Profile::A => Ok(()),
@@ -146,14 +145,14 @@ fn append_profile_end(bytes: &mut Bytes, profile: Profile) -> Result<(), Memory>
 }
 
 fn append_player(
-    bytes: &mut Bytes,
+    bytes: &mut Vec<u8>,
     id: PlayerId,
     name: &Name,
     position: Position,
     club: ClubId,
     price: u16,
 ) -> Result<(), Memory>
-    ensures { OnOk result (bytes.new ≡ bytes.old ++ bytes_of_command (command.Player id name.now position club price)) }
+    ensures { OnOk result (bytes.new.items ≡ bytes.old.items ++ bytes_of_command (command.Player id name.now position club price)) }
 {
     append_u8(bytes, 3)?;
     append_u64(bytes, id.get() as u64)?;
@@ -163,8 +162,8 @@ fn append_player(
     append_u64(bytes, price as u64)
 }
 
-fn append_gone(bytes: &mut Bytes, player: PlayerId, gone: bool) -> Result<(), Memory>
-    ensures { OnOk result (bytes.new ≡ bytes.old ++ bytes_of_command (command.Gone player gone)) }
+fn append_gone(bytes: &mut Vec<u8>, player: PlayerId, gone: bool) -> Result<(), Memory>
+    ensures { OnOk result (bytes.new.items ≡ bytes.old.items ++ bytes_of_command (command.Gone player gone)) }
 {
     append_u8(bytes, 6)?;
     append_u64(bytes, player.get() as u64)?;
@@ -172,14 +171,14 @@ fn append_gone(bytes: &mut Bytes, player: PlayerId, gone: bool) -> Result<(), Me
 }
 
 fn append_fixture(
-    bytes: &mut Bytes,
+    bytes: &mut Vec<u8>,
     id: FixtureId,
     home: ClubId,
     away: ClubId,
     gameweek: Option<Gw>,
     kickoff: Moment,
 ) -> Result<(), Memory>
-    ensures { OnOk result (bytes.new ≡ bytes.old ++ bytes_of_command (command.Fixture id home away gameweek kickoff)) }
+    ensures { OnOk result (bytes.new.items ≡ bytes.old.items ++ bytes_of_command (command.Fixture id home away gameweek kickoff)) }
 {
     append_u8(bytes, 7)?;
     append_u64(bytes, id.get() as u64)?;
@@ -190,12 +189,12 @@ fn append_fixture(
 }
 
 fn append_move(
-    bytes: &mut Bytes,
+    bytes: &mut Vec<u8>,
     fixture: u32,
     gameweek: Option<Gw>,
     kickoff: Moment,
 ) -> Result<(), Memory>
-    ensures { OnOk result (bytes.new ≡ bytes.old ++ bytes_of_command (command.Move fixture gameweek kickoff)) }
+    ensures { OnOk result (bytes.new.items ≡ bytes.old.items ++ bytes_of_command (command.Move fixture gameweek kickoff)) }
 {
     append_u8(bytes, 8)?;
     append_u32(bytes, fixture)?;
@@ -204,13 +203,13 @@ fn append_move(
 }
 
 fn append_sheet(
-    bytes: &mut Bytes,
+    bytes: &mut Vec<u8>,
     fixture: u32,
     lines: &Lines,
     finished: bool,
 ) -> Result<(), Memory>
     requires { length lines.now ≤ 100 }
-    ensures { OnOk result (bytes.new ≡ bytes.old ++ bytes_of_command (command.Sheet fixture lines.now finished)) }
+    ensures { OnOk result (bytes.new.items ≡ bytes.old.items ++ bytes_of_command (command.Sheet fixture lines.now finished)) }
 {
     append_u8(bytes, 9)?;
     append_u32(bytes, fixture)?;
@@ -220,12 +219,12 @@ fn append_sheet(
 }
 
 fn append_one_line(
-    bytes: &mut Bytes,
+    bytes: &mut Vec<u8>,
     fixture: u32,
     player: PlayerId,
     line: &Line,
 ) -> Result<(), Memory>
-    ensures { OnOk result (bytes.new ≡ bytes.old ++ bytes_of_command (command.Line fixture player line.now)) }
+    ensures { OnOk result (bytes.new.items ≡ bytes.old.items ++ bytes_of_command (command.Line fixture player line.now)) }
 {
     append_u8(bytes, 10)?;
     append_u32(bytes, fixture)?;
@@ -233,24 +232,24 @@ fn append_one_line(
     append_line(bytes, line)
 }
 
-fn append_drop(bytes: &mut Bytes, fixture: u32, player: PlayerId) -> Result<(), Memory>
-    ensures { OnOk result (bytes.new ≡ bytes.old ++ bytes_of_command (command.Drop fixture player)) }
+fn append_drop(bytes: &mut Vec<u8>, fixture: u32, player: PlayerId) -> Result<(), Memory>
+    ensures { OnOk result (bytes.new.items ≡ bytes.old.items ++ bytes_of_command (command.Drop fixture player)) }
 {
     append_u8(bytes, 11)?;
     append_u32(bytes, fixture)?;
     append_u64(bytes, player.get() as u64)
 }
 
-fn append_finished(bytes: &mut Bytes, fixture: u32, finished: bool) -> Result<(), Memory>
-    ensures { OnOk result (bytes.new ≡ bytes.old ++ bytes_of_command (command.Finished fixture finished)) }
+fn append_finished(bytes: &mut Vec<u8>, fixture: u32, finished: bool) -> Result<(), Memory>
+    ensures { OnOk result (bytes.new.items ≡ bytes.old.items ++ bytes_of_command (command.Finished fixture finished)) }
 {
     append_u8(bytes, 12)?;
     append_u32(bytes, fixture)?;
     append_u8(bytes, flag_byte(finished))
 }
 
-fn append_key(bytes: &mut Bytes, key: &Key, name: &Name) -> Result<(), Memory>
-    ensures { OnOk result (bytes.new ≡ bytes.old ++ bytes_of_command (command.Key key.now name.now)) }
+fn append_key(bytes: &mut Vec<u8>, key: &Key, name: &Name) -> Result<(), Memory>
+    ensures { OnOk result (bytes.new.items ≡ bytes.old.items ++ bytes_of_command (command.Key key.now name.now)) }
 {
     append_u8(bytes, 13)?;
     append_long_text(bytes, key.bytes())?;
@@ -259,13 +258,13 @@ fn append_key(bytes: &mut Bytes, key: &Key, name: &Name) -> Result<(), Memory>
 
 // A squad's or a lineup's players, captain and vice-captain behind the command's number.
 fn append_slots_of_players(
-    bytes: &mut Bytes,
+    bytes: &mut Vec<u8>,
     number: u8,
     players: &[PlayerId; 15],
     captain: PlayerId,
     vice: PlayerId,
 ) -> Result<(), Memory>
-    ensures { OnOk result (bytes.new ≡ bytes.old ++ byte number ++ listed whole players.now ++ whole captain ++ whole vice) }
+    ensures { OnOk result (bytes.new.items ≡ bytes.old.items ++ byte number ++ listed whole players.now ++ whole captain ++ whole vice) }
 {
     append_u8(bytes, number)?;
     append_u16(bytes, 15)?;
@@ -274,30 +273,30 @@ fn append_slots_of_players(
     append_u64(bytes, vice.get() as u64)
 }
 
-fn append_transfers(bytes: &mut Bytes, swaps: &Swaps) -> Result<(), Memory>
+fn append_transfers(bytes: &mut Vec<u8>, swaps: &Swaps) -> Result<(), Memory>
     requires { length swaps.now ≤ 15 }
-    ensures { OnOk result (bytes.new ≡ bytes.old ++ bytes_of_command (command.Transfers swaps.now)) }
+    ensures { OnOk result (bytes.new.items ≡ bytes.old.items ++ bytes_of_command (command.Transfers swaps.now)) }
 {
     append_u8(bytes, 15)?;
     append_u16(bytes, swaps.as_slice().len() as u16)?;
     append_swaps(bytes, swaps.as_slice())
 }
 
-fn append_chip(bytes: &mut Bytes, chip: Chip) -> Result<(), Memory>
-    ensures { OnOk result (bytes.new ≡ bytes.old ++ bytes_of_command (command.Chip chip)) }
+fn append_chip(bytes: &mut Vec<u8>, chip: Chip) -> Result<(), Memory>
+    ensures { OnOk result (bytes.new.items ≡ bytes.old.items ++ bytes_of_command (command.Chip chip)) }
 {
     append_u8(bytes, 17)?;
     append_u8(bytes, chip_byte(chip))
 }
 
 fn append_league(
-    bytes: &mut Bytes,
+    bytes: &mut Vec<u8>,
     kind: LeagueKind,
     name: &Name,
     code: &Code,
     start: Gw,
 ) -> Result<(), Memory>
-    ensures { OnOk result (bytes.new ≡ bytes.old ++ bytes_of_command (command.League kind name.now code.now start)) }
+    ensures { OnOk result (bytes.new.items ≡ bytes.old.items ++ bytes_of_command (command.League kind name.now code.now start)) }
 {
     append_u8(bytes, 19)?;
     append_u8(bytes, kind_byte(kind))?;
@@ -306,17 +305,17 @@ fn append_league(
     append_u64(bytes, start.get() as u64)
 }
 
-fn append_join(bytes: &mut Bytes, league: u32, code: &Code) -> Result<(), Memory>
-    ensures { OnOk result (bytes.new ≡ bytes.old ++ bytes_of_command (command.Join league code.now)) }
+fn append_join(bytes: &mut Vec<u8>, league: u32, code: &Code) -> Result<(), Memory>
+    ensures { OnOk result (bytes.new.items ≡ bytes.old.items ++ bytes_of_command (command.Join league code.now)) }
 {
     append_u8(bytes, 20)?;
     append_u32(bytes, league)?;
     append_long_text(bytes, code.bytes())
 }
 
-fn append_draw(bytes: &mut Bytes, league: u32, order: &Order) -> Result<(), Memory>
+fn append_draw(bytes: &mut Vec<u8>, league: u32, order: &Order) -> Result<(), Memory>
     requires { length order.now ≤ 64 }
-    ensures { OnOk result (bytes.new ≡ bytes.old ++ bytes_of_command (command.Draw league order.now)) }
+    ensures { OnOk result (bytes.new.items ≡ bytes.old.items ++ bytes_of_command (command.Draw league order.now)) }
 {
     append_u8(bytes, 21)?;
     append_u32(bytes, league)?;
@@ -324,10 +323,10 @@ fn append_draw(bytes: &mut Bytes, league: u32, order: &Order) -> Result<(), Memo
     append_whole_entries(bytes, order.as_slice())
 }
 
-fn append_cup(bytes: &mut Bytes, start: Gw, slots: &Slots, coins: &Coins) -> Result<(), Memory>
+fn append_cup(bytes: &mut Vec<u8>, start: Gw, slots: &Slots, coins: &Coins) -> Result<(), Memory>
     requires slots { length slots.now ≤ 1024 }
     requires coins { length coins.now ≤ 1024 }
-    ensures { OnOk result (bytes.new ≡ bytes.old ++ bytes_of_command (command.Cup start slots.now coins.now)) }
+    ensures { OnOk result (bytes.new.items ≡ bytes.old.items ++ bytes_of_command (command.Cup start slots.now coins.now)) }
 {
     append_u8(bytes, 22)?;
     append_u64(bytes, start.get() as u64)?;

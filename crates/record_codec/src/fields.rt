@@ -3,56 +3,55 @@ ghost use Rattle.std.specs.Prelude.{◌≡◌, ◌≤◌, ◌++◌, ℕ, OnOk, l
 ghost use Rattle.std.specs.Int.{w16, w32, w64};
 ghost use Rattle.record_codec.specs.Fields.{byte, number, or_zero, short_text, long_text, flag, profile_number, position_number, chip_number, kind_number};
 
-use fpl_base::{Bytes, Chip, Gw, Memory, Position, Profile};
+use fpl_base::{Chip, Gw, Memory, Position, Profile};
 use rule_book::LeagueKind;
 
-pub fn append(bytes: &mut Bytes, more: &[u8]) -> Result<(), Memory>
-    ensures { OnOk result (bytes.new ≡ bytes.old ++ more.now) }
+pub fn append(bytes: &mut Vec<u8>, more: &[u8]) -> Result<(), Memory>
+    ensures { OnOk result (bytes.new.items ≡ bytes.old.items ++ more.now) }
 {
-    'more: for byte in more {
-        bytes.push(*byte)?;
-    }
+    bytes.extend_from_slice(more)?;
     Ok(())
 }
 
-pub fn append_u8(bytes: &mut Bytes, n: u8) -> Result<(), Memory>
-    ensures { OnOk result (bytes.new ≡ bytes.old ++ byte n) }
+pub fn append_u8(bytes: &mut Vec<u8>, n: u8) -> Result<(), Memory>
+    ensures { OnOk result (bytes.new.items ≡ bytes.old.items ++ byte n) }
 {
-    bytes.push(n)
+    bytes.push(n)?;
+    Ok(())
 }
 
 #[tactic(auto, unfolding(crate::specs::Fields::number))]
-pub fn append_u16(bytes: &mut Bytes, n: u16) -> Result<(), Memory>
-    ensures { OnOk result (bytes.new ≡ bytes.old ++ number w16 n) }
+pub fn append_u16(bytes: &mut Vec<u8>, n: u16) -> Result<(), Memory>
+    ensures { OnOk result (bytes.new.items ≡ bytes.old.items ++ number w16 n) }
 {
     append(bytes, &n.to_be_bytes())
 }
 
 #[tactic(auto, unfolding(crate::specs::Fields::number))]
-pub fn append_u32(bytes: &mut Bytes, n: u32) -> Result<(), Memory>
-    ensures { OnOk result (bytes.new ≡ bytes.old ++ number w32 n) }
+pub fn append_u32(bytes: &mut Vec<u8>, n: u32) -> Result<(), Memory>
+    ensures { OnOk result (bytes.new.items ≡ bytes.old.items ++ number w32 n) }
 {
     append(bytes, &n.to_be_bytes())
 }
 
 #[tactic(auto, unfolding(crate::specs::Fields::number))]
-pub fn append_u64(bytes: &mut Bytes, n: u64) -> Result<(), Memory>
-    ensures { OnOk result (bytes.new ≡ bytes.old ++ number w64 n) }
+pub fn append_u64(bytes: &mut Vec<u8>, n: u64) -> Result<(), Memory>
+    ensures { OnOk result (bytes.new.items ≡ bytes.old.items ++ number w64 n) }
 {
     append(bytes, &n.to_be_bytes())
 }
 
-pub fn append_short_text(bytes: &mut Bytes, text: &[u8]) -> Result<(), Memory>
+pub fn append_short_text(bytes: &mut Vec<u8>, text: &[u8]) -> Result<(), Memory>
     requires { length text.now ≤ 64 }
-    ensures { OnOk result (bytes.new ≡ bytes.old ++ short_text text.now) }
+    ensures { OnOk result (bytes.new.items ≡ bytes.old.items ++ short_text text.now) }
 {
     append_u8(bytes, text.len() as u8)?;
     append(bytes, text)
 }
 
-pub fn append_long_text(bytes: &mut Bytes, text: &[u8]) -> Result<(), Memory>
+pub fn append_long_text(bytes: &mut Vec<u8>, text: &[u8]) -> Result<(), Memory>
     requires { length text.now ≤ 64 }
-    ensures { OnOk result (bytes.new ≡ bytes.old ++ long_text text.now) }
+    ensures { OnOk result (bytes.new.items ≡ bytes.old.items ++ long_text text.now) }
 {
     append_u16(bytes, text.len() as u16)?;
     append(bytes, text)

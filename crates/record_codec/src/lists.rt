@@ -6,11 +6,11 @@ ghost use Rattle.record_codec.specs.Fields.{byte, number};
 ghost use Rattle.record_codec.specs.Items.{pick_bytes};
 
 use crate::fields::{append_long_text, append_u8, append_u16, append_u32, append_u64};
-use fpl_base::{Bytes, ClubId, EntryId, Memory, Moment, Name, PlayerId};
+use fpl_base::{ClubId, EntryId, Memory, Moment, Name, PlayerId};
 use rule_book::{Line, Swap};
 
-pub fn append_moments(bytes: &mut Bytes, moments: &[Moment]) -> Result<(), Memory>
-    ensures { OnOk result (bytes.new ≡ bytes.old ++ flat_map (number w64) moments.now) }
+pub fn append_moments(bytes: &mut Vec<u8>, moments: &[Moment]) -> Result<(), Memory>
+    ensures { OnOk result (bytes.new.items ≡ bytes.old.items ++ flat_map (number w64) moments.now) }
 {
     'moments: for moment in moments {
         append_u64(bytes, moment.get())?;
@@ -18,8 +18,8 @@ pub fn append_moments(bytes: &mut Bytes, moments: &[Moment]) -> Result<(), Memor
     Ok(())
 }
 
-pub fn append_figures(bytes: &mut Bytes, figures: &[u16]) -> Result<(), Memory>
-    ensures { OnOk result (bytes.new ≡ bytes.old ++ flat_map (number w16) figures.now) }
+pub fn append_figures(bytes: &mut Vec<u8>, figures: &[u16]) -> Result<(), Memory>
+    ensures { OnOk result (bytes.new.items ≡ bytes.old.items ++ flat_map (number w16) figures.now) }
 {
     'figures: for figure in figures {
         append_u16(bytes, *figure)?;
@@ -27,8 +27,8 @@ pub fn append_figures(bytes: &mut Bytes, figures: &[u16]) -> Result<(), Memory>
     Ok(())
 }
 
-pub fn append_order(bytes: &mut Bytes, entries: &[EntryId]) -> Result<(), Memory>
-    ensures { OnOk result (bytes.new ≡ bytes.old ++ flat_map (number w32) entries.now) }
+pub fn append_order(bytes: &mut Vec<u8>, entries: &[EntryId]) -> Result<(), Memory>
+    ensures { OnOk result (bytes.new.items ≡ bytes.old.items ++ flat_map (number w32) entries.now) }
 {
     'entries: for entry in entries {
         append_u32(bytes, entry.get())?;
@@ -36,8 +36,8 @@ pub fn append_order(bytes: &mut Bytes, entries: &[EntryId]) -> Result<(), Memory
     Ok(())
 }
 
-pub fn append_slots(bytes: &mut Bytes, slots: &[u32]) -> Result<(), Memory>
-    ensures { OnOk result (bytes.new ≡ bytes.old ++ flat_map (number w32) slots.now) }
+pub fn append_slots(bytes: &mut Vec<u8>, slots: &[u32]) -> Result<(), Memory>
+    ensures { OnOk result (bytes.new.items ≡ bytes.old.items ++ flat_map (number w32) slots.now) }
 {
     'slots: for slot in slots {
         append_u32(bytes, *slot)?;
@@ -45,8 +45,8 @@ pub fn append_slots(bytes: &mut Bytes, slots: &[u32]) -> Result<(), Memory>
     Ok(())
 }
 
-pub fn append_coins(bytes: &mut Bytes, coins: &[u8]) -> Result<(), Memory>
-    ensures { OnOk result (bytes.new ≡ bytes.old ++ flat_map byte coins.now) }
+pub fn append_coins(bytes: &mut Vec<u8>, coins: &[u8]) -> Result<(), Memory>
+    ensures { OnOk result (bytes.new.items ≡ bytes.old.items ++ flat_map byte coins.now) }
 {
     'coins: for coin in coins {
         append_u8(bytes, *coin)?;
@@ -54,8 +54,8 @@ pub fn append_coins(bytes: &mut Bytes, coins: &[u8]) -> Result<(), Memory>
     Ok(())
 }
 
-pub fn append_picks(bytes: &mut Bytes, picks: &[(PlayerId, u16)]) -> Result<(), Memory>
-    ensures { OnOk result (bytes.new ≡ bytes.old ++ flat_map pick_bytes picks.now) }
+pub fn append_picks(bytes: &mut Vec<u8>, picks: &[(PlayerId, u16)]) -> Result<(), Memory>
+    ensures { OnOk result (bytes.new.items ≡ bytes.old.items ++ flat_map pick_bytes picks.now) }
 {
     'picks: for pick in picks {
         append_u32(bytes, pick.0.get())?;
@@ -64,8 +64,8 @@ pub fn append_picks(bytes: &mut Bytes, picks: &[(PlayerId, u16)]) -> Result<(), 
     Ok(())
 }
 
-pub fn append_whole_figures(bytes: &mut Bytes, figures: &[u16]) -> Result<(), Memory>
-    ensures { OnOk result (bytes.new ≡ bytes.old ++ flat_map whole figures.now) }
+pub fn append_whole_figures(bytes: &mut Vec<u8>, figures: &[u16]) -> Result<(), Memory>
+    ensures { OnOk result (bytes.new.items ≡ bytes.old.items ++ flat_map whole figures.now) }
 {
     'figures: for figure in figures {
         append_u64(bytes, *figure as u64)?;
@@ -73,8 +73,8 @@ pub fn append_whole_figures(bytes: &mut Bytes, figures: &[u16]) -> Result<(), Me
     Ok(())
 }
 
-pub fn append_whole_entries(bytes: &mut Bytes, entries: &[EntryId]) -> Result<(), Memory>
-    ensures { OnOk result (bytes.new ≡ bytes.old ++ flat_map whole entries.now) }
+pub fn append_whole_entries(bytes: &mut Vec<u8>, entries: &[EntryId]) -> Result<(), Memory>
+    ensures { OnOk result (bytes.new.items ≡ bytes.old.items ++ flat_map whole entries.now) }
 {
     'entries: for entry in entries {
         append_u64(bytes, entry.get() as u64)?;
@@ -82,8 +82,8 @@ pub fn append_whole_entries(bytes: &mut Bytes, entries: &[EntryId]) -> Result<()
     Ok(())
 }
 
-pub fn append_whole_players(bytes: &mut Bytes, players: &[PlayerId]) -> Result<(), Memory>
-    ensures { OnOk result (bytes.new ≡ bytes.old ++ flat_map whole players.now) }
+pub fn append_whole_players(bytes: &mut Vec<u8>, players: &[PlayerId]) -> Result<(), Memory>
+    ensures { OnOk result (bytes.new.items ≡ bytes.old.items ++ flat_map whole players.now) }
 {
     'players: for player in players {
         append_u64(bytes, player.get() as u64)?;
@@ -91,8 +91,8 @@ pub fn append_whole_players(bytes: &mut Bytes, players: &[PlayerId]) -> Result<(
     Ok(())
 }
 
-pub fn append_whole_slots(bytes: &mut Bytes, slots: &[u32]) -> Result<(), Memory>
-    ensures { OnOk result (bytes.new ≡ bytes.old ++ flat_map whole slots.now) }
+pub fn append_whole_slots(bytes: &mut Vec<u8>, slots: &[u32]) -> Result<(), Memory>
+    ensures { OnOk result (bytes.new.items ≡ bytes.old.items ++ flat_map whole slots.now) }
 {
     'slots: for slot in slots {
         append_u64(bytes, *slot as u64)?;
@@ -100,8 +100,8 @@ pub fn append_whole_slots(bytes: &mut Bytes, slots: &[u32]) -> Result<(), Memory
     Ok(())
 }
 
-pub fn append_whole_coins(bytes: &mut Bytes, coins: &[u8]) -> Result<(), Memory>
-    ensures { OnOk result (bytes.new ≡ bytes.old ++ flat_map whole coins.now) }
+pub fn append_whole_coins(bytes: &mut Vec<u8>, coins: &[u8]) -> Result<(), Memory>
+    ensures { OnOk result (bytes.new.items ≡ bytes.old.items ++ flat_map whole coins.now) }
 {
     'coins: for coin in coins {
         append_u64(bytes, *coin as u64)?;
@@ -109,8 +109,8 @@ pub fn append_whole_coins(bytes: &mut Bytes, coins: &[u8]) -> Result<(), Memory>
     Ok(())
 }
 
-pub fn append_clubs(bytes: &mut Bytes, clubs: &[(ClubId, Name)]) -> Result<(), Memory>
-    ensures { OnOk result (bytes.new ≡ bytes.old ++ flat_map club_bytes clubs.now) }
+pub fn append_clubs(bytes: &mut Vec<u8>, clubs: &[(ClubId, Name)]) -> Result<(), Memory>
+    ensures { OnOk result (bytes.new.items ≡ bytes.old.items ++ flat_map club_bytes clubs.now) }
 {
     'clubs: for club in clubs {
         append_club(bytes, club)?;
@@ -118,8 +118,8 @@ pub fn append_clubs(bytes: &mut Bytes, clubs: &[(ClubId, Name)]) -> Result<(), M
     Ok(())
 }
 
-pub fn append_rows(bytes: &mut Bytes, rows: &[(PlayerId, Line)]) -> Result<(), Memory>
-    ensures { OnOk result (bytes.new ≡ bytes.old ++ flat_map row_bytes rows.now) }
+pub fn append_rows(bytes: &mut Vec<u8>, rows: &[(PlayerId, Line)]) -> Result<(), Memory>
+    ensures { OnOk result (bytes.new.items ≡ bytes.old.items ++ flat_map row_bytes rows.now) }
 {
     'rows: for row in rows {
         append_u64(bytes, row.0.get() as u64)?;
@@ -128,8 +128,8 @@ pub fn append_rows(bytes: &mut Bytes, rows: &[(PlayerId, Line)]) -> Result<(), M
     Ok(())
 }
 
-pub fn append_swaps(bytes: &mut Bytes, swaps: &[Swap]) -> Result<(), Memory>
-    ensures { OnOk result (bytes.new ≡ bytes.old ++ flat_map swap_bytes swaps.now) }
+pub fn append_swaps(bytes: &mut Vec<u8>, swaps: &[Swap]) -> Result<(), Memory>
+    ensures { OnOk result (bytes.new.items ≡ bytes.old.items ++ flat_map swap_bytes swaps.now) }
 {
     'swaps: for swap in swaps {
         append_u64(bytes, swap.out.get() as u64)?;
@@ -138,16 +138,16 @@ pub fn append_swaps(bytes: &mut Bytes, swaps: &[Swap]) -> Result<(), Memory>
     Ok(())
 }
 
-fn append_club(bytes: &mut Bytes, club: &(ClubId, Name)) -> Result<(), Memory>
-    ensures { OnOk result (bytes.new ≡ bytes.old ++ club_bytes club.now) }
+fn append_club(bytes: &mut Vec<u8>, club: &(ClubId, Name)) -> Result<(), Memory>
+    ensures { OnOk result (bytes.new.items ≡ bytes.old.items ++ club_bytes club.now) }
 {
     append_u64(bytes, club.0.get() as u64)?;
     append_long_text(bytes, club.1.bytes())
 }
 
 // A line behind the count of its figures.
-pub fn append_line(bytes: &mut Bytes, line: &Line) -> Result<(), Memory>
-    ensures { OnOk result (bytes.new ≡ bytes.old ++ line_bytes line.now) }
+pub fn append_line(bytes: &mut Vec<u8>, line: &Line) -> Result<(), Memory>
+    ensures { OnOk result (bytes.new.items ≡ bytes.old.items ++ line_bytes line.now) }
 {
     append_u16(bytes, 28)?;
     append_whole_figures(bytes, &line.figures)

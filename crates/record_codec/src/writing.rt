@@ -2,11 +2,12 @@
 ghost use Rattle.std.specs.Prelude.{◌≡◌, IfOk, IsTrue};
 ghost use Rattle.record_codec.specs.Commands.{bytes_of_command, is_command};
 ghost use Rattle.record_codec.specs.Items.{body_of, is_item, key_of_item};
+ghost use Rattle.record_codec.specs.declared.item.Item.TheVariants as item;
 
-use crate::Item;
-use crate::bodies::body;
+use crate::bodies::{body, last_body, player_body};
 use crate::commands::append_command;
-use fpl_base::{Bytes, Memory, RecordKey};
+use crate::{Item, Slot};
+use fpl_base::{Bytes, ClubId, Memory, Name, PlayerId, Position, RecordKey};
 use season_book::Command;
 use std::alloc::Global;
 
@@ -21,12 +22,48 @@ pub fn encode(alloc: Global, item: &Item) -> Result<(RecordKey, Bytes), Memory>
     Ok((key, body))
 }
 
+/// The same of a player, whose name is not moved into an item. It takes memory.
+pub fn encode_player(
+    alloc: Global,
+    player: PlayerId,
+    position: Position,
+    club: ClubId,
+    price: u16,
+    gone: bool,
+    name: &Name,
+) -> Result<(RecordKey, Bytes), Memory>
+    ensures key { IfOk result (λ record_of. record_of.0 ≡ key_of_item (item.Player player position club price gone name.now)) }
+    ensures body { IfOk result (λ record_of. record_of.1 ≡ body_of (item.Player player position club price gone name.now)) }
+{
+    let key = Slot::Player(player.get()).key();
+    let body = player_body(alloc, position, club, price, gone, name)?;
+    Ok((key, body))
+}
+
+/// The same of a caller's last command, which is not moved into an item. It takes memory.
+pub fn encode_last(
+    alloc: Global,
+    caller: u32,
+    number: u64,
+    status: u16,
+    made: u32,
+    command: &Command,
+) -> Result<(RecordKey, Bytes), Memory>
+    requires { IsTrue (is_item (item.Last caller number status made command.now)) }
+    ensures key { IfOk result (λ record_of. record_of.0 ≡ key_of_item (item.Last caller number status made command.now)) }
+    ensures body { IfOk result (λ record_of. record_of.1 ≡ body_of (item.Last caller number status made command.now)) }
+{
+    let key = Slot::Last(caller).key();
+    let body = last_body(alloc, number, status, made, command)?;
+    Ok((key, body))
+}
+
 /// A command as bytes, which no other command that can be ordered has. It takes memory.
 pub fn command_bytes(alloc: Global, command: &Command) -> Result<Bytes, Memory>
     requires { IsTrue (is_command command.now) }
     ensures { IfOk result (λ bytes. bytes ≡ bytes_of_command command.now) }
 {
-    let mut bytes = Bytes::new(alloc);
+    let mut bytes = Vec::new(alloc);
     append_command(&mut bytes, command)?;
-    Ok(bytes)
+    Ok(Bytes::from_vec(bytes))
 }

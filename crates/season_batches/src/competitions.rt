@@ -14,8 +14,9 @@ use crate::seeking::member_at;
 use classic_leagues::{League, Leagues};
 use cup_rounds::Cups;
 use fpl_base::{Caller, CupId, EntryId, LeagueId, Memory, Op};
-use record_codec::{Item, Slot};
+use record_codec::{Item, Slot, encode_last};
 use season_book::{Command, Made, Order};
+use season_items::keeps_command_ranges;
 use season_running::Lasts;
 use std::alloc::Global;
 
@@ -117,14 +118,11 @@ fn put_last(
     requires { IsCommand command.now }
     ensures { IfOk result (Keeps (slot.Last caller) (Some (last_item caller (record { number = number; command = command.now; made = made.now })))) }
 {
-    let item = Item::Last {
-        caller,
-        number,
-        status: status_of(made),
-        made: made_id(made),
-        command: command.copy()?,
-    };
-    put(alloc, &item)
+    let status = status_of(made);
+    let made = made_id(made);
+    keeps_command_ranges(command);
+    let (key, body) = encode_last(alloc, caller, number, status, made, command)?;
+    Ok(Op::Put(key, body))
 }
 
 // The caller of a number: 0 is the operator.

@@ -3,15 +3,18 @@ ghost use Rattle.std.specs.Prelude.{◌≡◌, ◌<◌, ◌≤◌, Some, IfOk, I
 ghost use Rattle.std.specs.Option.{option_map};
 ghost use Rattle.rule_book.specs.ById.{at_id};
 ghost use Rattle.record_codec.specs.declared.slot.Slot.TheVariants as slot;
-ghost use Rattle.season_batches.specs.Batches.{KeepsOfFacts};
+ghost use Rattle.record_codec.specs.declared.item.Item.TheVariants as item;
+ghost use Rattle.season_batches.specs.Batches.{Keeps, KeepsOfFacts};
 
 use crate::changes::{delete, price_told, put};
 use crate::seeking::line_at;
 use fpl_base::{ClubId, Gw, Memory, Moment, Name, Op};
-use record_codec::{Item, Slot};
+use record_codec::{Item, Slot, encode_player};
+use rule_book::Player;
 use season_book::Moments;
 use season_calendar::Calendar;
 use season_facts::Season;
+use season_items::keeps_player_ranges;
 use std::alloc::Global;
 
 // Of the season itself.
@@ -84,19 +87,25 @@ pub fn player_op(alloc: Global, season: &Season, player: u32) -> Result<Op, Memo
     ensures { IfOk result (KeepsOfFacts season.now (slot.Player player)) }
 {
     match season.player(player) {
-        Some(there) => {
-            let item = Item::Player {
-                player: there.id,
-                position: there.position,
-                club: there.club,
-                price: price_told(there.price)?,
-                gone: there.gone,
-                name: there.name.copy()?,
-            };
-            put(alloc, &item)
-        }
+        Some(there) => put_player(alloc, there, price_told(there.price)?),
         None => Ok(delete(Slot::Player(player))),
     }
+}
+
+fn put_player(alloc: Global, there: &Player, price: u16) -> Result<Op, Memory>
+    ensures { IfOk result (Keeps (slot.Player there.now.id) (Some (item.Player there.now.id there.now.position there.now.club price there.now.gone there.now.name))) }
+{
+    keeps_player_ranges(there.id, there.club, price, &there.name);
+    let (key, body) = encode_player(
+        alloc,
+        there.id,
+        there.position,
+        there.club,
+        price,
+        there.gone,
+        &there.name,
+    )?;
+    Ok(Op::Put(key, body))
 }
 
 // Of a fixture, with its finished mark.

@@ -10,11 +10,14 @@ use record_codec::Slot;
 use rule_book::Line;
 use std::alloc::Global;
 
-// One slot.
+// Most commands touch so many slots at most.
+const ROOM: usize = 3;
+
+// One slot, and room for those that most commands touch.
 pub fn one(alloc: Global, slot: Slot) -> Result<Vec<Slot>, Memory>
     ensures { IfOk result (λ slots. slots.items ≡ slot ∷ []) }
 {
-    let mut slots = Vec::new(alloc);
+    let mut slots = Vec::with_capacity(alloc, ROOM)?;
     slots.push(slot)?;
     Ok(slots)
 }

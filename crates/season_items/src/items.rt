@@ -44,7 +44,7 @@ fn has_field_ranges(item: &Item)
             price,
             ref name,
             ..
-        } => player_of(player, club, price, name),
+        } => keeps_player_ranges(player, club, price, name),
         Item::Fixture {
             fixture,
             home,
@@ -139,7 +139,8 @@ fn season(split: u8, locked: u8, deadlines: &Moments)
     lists::moments(deadlines.as_slice());
 }
 
-fn player_of(player: PlayerId, club: ClubId, price: u16, name: &Name)
+/// A law: the fields of a player have the ranges of their types.
+pub fn keeps_player_ranges(player: PlayerId, club: ClubId, price: u16, name: &Name)
     ensures { IsPlayer player × IsClub club × (price < 2 ^ 16) × IsTrue (is_name name.now) }
 {
     fields::player(player);

@@ -10,6 +10,6 @@ mod lists;
 mod records;
 
 pub use commands::keeps_command_ranges;
-pub use items::keeps_ranges;
+pub use items::{keeps_player_ranges, keeps_ranges};
 pub use laws::{items_stay, restored_items, slots_tell_items, untouched_stay};
 pub use records::{keeps_bytes, restores_items};

@@ -1,28 +1,29 @@
 -- What a step of the tree makes of its records.
-use Rattle.std.proofs.Common.{◌≡◌, ◌∙◌, sym, ap, subst, refl, arith, inl, ℕ, ◌<◌, ◌+◌, zero, suc, length, get_or, Bool, true, false, cond, ◌==◌, ◌&&◌, ◌||◌, nat_lt, IsTrue, List, [], ◌∷◌, Option, Some, None}
-use Rattle.std.specs.Prelude.{⊤, ◌⊎◌, IsSome, is_some, Result, Ok, Err, OnErr}
+use Rattle.std.proofs.Common.{◌≡◌, ◌∙◌, sym, ap, subst, refl, inl, inr, arith, ℕ, ◌<◌, ◌+◌, length, get_or, take, Bool, true, false, cond, ◌==◌, ◌&&◌, ◌||◌, nat_lt, IsTrue, List, [], ◌∷◌, ◌++◌, Option, Some, None}
+use Rattle.std.specs.Prelude.{⊤, ◌⊎◌, IsSome, is_some, Result, Ok, Err, IfOk, OnOk, OnErr}
 use Rattle.std.specs.declared.cmp.Ordering.{Ordering}
 use Rattle.std.specs.declared.cmp.Ordering.TheVariants.{Less}
 use Rattle.std.specs.Ordering.{is_eq, is_lt, nat_cmp, ordering_then}
 use Rattle.std.specs.Cmp.{IsTotalOrder}
-use Rattle.std.specs.List.{All, AllWithin, AllByRecursion}
+use Rattle.std.specs.List.{All, AllByRecursion}
 use Rattle.std.specs.Map.{keys_of}
 use Rattle.std.specs.Option.{unwrap_or}
 use Rattle.std.specs.BTreeMap.{is_at}
 use Rattle.std.proofs.lemmas.Bool.{false≢true}
 use Rattle.std.proofs.lemmas.Bool.Decides.{nat_tests}
 use Rattle.std.proofs.lemmas.Cmp.{eq_by_cmp_equiv, on_total, then_total, nat_cmp_total}
-use Rattle.std.proofs.lemmas.List.Elements.{All-nil, All-cons, All-rest, All-weaker, AllWithin-more}
+use Rattle.std.proofs.lemmas.Grind.{fold-append}
+use Rattle.std.proofs.lemmas.List.{take_more}
+use Rattle.std.proofs.lemmas.List.Elements.{All-nil, All-cons, All-pop, All-push, All-weaker}
 use Rattle.std.proofs.lemmas.List.Kept.{AllPairs-cons}
 use Rattle.std.proofs.lemmas.Map.{lookup-none}
 use Rattle.std.proofs.lemmas.Map.Entries.{none_past_head}
 use Rattle.std.proofs.lemmas.Map.Keys.{IsDistinct-from_sorted, sorted_head, sorted_tail}
 use Rattle.fpl_base.specs.declared.records.RecordKey.{RecordKey as Key}
 use Rattle.fpl_base.specs.declared.records.Op.{Op}
-use Rattle.fpl_base.specs.declared.records.Op.TheVariants.{Put, Delete}
 use Rattle.fpl_base.specs.Keeping.{Map, KeysRise, applied, applied_one, is_same_key, map_of, precedes}
 use Rattle.fpl_base.proofs.KeyLemmas.{same_key}
-use Rattle.tree_keeper.specs.Records.{Places, key_cmp, AreOrdered, records, place_at, bodies_in, HasPlace, KeepsPlaces, IsFilled}
+use Rattle.tree_keeper.specs.Records.{Places, key_cmp, AreOrdered, records, place_at, bodies_in, placed, undone, HasPlace, KeepsPlaces, IsFilled, IsStored, IsExchanged}
 
 same_by : (a b : ℕ) (behind : Ordering) → is_eq (ordering_then (nat_cmp a b) behind) ≡ ((a == b) && is_eq behind)
 same_by a b behind = grind (arith, nat_tests)
@@ -121,80 +122,130 @@ filled_at : (key : Key) (place : Option (List ℕ)) (old new : Places) (other : 
 filled_at key place old new other is =
     ap (λ o. unwrap_or o None) is ∙ chosen (is_at (key_cmp key) other) place (place_at old other) ∙ ap (λ b. cond b place (bodies_in old other)) (same_is key other)
 
-pub put_is : (key : Key) (body : List ℕ) (old new : Places) → IsSome (place_at old key) → IsFilled key (Some body) old new → bodies_in new ≡ applied_one (bodies_in old) (Put key body)
-put_is key body old new has filled = λ i other. filled_at key (Some body) old new other (filled.there has other) i
+set_is : (key : Key) (place : Option (List ℕ)) (old new : Places) → ((other : Key) → place_at new other ≡ cond (is_at (key_cmp key) other) (Some place) (place_at old other)) → bodies_in new ≡ placed (bodies_in old) (key, place)
+set_is key place old new set = λ i other. filled_at key place old new other (set other) i
 
-pub delete_is : (key : Key) (old new : Places) → IsFilled key None old new → bodies_in new ≡ applied_one (bodies_in old) (Delete key)
-delete_is key old new filled = by (place_at old key) refl
+unset_is : (key : Key) (old : Places) → place_at old key ≡ None → bodies_in old ≡ placed (bodies_in old) (key, None)
+unset_is key old away = λ i other. none other (is_same_key key other) refl i
   where
-    none : place_at old key ≡ None → (other : Key) (b : Bool) → is_same_key key other ≡ b → bodies_in old other ≡ cond b None (bodies_in old other)
-    none away other true same = subst (λ k. bodies_in old k ≡ None) (same_key key other same) (ap (λ o. unwrap_or o None) away)
-    none away other false apart = refl
+    none : (other : Key) (b : Bool) → is_same_key key other ≡ b → bodies_in old other ≡ cond (is_same_key key other) None (bodies_in old other)
+    none other true same = subst (λ k. bodies_in old k ≡ None) (same_key key other same) (ap (λ o. unwrap_or o None) away) ∙ rw same refl
+    none other false apart = rw apart refl
 
-    by : (found : Option (Option (List ℕ))) → place_at old key ≡ found → bodies_in new ≡ applied_one (bodies_in old) (Delete key)
-    by None away = ap bodies_in (filled.away away) ∙ (λ i other. none away other (is_same_key key other) refl i)
-    by (Some place) there = λ i other. filled_at key None old new other (filled.there (ap is_some there) other) i
+absent : {A : Type 0} {X : Type 0} (found : Option A) → found ≡ None → IsSome found → X
+absent found none some = absurd (false≢true (sym (ap is_some none) ∙ some))
+
+filled_is : (was : Key × Option (List ℕ)) (old new : Places) → HasPlace old was → IsFilled was.0 was.1 old new → bodies_in new ≡ placed (bodies_in old) was
+filled_is was old new has filled = by was.1 refl (place_at old was.0) refl
+  where
+    by : (place : Option (List ℕ)) → was.1 ≡ place → (found : Option (Option (List ℕ))) → place_at old was.0 ≡ found → bodies_in new ≡ placed (bodies_in old) was
+    by place is (Some there) found = set_is was.0 was.1 old new (filled.there (ap is_some found))
+    by None is None away = ap bodies_in (filled.away away) ∙ unset_is was.0 old away ∙ ap (λ p. placed (bodies_in old) (was.0, p)) (sym is)
+    by (Some body) is None away = absent (place_at old was.0) away (has (ap is_some is))
 
 -- places stay
 kept_by : (b : Bool) (place : Option (List ℕ)) (old : Option (Option (List ℕ))) → IsSome old → IsSome (cond b (Some place) old)
 kept_by true place old has = refl
 kept_by false place old has = has
 
-pub filled_keeps : (key : Key) (place : Option (List ℕ)) (old new : Places) → IsFilled key place old new → KeepsPlaces old new
-filled_keeps key place old new filled other has = by (place_at old key) refl
+filled_keeps : (was : Key × Option (List ℕ)) (old new : Places) → IsFilled was.0 was.1 old new → KeepsPlaces old new
+filled_keeps was old new filled other has = by (place_at old was.0) refl
   where
-    by : (found : Option (Option (List ℕ))) → place_at old key ≡ found → IsSome (place_at new other)
+    by : (found : Option (Option (List ℕ))) → place_at old was.0 ≡ found → IsSome (place_at new other)
     by None away = subst (λ all. IsSome (place_at all other)) (sym (filled.away away)) has
-    by (Some kept) there = subst IsSome (sym (filled.there (ap is_some there) other)) (kept_by (is_at (key_cmp key) other) place (place_at old other) has)
+    by (Some kept) there = subst IsSome (sym (filled.there (ap is_some there) other)) (kept_by (is_at (key_cmp was.0) other) was.1 (place_at old other) has)
 
-pub has_still : (old new : Places) (op : Op) → KeepsPlaces old new → HasPlace old op → HasPlace new op
-has_still old new (Put key body) keeps has = keeps key has
-has_still old new (Delete key) keeps has = tt
+have_still : (old new : Places) (former : List (Key × Option (List ℕ))) → KeepsPlaces old new → All (HasPlace old) former → All (HasPlace new) former
+have_still old new former keeps = All-weaker (HasPlace old) (HasPlace new) (λ entry has some. keeps entry.0 (has some)) former
 
--- an empty place at a new key leaves the map as it was
-pub made_is : (key : Key) (old new : Places) → place_at old key ≡ None → ((other : Key) → place_at new other ≡ cond (is_at (key_cmp key) other) (Some None) (place_at old other)) → bodies_in new ≡ bodies_in old
-made_is key old new away made = λ i other. by other (is_same_key key other) refl i
+-- what a place that is exchanged makes of the map
+exchanged_is : (key : Key) (place : Option (List ℕ)) (old new : Places) (was : Key × Option (List ℕ)) → IsExchanged key place old new was → bodies_in new ≡ placed (bodies_in old) (key, place)
+exchanged_is key place old new was is = by place refl (place_at old key) refl
   where
-    by : (other : Key) (b : Bool) → is_same_key key other ≡ b → bodies_in new other ≡ bodies_in old other
-    by other true same = filled_at key None old new other (made other) ∙ rw same (sym (subst (λ k. bodies_in old k ≡ None) (same_key key other same) (ap (λ o. unwrap_or o None) away)))
-    by other false apart = filled_at key None old new other (made other) ∙ rw apart refl
+    by : (p : Option (List ℕ)) → place ≡ p → (found : Option (Option (List ℕ))) → place_at old key ≡ found → bodies_in new ≡ placed (bodies_in old) (key, place)
+    by p same (Some there) found = set_is key place old new (is.set (inl (ap is_some found)))
+    by (Some body) same None away = set_is key place old new (is.set (inr (ap is_some same)))
+    by None same None away = ap bodies_in (is.same away same) ∙ unset_is key old away ∙ ap (λ p. placed (bodies_in old) (key, p)) (sym same)
 
-pub made_keeps : (key : Key) (old new : Places) → ((other : Key) → place_at new other ≡ cond (is_at (key_cmp key) other) (Some None) (place_at old other)) → KeepsPlaces old new
-made_keeps key old new made other has = subst IsSome (sym (made other)) (kept_by (is_at (key_cmp key) other) None (place_at old other) has)
-
-pub none_of : (found : Option (Option (List ℕ))) → is_some found ≡ false → found ≡ None
-none_of None absent = refl
-none_of (Some place) absent = absurd (false≢true (sym absent))
-
--- one more change has a place
-pub places_more : (old new : Places) (ops : List Op) (i : ℕ) (op : Op) → i < length ops → op ≡ get_or ops i op → KeepsPlaces old new → HasPlace new op → AllWithin (HasPlace old) ops 0 i → AllWithin (HasPlace new) ops 0 (i + 1)
-places_more old new ops i op lt is keeps here before =
-    AllWithin-more (HasPlace new) ops 0 i (λ k d low less. has_still old new (get_or ops k d) keeps (before k d low less)) (λ d. subst (HasPlace new) (is ∙ get_or_any ops i op d lt) here)
+exchanged_keeps : (key : Key) (place : Option (List ℕ)) (old new : Places) (was : Key × Option (List ℕ)) → IsExchanged key place old new was → KeepsPlaces old new
+exchanged_keeps key place old new was is other has = by place refl (place_at old key) refl
   where
-    get_or_any : (xs : List Op) (k : ℕ) (d e : Op) → k < length xs → get_or xs k d ≡ get_or xs k e
-    get_or_any [] k d e lt = absurd (omega arith)
-    get_or_any (x ∷ xs) zero d e lt = refl
-    get_or_any (x ∷ xs) (suc k) d e lt = get_or_any xs k d e (omega arith)
+    by : (p : Option (List ℕ)) → place ≡ p → (found : Option (Option (List ℕ))) → place_at old key ≡ found → IsSome (place_at new other)
+    by p same (Some there) found = subst IsSome (sym (is.set (inl (ap is_some found)) other)) (kept_by (is_at (key_cmp key) other) place (place_at old other) has)
+    by (Some body) same None away = subst IsSome (sym (is.set (inr (ap is_some same)) other)) (kept_by (is_at (key_cmp key) other) place (place_at old other) has)
+    by None same None away = subst (λ all. IsSome (place_at all other)) (sym (is.same away same)) has
 
--- the changes that are left have their places still
-pub places_left : (old new : Places) (left rest : List Op) (op : Op) → left ≡ op ∷ rest → KeepsPlaces old new → All (HasPlace old) left → All (HasPlace new) rest
-places_left old new left rest op is keeps all = All-weaker (HasPlace old) (HasPlace new) (λ x has. has_still old new x keeps has) rest (All-rest (HasPlace old) op rest left is all)
+placed_back : (m : Map) (key : Key) (place : Option (List ℕ)) → placed (placed m (key, place)) (key, m key) ≡ m
+placed_back m key place = λ i other. by other (is_same_key key other) refl i
+  where
+    by : (other : Key) (b : Bool) → is_same_key key other ≡ b → placed (placed m (key, place)) (key, m key) other ≡ m other
+    by other true same = rw same (ap m (same_key key other same))
+    by other false apart = rw apart refl
 
-pub nothing_left : (ops : List Op) → length ops ≡ 0 → ops ≡ []
-nothing_left [] none = refl
-nothing_left (op ∷ ops) none = absurd (omega arith)
+stored_was : (key : Key) (place : Option (List ℕ)) (old new : Places) (was : Key × Option (List ℕ)) → IsExchanged key place old new was → IsStored old new was
+stored_was key place old new was is = record {
+  back =
+      ap (λ n. placed n was) (exchanged_is key place old new was is)
+      ∙ ap (λ k. placed (placed (bodies_in old) (key, place)) (k, was.1)) is.key_is
+      ∙ ap (λ b. placed (placed (bodies_in old) (key, place)) (key, b)) (stood (place_at old key) refl)
+      ∙ placed_back (bodies_in old) key place;
+  place = λ some. has some (place_at old key) refl;
+  others = exchanged_keeps key place old new was is;
+}
+  where
+    stood : (found : Option (Option (List ℕ))) → place_at old key ≡ found → was.1 ≡ bodies_in old key
+    stood (Some there) found = sym (ap (λ o. unwrap_or o None) (is.there (ap is_some found)))
+    stood None away = is.away away ∙ sym (ap (λ o. unwrap_or o None) away)
+
+    has : IsSome was.1 → (found : Option (Option (List ℕ))) → place_at old key ≡ found → IsSome (place_at new was.0)
+    has some (Some there) found = subst (λ k. IsSome (place_at new k)) (sym is.key_is) (exchanged_keeps key place old new was is key (ap is_some found))
+    has some None away = absent was.1 (is.away away) some
+
+pub made_is : {E : Type 0} (result : Result (Key × Option (List ℕ)) E) (key : Key) (place : Option (List ℕ)) (old new : Places) (m : Map) → placed (bodies_in old) (key, place) ≡ m → IfOk result (IsExchanged key place old new) → OnOk result (bodies_in new ≡ m)
+made_is (Ok was) key place old new m is exchanged = exchanged_is key place old new was exchanged ∙ is
+made_is (Err fault) key place old new m is exchanged = tt
+
+pub stood_is : {E : Type 0} (result : Result (Key × Option (List ℕ)) E) (key : Key) (place : Option (List ℕ)) (old new : Places) → IfOk result (IsExchanged key place old new) → IfOk result (IsStored old new)
+stood_is (Ok was) key place old new exchanged = stored_was key place old new was exchanged
+stood_is (Err fault) key place old new exchanged = tt
+
+-- one more change is made
+undone_last : (m : Map) (former : List (Key × Option (List ℕ))) (was : Key × Option (List ℕ)) → undone m (former ++ was ∷ []) ≡ undone (placed m was) former
+undone_last m [] was = refl
+undone_last m (entry ∷ former) was = ap (λ n. placed n entry) (undone_last m former was)
+
+pub applied_more : (m : Map) (ops : List Op) (i : ℕ) (op : Op) → i < length ops → op ≡ get_or ops i op → applied m (take (i + 1) ops) ≡ applied_one (applied m (take i ops)) op
+applied_more m ops i op lt is =
+    ap (applied m) (take_more ops i op lt)
+    ∙ fold-append applied_one m (take i ops) (get_or ops i op ∷ [])
+    ∙ ap (applied_one (applied m (take i ops))) (sym is)
+
+pub former_more : (m : Map) (old new : Places) (former : List (Key × Option (List ℕ))) (was : Key × Option (List ℕ)) → IsStored old new was → undone (bodies_in old) former ≡ m → undone (bodies_in new) (former ++ was ∷ []) ≡ m
+former_more m old new former was stored before =
+    undone_last (bodies_in new) former was ∙ ap (λ n. undone n former) stored.back ∙ before
+
+pub places_more : (old new : Places) (former : List (Key × Option (List ℕ))) (was : Key × Option (List ℕ)) → IsStored old new was → All (HasPlace old) former → All (HasPlace new) (former ++ was ∷ [])
+places_more old new former was stored have =
+    All-push (HasPlace new) former was (have_still old new former stored.others have) stored.place
+
+-- one change is put back
+pub former_less : (old new : Places) (former rest : List (Key × Option (List ℕ))) (was : Key × Option (List ℕ)) → former ≡ rest ++ was ∷ [] → All (HasPlace old) former → IsFilled was.0 was.1 old new → undone (bodies_in new) rest ≡ undone (bodies_in old) former
+former_less old new former rest was is have filled =
+    ap (λ n. undone n rest) (filled_is was old new ((All-pop (HasPlace old) former rest (Some was) is have).1) filled)
+    ∙ sym (undone_last (bodies_in old) rest was)
+    ∙ ap (undone (bodies_in old)) (sym is)
+
+pub places_less : (old new : Places) (former rest : List (Key × Option (List ℕ))) (was : Key × Option (List ℕ)) → former ≡ rest ++ was ∷ [] → All (HasPlace old) former → IsFilled was.0 was.1 old new → All (HasPlace new) rest
+places_less old new former rest was is have filled =
+    have_still old new rest (filled_keeps was old new filled) ((All-pop (HasPlace old) former rest (Some was) is have).0)
 
 -- what a commit stores, and what it leaves where it gives up
-pub stored_is : (seen : List (Key × List ℕ)) (old mid new : Places) (ops changes : List Op) → records old ≡ seen → AreOrdered old → AreOrdered new → bodies_in mid ≡ bodies_in old → changes ≡ ops → bodies_in new ≡ applied (bodies_in mid) changes → map_of (records new) ≡ applied (map_of seen) ops
-stored_is seen old mid new ops changes shown ordered still same copied stored =
-    maps_are new still
-    ∙ stored
-    ∙ ap (λ m. applied m changes) same
-    ∙ ap (applied (bodies_in old)) copied
-    ∙ ap (λ m. applied m ops) (sym (maps_are old ordered) ∙ ap map_of shown)
+pub stored_is : (seen : List (Key × List ℕ)) (old new : Places) (ops : List Op) → records old ≡ seen → AreOrdered old → AreOrdered new → bodies_in new ≡ applied (bodies_in old) ops → map_of (records new) ≡ applied (map_of seen) ops
+stored_is seen old new ops shown ordered still stored =
+    maps_are new still ∙ stored ∙ ap (λ m. applied m ops) (sym (maps_are old ordered) ∙ ap map_of shown)
 
-pub left_is : (seen : List (Key × List ℕ)) (old mid : Places) → records old ≡ seen → AreOrdered old → AreOrdered mid → bodies_in mid ≡ bodies_in old → map_of (records mid) ≡ map_of seen
-left_is seen old mid shown ordered still same = maps_are mid still ∙ same ∙ sym (maps_are old ordered) ∙ ap map_of shown
+pub left_is : (seen : List (Key × List ℕ)) (old new : Places) → records old ≡ seen → AreOrdered old → AreOrdered new → bodies_in new ≡ bodies_in old → map_of (records new) ≡ map_of seen
+left_is seen old new shown ordered still same = maps_are new still ∙ same ∙ sym (maps_are old ordered) ∙ ap map_of shown
 
 -- a commit that gave up failed as a keeper may
 pub failed_is : {T E : Type 0} (result : Result T E) (seen new : List (Key × List ℕ)) (ops : List Op) → map_of new ≡ map_of seen → OnErr result (⊤ → ⊤ → (m : Map) → m ≡ map_of seen → (m ≡ map_of new) ⊎ (applied m ops ≡ map_of new))

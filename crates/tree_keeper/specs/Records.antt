@@ -1,5 +1,5 @@
 -- A tree of places by their keys, as the records that stand in it. A key whose place is empty has no record.
-use Rattle.std.specs.Prelude.{◌≡◌, ⊤, ℕ, List, Option, Some, None, cond, IsSome}
+use Rattle.std.specs.Prelude.{◌≡◌, ◌⊎◌, ℕ, List, [], ◌∷◌, Option, Some, None, cond, IsSome}
 use Rattle.std.specs.declared.cmp.Ordering.{Ordering}
 use Rattle.std.specs.List.{filter_map}
 use Rattle.std.specs.Map.{keys_of, lookup}
@@ -7,10 +7,8 @@ use Rattle.std.specs.List.Sorted.{IsStrictlySortedBy}
 use Rattle.std.specs.BTreeMap.{is_at}
 use Rattle.std.specs.Option.{option_map, unwrap_or}
 use Rattle.fpl_base.specs.declared.records.RecordKey.{RecordKey as Key}
-use Rattle.fpl_base.specs.declared.records.Op.{Op}
-use Rattle.fpl_base.specs.declared.records.Op.TheVariants.{Put, Delete}
 use Rattle.fpl_base.specs.contracts.records.RecordKeyOrd.TheImpl as order
-use Rattle.fpl_base.specs.Keeping.{Map}
+use Rattle.fpl_base.specs.Keeping.{Map, is_same_key}
 
 -- the keys of a tree in its order, each with its place
 abbrev pub Places : Type 0
@@ -40,16 +38,38 @@ place_at places key = lookup (is_at (key_cmp key)) places
 abbrev pub bodies_in : Places → Map
 bodies_in places key = unwrap_or (place_at places key) None
 
--- a put has a place for its key
-abbrev pub HasPlace : Places → Op → Type 0
-HasPlace places (Put key body) = IsSome (place_at places key)
-HasPlace places (Delete key) = ⊤
+-- a body that is to stand under a key has a place there
+abbrev pub HasPlace : Places → Key × Option (List ℕ) → Type 0
+HasPlace places entry = IsSome entry.1 → IsSome (place_at places entry.0)
 
 -- the new tree has each key of the old one
 abbrev pub KeepsPlaces : Places → Places → Type 0
 KeepsPlaces old new = (key : Key) → IsSome (place_at old key) → IsSome (place_at new key)
 
+-- the map with this at a key: a body, or none
+abbrev pub placed : Map → Key × Option (List ℕ) → Map
+placed m entry other = cond (is_same_key entry.0 other) entry.1 (m other)
+
+-- the map with what stood at keys put back, the last one first
+abbrev pub undone : Map → List (Key × Option (List ℕ)) → Map
+undone m [] = m
+undone m (entry ∷ more) = placed (undone m more) entry
+
 -- the new tree has this at the place of a key that the old one has, and is else as the old one
 pub record IsFilled (key : Key) (place : Option (List ℕ)) (old new : Places) : Type 0 where
   pub there : IsSome (place_at old key) → (other : Key) → place_at new other ≡ cond (is_at (key_cmp key) other) (Some place) (place_at old other)
   pub away : place_at old key ≡ None → new ≡ old
+
+-- with this put back at its key, which has a place for it, the new tree has the bodies of the old one; no key is lost
+pub record IsStored (old new : Places) (was : Key × Option (List ℕ)) : Type 0 where
+  pub back : placed (bodies_in new) was ≡ bodies_in old
+  pub place : HasPlace new was
+  pub others : KeepsPlaces old new
+
+-- the new tree has this at the place of a key, which it makes where a body lacks one, and this stood there before
+pub record IsExchanged (key : Key) (place : Option (List ℕ)) (old new : Places) (was : Key × Option (List ℕ)) : Type 0 where
+  pub key_is : was.0 ≡ key
+  pub there : IsSome (place_at old key) → place_at old key ≡ Some was.1
+  pub away : place_at old key ≡ None → was.1 ≡ None
+  pub set : (IsSome (place_at old key) ⊎ IsSome place) → (other : Key) → place_at new other ≡ cond (is_at (key_cmp key) other) (Some place) (place_at old other)
+  pub same : place_at old key ≡ None → place ≡ None → new ≡ old

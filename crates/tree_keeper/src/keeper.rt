@@ -1,7 +1,7 @@
 // A keeper over memory that never fails.
 ghost use Rattle.std.specs.Prelude.{◌≡◌, []};
 
-use crate::tree::{Places, apply_all, copy_of_changes, copy_of_records, make_places};
+use crate::tree::{Former, Places, copy_of_records, store};
 use fpl_base::{Bytes, Keeper, KeeperFault, Op, RecordKey};
 use std::alloc::Global;
 use std::marker::Model;
@@ -12,6 +12,8 @@ use std::marker::Model;
 #[derive(Drop)]
 pub struct TreeKeeper {
     tree: Places,
+    // Room for what a commit may put back, which is empty between commits.
+    former: Former,
 }
 
 impl Model for TreeKeeper {
@@ -33,6 +35,7 @@ impl TreeKeeper {
     {
         TreeKeeper {
             tree: Places::new(alloc),
+            former: Former::new(alloc),
         }
     }
 }
@@ -59,9 +62,7 @@ impl Keeper for TreeKeeper {
     }
 
     fn commit(&mut self, alloc: Global, ops: &[Op]) -> Result<(), KeeperFault> {
-        let changes = copy_of_changes(alloc, ops)?;
-        make_places(&mut self.tree, ops)?;
-        apply_all(&mut self.tree, changes);
+        store(alloc, &mut self.tree, &mut self.former, ops)?;
         Ok(())
     }
 }

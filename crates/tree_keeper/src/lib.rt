@@ -5,6 +5,3 @@ mod keeper;
 mod tree;
 
 pub use keeper::TreeKeeper;
-
-#[cfg(test)]
-mod tests;

@@ -4,4 +4,4 @@ use Rattle.record_codec.specs.Fields.{number}
 use Rattle.record_codec.proofs.lists.append_moments.Given as goal
 
 abbrev pub invariant-moments : goal.invariant-moments
-invariant-moments l = l.bytes ≡ l.fn.bytes ++ flat_map (number w64) (take l.moment-index l.fn.moments)
+invariant-moments l = l.bytes.items ≡ l.fn.bytes.items ++ flat_map (number w64) (take l.moment-index l.fn.moments)

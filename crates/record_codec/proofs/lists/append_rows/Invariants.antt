@@ -3,4 +3,4 @@ use Rattle.record_codec.specs.Commands.{row_bytes}
 use Rattle.record_codec.proofs.lists.append_rows.Given as goal
 
 abbrev pub invariant-rows : goal.invariant-rows
-invariant-rows l = l.bytes ≡ l.fn.bytes ++ flat_map row_bytes (take l.row-index l.fn.rows)
+invariant-rows l = l.bytes.items ≡ l.fn.bytes.items ++ flat_map row_bytes (take l.row-index l.fn.rows)

@@ -3,4 +3,4 @@ use Rattle.record_codec.specs.Commands.{swap_bytes}
 use Rattle.record_codec.proofs.lists.append_swaps.Given as goal
 
 abbrev pub invariant-swaps : goal.invariant-swaps
-invariant-swaps l = l.bytes ≡ l.fn.bytes ++ flat_map swap_bytes (take l.swap-index l.fn.swaps)
+invariant-swaps l = l.bytes.items ≡ l.fn.bytes.items ++ flat_map swap_bytes (take l.swap-index l.fn.swaps)

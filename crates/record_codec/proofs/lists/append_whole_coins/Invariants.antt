@@ -3,4 +3,4 @@ use Rattle.record_codec.specs.Commands.{whole}
 use Rattle.record_codec.proofs.lists.append_whole_coins.Given as goal
 
 abbrev pub invariant-coins : goal.invariant-coins
-invariant-coins l = l.bytes ≡ l.fn.bytes ++ flat_map whole (take l.coin-index l.fn.coins)
+invariant-coins l = l.bytes.items ≡ l.fn.bytes.items ++ flat_map whole (take l.coin-index l.fn.coins)

@@ -3,4 +3,4 @@ use Rattle.record_codec.specs.Commands.{whole}
 use Rattle.record_codec.proofs.lists.append_whole_figures.Given as goal
 
 abbrev pub invariant-figures : goal.invariant-figures
-invariant-figures l = l.bytes ≡ l.fn.bytes ++ flat_map whole (take l.figure-index l.fn.figures)
+invariant-figures l = l.bytes.items ≡ l.fn.bytes.items ++ flat_map whole (take l.figure-index l.fn.figures)

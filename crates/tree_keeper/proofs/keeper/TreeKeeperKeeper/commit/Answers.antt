@@ -6,27 +6,27 @@ use Rattle.tree_keeper.proofs.keeper.TreeKeeperKeeper.commit.Goals as goal
 
 pub returns-clause-done : goal.returns-clause-done
 returns-clause-done c = λ tells m is.
-    let stored = stored_is c.args.self.now c.self.inside.tree.entries c.make_places.new.tree.entries c.apply_all.new.tree.entries c.args.ops.now c.in_ok-changes.changes.items c.self.view_is c.self.invariant c.apply_all.ensures.order c.make_places.ensures.map c.in_ok-changes.ensures c.apply_all.ensures.map in
+    let stored = stored_is c.args.self.now c.self.inside.tree.entries c.store.new.tree.entries c.args.ops.now c.self.view_is c.self.invariant c.store.ensures.order c.in_ok-store.ensures.stored in
     ap (λ n. applied n c.args.ops.now) is ∙ sym stored
 
 pub returns-clause-alone : goal.returns-clause-alone
 returns-clause-alone c = λ tells m is x at_x.
-    let stored = stored_is c.args.self.now c.self.inside.tree.entries c.make_places.new.tree.entries c.apply_all.new.tree.entries c.args.ops.now c.in_ok-changes.changes.items c.self.view_is c.self.invariant c.apply_all.ensures.order c.make_places.ensures.map c.in_ok-changes.ensures c.apply_all.ensures.map in
+    let stored = stored_is c.args.self.now c.self.inside.tree.entries c.store.new.tree.entries c.args.ops.now c.self.view_is c.self.invariant c.store.ensures.order c.in_ok-store.ensures.stored in
     at_x ∙ (stored ∙ ap (λ n. applied n c.args.ops.now) (sym is))
 
 pub returns-clause-stops : goal.returns-clause-stops
 returns-clause-stops c = λ tells m is x at_x.
-    let stored = stored_is c.args.self.now c.self.inside.tree.entries c.make_places.new.tree.entries c.apply_all.new.tree.entries c.args.ops.now c.in_ok-changes.changes.items c.self.view_is c.self.invariant c.apply_all.ensures.order c.make_places.ensures.map c.in_ok-changes.ensures c.apply_all.ensures.map in
+    let stored = stored_is c.args.self.now c.self.inside.tree.entries c.store.new.tree.entries c.args.ops.now c.self.view_is c.self.invariant c.store.ensures.order c.in_ok-store.ensures.stored in
     inr (at_x ∙ (stored ∙ ap (λ n. applied n c.args.ops.now) (sym is)))
 
-pub returns-in_err-make_places-clause-failed : goal.returns-in_err-make_places-clause-failed
-returns-in_err-make_places-clause-failed c =
-    failed_is c.from_residual-in_err-make_places.result c.args.self.now (records c.make_places.new.tree.entries) c.args.ops.now (left_is c.args.self.now c.self.inside.tree.entries c.make_places.new.tree.entries c.self.view_is c.self.invariant c.make_places.ensures.order c.make_places.ensures.map)
+pub returns-in_err-store-clause-failed : goal.returns-in_err-store-clause-failed
+returns-in_err-store-clause-failed c =
+    failed_is c.from_residual.result c.args.self.now (records c.store.new.tree.entries) c.args.ops.now (left_is c.args.self.now c.self.inside.tree.entries c.store.new.tree.entries c.self.view_is c.self.invariant c.store.ensures.order c.in_err-store.ensures.kept)
 
-pub returns-in_err-make_places-clause-kept : goal.returns-in_err-make_places-clause-kept
-returns-in_err-make_places-clause-kept c = λ memory tells serves m is.
-    is ∙ sym (left_is c.args.self.now c.self.inside.tree.entries c.make_places.new.tree.entries c.self.view_is c.self.invariant c.make_places.ensures.order c.make_places.ensures.map)
+pub returns-in_err-store-clause-kept : goal.returns-in_err-store-clause-kept
+returns-in_err-store-clause-kept c = λ memory tells serves m is.
+    is ∙ sym (left_is c.args.self.now c.self.inside.tree.entries c.store.new.tree.entries c.self.view_is c.self.invariant c.store.ensures.order c.in_err-store.ensures.kept)
 
-pub returns-in_err-make_places-clause-stops : goal.returns-in_err-make_places-clause-stops
-returns-in_err-make_places-clause-stops c = λ tells m is x at_x.
-    inl (at_x ∙ left_is c.args.self.now c.self.inside.tree.entries c.make_places.new.tree.entries c.self.view_is c.self.invariant c.make_places.ensures.order c.make_places.ensures.map)
+pub returns-in_err-store-clause-stops : goal.returns-in_err-store-clause-stops
+returns-in_err-store-clause-stops c = λ tells m is x at_x.
+    inl (at_x ∙ left_is c.args.self.now c.self.inside.tree.entries c.store.new.tree.entries c.self.view_is c.self.invariant c.store.ensures.order c.in_err-store.ensures.kept)
