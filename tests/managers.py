@@ -2,8 +2,8 @@
 
 Eighteen players, P1 to P18, cost 50 each. P1 to P15 are a squad by slot, three of each of clubs 1 to 5:
 P1 and P12 are goalkeepers, P2 to P4, P14 and P15 defenders, P5 to P9 midfielders, P10, P11 and P13 forwards. The others
-are of club 6: P16 is a defender, P17 a midfielder, P18 a forward. Deadlines are at 10000, 20000 and so on to 50000; the
-first half of the season has three gameweeks. Fixture g stands in gameweek g.
+are of club 6: P16 is a defender, P17 a midfielder, P18 a forward. Deadlines are at 10000, 20000 and so on, to 50000 where
+nothing else is said; the first half of the season has three gameweeks. Fixture g stands in gameweek g.
 """
 import json
 
@@ -44,20 +44,21 @@ def sheet(fixture, players, finished=False):
     do(OPERATOR, f"/fixtures/{fixture}/sheet", lines=lines, finished=finished)
 
 
-def begin(profile=1):
-    """The operator's first 25 commands; the next one has number 26."""
+def begin(profile=1, gameweeks=5):
+    """The operator's first commands, 25 where the season has five gameweeks."""
     clubs = [{"id": club, "name": f"Club {club}"} for club in range(1, 7)]
-    do(OPERATOR, "/season", deadlines=[10000, 20000, 30000, 40000, 50000], split=3, clubs=clubs, profile=profile)
+    deadlines = [10000 * gameweek for gameweek in range(1, gameweeks + 1)]
+    do(OPERATOR, "/season", deadlines=deadlines, split=3, clubs=clubs, profile=profile)
     for player, position in enumerate(POSITIONS, 1):
         club = (player + 2) // 3
         do(OPERATOR, "/players", id=player, name=f"P{player}", position=position, club=club, price=50)
-    for gameweek in range(1, 6):
+    for gameweek in range(1, gameweeks + 1):
         do(OPERATOR, "/fixtures", id=gameweek, home=1, away=2, gameweek=gameweek, kickoff=10000 * gameweek + 5400)
     do(OPERATOR, "/keys", key=FIRST, name="First")
 
 
-def begin_with_squad(profile=1):
-    begin(profile)
+def begin_with_squad(profile=1, gameweeks=5):
+    begin(profile, gameweeks)
     do(FIRST, "/squad", players=SQUAD, captain=10, vice=5)
 
 

@@ -1,7 +1,13 @@
 // A library to preload into the program, which chooses what is outside of it. Each part is asleep until its variable is set:
 //   KOWHIRUPE_MOMENTS=FILE      what the clock tells: the file has a line for each time that the clock is asked, seconds
-//                               since 1970-01-01T00:00:00Z and then whatever it says of them; after the last line the
+//                               since 1970-01-01T00:00:00Z, which may have a fraction, and then whatever it says of them;
+//                               where a dash stands in their place the clock can't be read. After the last line the
 //                               clock tells the last moment again. Clocks that do not tell the date are the computer's own
+//   KOWHIRUPE_INPUT=N           the standard input gives its first N bytes, and a read behind them fails
+//   KOWHIRUPE_OUTPUT=N          the standard output takes N bytes, and a write behind them fails
+//   KOWHIRUPE_WRITE=N           a write takes at most N bytes of what is to be written to the standard output
+//   KOWHIRUPE_FAIL_BEHIND=N     the first call that changes a file behind the N-th moment that the clock tells fails
+//   KOWHIRUPE_FAIL_ACCEPT=N     the call of this number that waits for a connection fails
 //   KOWHIRUPE_FAIL_MEMORY=N     the allocation of this number, from 1, fails
 //   KOWHIRUPE_FAIL_CHANGE=N     the call of this number that changes a file fails
 //   KOWHIRUPE_STOP_CHANGE=N     in place of it the program stops at once
@@ -13,23 +19,33 @@
 #include <errno.h>
 #include <stdio.h>
 #include <stdlib.h>
+#include <sys/socket.h>
 #include <sys/syscall.h>
 #include <sys/types.h>
 #include <time.h>
 #include <unistd.h>
 
-static long allocations, changes, failing_allocation, failing_change, stopping_change;
+static long allocations, changes, failing_allocation, failing_change, stopping_change, accepts, failing_accept;
+static long told_moments, failing_behind, is_next_failing;
+static long input = -1, output = -1, longest_write = -1; // what is left of them, and -1 where they have no end
 static FILE *moments;
 static char moments_read[4096];
 
-static long number(const char *name) {
+static long number_or(const char *name, long otherwise) {
   const char *text = getenv(name);
-  return text ? atol(text) : 0;
+  return text ? atol(text) : otherwise;
 }
+
+static long number(const char *name) { return number_or(name, 0); }
 
 __attribute__((constructor)) static void begin(void) {
   failing_change = number("KOWHIRUPE_FAIL_CHANGE");
   stopping_change = number("KOWHIRUPE_STOP_CHANGE");
+  failing_accept = number("KOWHIRUPE_FAIL_ACCEPT");
+  failing_behind = number("KOWHIRUPE_FAIL_BEHIND");
+  input = number_or("KOWHIRUPE_INPUT", -1);
+  output = number_or("KOWHIRUPE_OUTPUT", -1);
+  longest_write = number_or("KOWHIRUPE_WRITE", -1);
   const char *path = getenv("KOWHIRUPE_MOMENTS");
   if (path) moments = fopen(path, "r");
   if (moments) setvbuf(moments, moments_read, _IOFBF, sizeof moments_read);
@@ -47,13 +63,30 @@ __attribute__((destructor)) static void end(void) {
   fclose(out);
 }
 
+// Seconds as they are written, with a fraction or without one.
+static struct timespec moment_of(const char *text) {
+  char *rest;
+  struct timespec moment = {strtoll(text, &rest, 10), 0};
+  long unit = 100000000;
+  if (*rest == '.') {
+    for (rest++; *rest >= '0' && *rest <= '9'; rest++, unit /= 10) moment.tv_nsec += (*rest - '0') * unit;
+  }
+  return moment;
+}
+
 int clock_gettime(clockid_t which, struct timespec *out) {
-  static long long moment;
+  static struct timespec moment;
+  char told[64];
   if (which != CLOCK_REALTIME || !moments) return syscall(SYS_clock_gettime, which, out);
-  long long told;
-  if (fscanf(moments, "%lld%*[^\n]", &told) == 1) moment = told;
-  out->tv_sec = moment;
-  out->tv_nsec = 0;
+  if (++told_moments == failing_behind) is_next_failing = 1;
+  if (fscanf(moments, " %63s%*[^\n]", told) == 1) {
+    if (told[0] == '-') {
+      errno = EIO;
+      return -1;
+    }
+    moment = moment_of(told);
+  }
+  *out = moment;
   return 0;
 }
 
@@ -74,17 +107,44 @@ void *realloc(void *old, size_t n) { return fails() ? NULL : __libc_realloc(old,
 static int goes_on(int fd) {
   if (fd >= 0 && fd <= 2) return 1;
   if (++changes == stopping_change) _exit(137);
-  if (changes != failing_change) return 1;
+  if (changes != failing_change && !is_next_failing) return 1;
+  is_next_failing = 0;
   errno = EIO;
   return 0;
 }
 
-#define CALL(name, fd, ...) \
+#define OWN(name) \
   static __typeof__(name) *own; \
-  if (!own) own = dlsym(RTLD_NEXT, #name); \
+  if (!own) own = dlsym(RTLD_NEXT, #name)
+
+#define CALL(name, fd, ...) \
+  OWN(name); \
   return goes_on(fd) ? own(__VA_ARGS__) : -1
 
-ssize_t write(int fd, const void *from, size_t n) { CALL(write, fd, fd, from, n); }
+// How many of n bytes may move where so many are left, and -1 where none may.
+static ssize_t part(size_t n, long left) {
+  if (left < 0 || n == 0) return n;
+  if (left == 0) errno = EIO;
+  return left == 0 ? -1 : n < (size_t)left ? (ssize_t)n : left;
+}
+
+ssize_t read(int fd, void *into, size_t n) {
+  OWN(read);
+  ssize_t count = fd == 0 ? part(n, input) : (ssize_t)n;
+  if (count >= 0) count = own(fd, into, count);
+  if (fd == 0 && input > 0 && count > 0) input -= count;
+  return count;
+}
+
+ssize_t write(int fd, const void *from, size_t n) {
+  OWN(write);
+  if (!goes_on(fd)) return -1;
+  ssize_t count = fd == 1 ? part(part(n, longest_write), output) : (ssize_t)n;
+  if (count >= 0) count = own(fd, from, count);
+  if (fd == 1 && output > 0 && count > 0) output -= count;
+  return count;
+}
+
 ssize_t pwrite(int fd, const void *from, size_t n, off_t at) { CALL(pwrite, fd, fd, from, n, at); }
 ssize_t pwrite64(int fd, const void *from, size_t n, off64_t at) { CALL(pwrite64, fd, fd, from, n, at); }
 int fsync(int fd) { CALL(fsync, fd, fd); }
@@ -92,3 +152,10 @@ int fdatasync(int fd) { CALL(fdatasync, fd, fd); }
 int ftruncate(int fd, off_t n) { CALL(ftruncate, fd, fd, n); }
 int ftruncate64(int fd, off64_t n) { CALL(ftruncate64, fd, fd, n); }
 int unlink(const char *path) { CALL(unlink, -1, path); }
+
+int accept4(int fd, struct sockaddr *from, socklen_t *length, int flags) {
+  OWN(accept4);
+  if (++accepts != failing_accept) return own(fd, from, length, flags);
+  errno = EMFILE;
+  return -1;
+}

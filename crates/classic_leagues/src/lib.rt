@@ -10,6 +10,3 @@ pub use classic_table::table;
 pub use league::{Ids, League};
 pub use leagues::Leagues;
 pub use rule_book::{LeagueKind, Ranked};
-
-#[cfg(test)]
-mod tests;

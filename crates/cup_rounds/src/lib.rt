@@ -15,6 +15,3 @@ pub use laws::{
 pub use rule_book::{Bracket, Coins, Side, Slots};
 pub use shape::{coin, rounds};
 pub use ties::tie;
-
-#[cfg(test)]
-mod tests;

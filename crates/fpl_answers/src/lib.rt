@@ -13,6 +13,3 @@ mod views;
 
 pub use answers::answer_text;
 pub use texts::{caller_text, key_text, malformed_text, method_text, unknown_text};
-
-#[cfg(test)]
-mod tests;

@@ -10,6 +10,3 @@ pub mod status;
 pub use asking::{ask, ask_at};
 pub use printing::{halted, print};
 pub use report::reported;
-
-#[cfg(test)]
-mod tests;

@@ -30,8 +30,4 @@ pub use real::{Reading, SystemClock, Writing};
 pub use records::{Bytes, Op, RecordKey};
 pub use rule::Rule;
 pub use steps::Steps;
-
-#[cfg(test)]
-mod tests;
-
 pub use text::{Code, Key, Name, Text};

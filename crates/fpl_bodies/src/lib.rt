@@ -6,8 +6,6 @@ mod field;
 mod lists;
 mod members;
 mod requests;
-#[cfg(test)]
-mod tests;
 
 pub use field::{FieldName, ReadFault};
 pub use json_tree::Scratch;

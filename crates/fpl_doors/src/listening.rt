@@ -16,8 +16,8 @@ const FAREWELL: u64 = 500;
 
 const PIECES: usize = 256;
 
-/// A port of 127.0.0.1, whose connections are taken one after another. The listener is bound at the first call of `next`,
-/// unless it was handed in. A connection on which nothing moves for 60 seconds fails.
+/// A port of 127.0.0.1, whose connections are taken one after another. The listener is bound at the first call of `next`.
+/// A connection on which nothing moves for 60 seconds fails.
 #[derive(Drop)]
 pub struct Listening<'a, R: Net> {
     rt: &'a R,
@@ -33,16 +33,6 @@ impl<'a, R: Net> Listening<'a, R> {
             rt,
             port,
             listener: None,
-            faults: 0,
-        }
-    }
-
-    /// Doors over a listener that is bound already.
-    pub fn over(rt: &'a R, listener: R::Listener) -> Self {
-        Listening {
-            rt,
-            port: 0,
-            listener: Some(listener),
             faults: 0,
         }
     }

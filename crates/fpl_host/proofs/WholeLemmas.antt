@@ -1,5 +1,5 @@
 -- From a lawful book no reply of a run is 500, and its last book is lawful.
-use Rattle.std.proofs.Common.{◌≡◌, ◌⊎◌, ℕ, zero, suc, List, Option, inl, inr, refl, sym, subst}
+use Rattle.std.proofs.Common.{ℕ, zero, suc, List, Option, inl, inr, sym, subst}
 use Rattle.fpl_base.specs.Keeping.{Map}
 use Rattle.fpl_base.specs.Moments.{Moments}
 use Rattle.season_book.specs.Book.{Book}

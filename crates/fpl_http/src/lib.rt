@@ -13,6 +13,3 @@ mod responses;
 pub use decoder::{Decoder, Message, Next};
 pub use laws::{fronts_stay, two_readings_are_one};
 pub use responses::{Reply, append_response, memory_response};
-
-#[cfg(test)]
-mod tests;

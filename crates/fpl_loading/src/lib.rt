@@ -5,8 +5,6 @@
 mod faults;
 mod files;
 mod loading;
-#[cfg(test)]
-mod tests;
 
 pub use faults::unloaded;
 pub use files::{LoadFault, ordered_by};

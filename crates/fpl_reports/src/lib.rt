@@ -13,8 +13,6 @@ mod report;
 mod rows;
 mod season_report;
 mod tables;
-#[cfg(test)]
-mod tests;
 
 pub use folder::{FileFault, season_files};
 pub use laws::season_files_say_once;

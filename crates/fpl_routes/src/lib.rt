@@ -4,8 +4,6 @@
 mod laws;
 mod route;
 mod routes;
-#[cfg(test)]
-mod tests;
 
 pub use laws::targets_ask_one_thing;
 pub use route::{Asks, Callers, CommandRoute, Found, Route, ViewRoute};

@@ -17,6 +17,3 @@ pub use ending::Ending;
 pub use laws::{Answering, Standing, Staying, sessions_lift, sessions_split, sessions_stay};
 pub use opening::session;
 pub use service::Service;
-
-#[cfg(test)]
-mod tests;

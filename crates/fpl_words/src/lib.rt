@@ -4,8 +4,6 @@
 mod laws;
 mod options;
 mod orders;
-#[cfg(test)]
-mod tests;
 mod values;
 mod words;
 

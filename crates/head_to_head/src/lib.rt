@@ -15,6 +15,3 @@ pub use laws::{
 pub use matches::{average, head_score, result};
 pub use rounds::opponent;
 pub use rule_book::{HeadRanked, HeadScore, Opponent};
-
-#[cfg(test)]
-mod tests;

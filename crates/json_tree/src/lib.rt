@@ -4,8 +4,6 @@
 
 mod number;
 mod parser;
-#[cfg(test)]
-mod tests;
 mod tree;
 
 pub use json::Scratch;

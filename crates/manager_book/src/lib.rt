@@ -17,6 +17,3 @@ pub use laws::rows_refuse_alike;
 pub use manager::Manager;
 pub use rule_book::{Pick, Sale, Swap, Team};
 pub use transfer_book::Sales;
-
-#[cfg(test)]
-mod tests;

@@ -11,8 +11,6 @@ mod reads;
 mod sheet;
 mod sheets;
 mod table;
-#[cfg(test)]
-mod tests;
 
 pub use facts::MatchFacts;
 pub use judge::{judge_lock, judge_sheet};

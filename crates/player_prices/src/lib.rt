@@ -7,6 +7,3 @@ mod prices;
 pub use players::{Players, judge_price};
 pub use prices::selling_price;
 pub use rule_book::Player;
-
-#[cfg(test)]
-mod tests;

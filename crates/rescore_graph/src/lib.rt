@@ -11,8 +11,6 @@ mod max_node;
 mod nodes;
 mod rules;
 mod settle;
-#[cfg(test)]
-mod tests;
 
 pub use cells::{Cells, Slot};
 pub use laws::{replay_is_one, replay_is_own};

@@ -16,8 +16,3 @@ mod transfer_rules;
 pub use judging::judge;
 pub use laws::{judged_entries_are_restored, lawful_entries_are_restored};
 pub use stored::Stored;
-
-#[cfg(test)]
-mod entry_tests;
-#[cfg(test)]
-mod tests;

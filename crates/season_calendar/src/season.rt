@@ -440,6 +440,3 @@ fn place_of(fixtures: &[Fixture], f: FixtureId) -> Result<usize, usize>
 {
     fixtures.binary_search_by_key(&f, |fixture| fixture.id)
 }
-
-#[cfg(test)]
-mod tests;

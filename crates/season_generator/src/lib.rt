@@ -8,7 +8,5 @@ mod made;
 mod places;
 mod sheets;
 mod squads;
-#[cfg(test)]
-mod tests;
 
 pub use made::{MadeUpSeason, STEPS, Step};

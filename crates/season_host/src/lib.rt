@@ -3,7 +3,5 @@
 
 mod accepting;
 mod house;
-#[cfg(test)]
-mod tests;
 
 pub use house::{Answered, House};

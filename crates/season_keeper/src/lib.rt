@@ -9,6 +9,3 @@ mod store;
 
 pub use file_keeper::FileKeeper;
 pub use sql_keeper::SqlKeeper;
-
-#[cfg(test)]
-mod tests;

@@ -46,18 +46,6 @@ impl<S: Alter> SqlKeeper<S> {
         }
     }
 
-    /// The connection, which it holds no longer.
-    pub fn into_connection(self) -> Connection<S>
-        ensures { result ≡ self.conn }
-    {
-        let SqlKeeper {
-            conn,
-            faults: _,
-            ready: _,
-        } = self;
-        conn
-    }
-
     // Counts a fault, unless memory ran out.
     fn fault(&mut self, error: Option<Error>) -> KeeperFault
         ensures later { self.old.faults ≤ self.new.faults }

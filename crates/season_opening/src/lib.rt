@@ -7,6 +7,3 @@ mod loading;
 
 pub use laws::{empty_book_is_keepable, loaded_rows_stand};
 pub use loading::{OpenFault, loaded};
-
-#[cfg(test)]
-mod tests;

@@ -4,6 +4,3 @@
 mod books;
 
 pub use books::{Restored, books_of};
-
-#[cfg(test)]
-mod tests;

@@ -8,6 +8,3 @@ mod squad;
 pub use lineup::{check_lineup, enough_is_formation, formation_ok};
 pub use rule_book::{Pick, Team};
 pub use squad::{check_squad, first_repeat, players_of, positions_of};
-
-#[cfg(test)]
-mod tests;

@@ -15,6 +15,3 @@ pub use eleven::{elevens_are_legal, enough_for_elevens, final_eleven, has_one_el
 pub use laws::{final_eleven_is_the_one, score_is_the_one, scores_are_in_range};
 pub use rule_book::{Armband, Eleven, Figures, TeamScore};
 pub use score::team_score;
-
-#[cfg(test)]
-mod tests;

@@ -12,6 +12,3 @@ pub use batch::apply;
 pub use free::{cost, free_after};
 pub use rule_book::{Sale, Swap};
 pub use sales::Sales;
-
-#[cfg(test)]
-mod tests;

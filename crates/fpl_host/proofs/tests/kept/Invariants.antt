@@ -1,4 +1,0 @@
-use Rattle.fpl_host.proofs.tests.kept.Given as goal
-
-abbrev pub ghosts-ran : goal.ghosts-ran
-ghosts-ran a = record { name = a.blank.name; parts = a.blank.parts }
