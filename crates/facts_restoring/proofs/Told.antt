@@ -9,7 +9,8 @@ use Rattle.fpl_base.specs.Keeping.{KeysRise, map_of}
 use Rattle.fpl_base.specs.declared.rule.Rule.TheVariants as rule
 use Rattle.rule_book.specs.Calendar.{deadlines_order, first_out_of_order, fixture_of}
 use Rattle.rule_book.specs.Figures.{line_range}
-use Rattle.season_book.specs.Commands.{has_fixture}
+use Rattle.rule_book.specs.Players.{player_of}
+use Rattle.season_book.specs.Commands.{has_fixture, has_player}
 use Rattle.record_codec.specs.Commands.{is_between}
 use Rattle.record_codec.specs.ItemReading.{item_of}
 use Rattle.record_codec.specs.Items.{key_of_item, slot_of_item}
@@ -142,8 +143,8 @@ module _ (rows : Rows) (t : Terms) (terms : AreTerms rows t) where
 
     -- The facts are whole.
 
-    abbrev pub has : ℕ → Bool
-    has f = is_there (map_of rows) (slot.Fixture f)
+    abbrev pub has : Slot → Bool
+    has s = is_there (map_of rows) s
 
     some_from : {A B : Type 0} (f : A → Option B) (o : Option A) (y : B) → option_and_then f o ≡ Some y → is_some o ≡ true
     some_from f None y e = absurd (none-some y e)
@@ -155,7 +156,8 @@ module _ (rows : Rows) (t : Terms) (terms : AreTerms rows t) where
     suits (item.Line f p line) at in_range right ids =
         let three = or_parts _ _ right in
         let two = or_parts _ _ three.0 in
-        (ranged_line line (none_is (line_range line) in_range), not-false (has f) (or_parts _ _ two.0).0)
+        let named = or_parts _ _ two.0 in
+        (ranged_line line (none_is (line_range line) in_range), not-false (has (slot.Fixture f)) named.0, not-false (has (slot.Player p)) named.1)
     suits i at in_range right ids = tt
 
     each_suits : (some : Rows) → Each (IsSound rows) some → Each (DoesSuit has) some
@@ -166,9 +168,6 @@ module _ (rows : Rows) (t : Terms) (terms : AreTerms rows t) where
 
     whole : AreWhole has (with_rows (begun t) rows)
     whole = whole_rows has rows (begun t) (whole_begun has t.profile t.deadlines t.split) (each_suits rows each_sound)
-
-    pub kept_facts : AreFacts (with_locked (with_rows (begun t) rows) t.locked)
-    kept_facts = facts_whole has (with_rows (begun t) rows) t.locked whole
 
     -- They tell what the records tell.
 
@@ -196,7 +195,14 @@ module _ (rows : Rows) (t : Terms) (terms : AreTerms rows t) where
     mapped f None e = e
     mapped f (Some x) e = refl
 
-    fixtures_there : (f : ℕ) → has f ≡ true → has_fixture (with_rows (begun t) rows) f ≡ true
+    players_there : (p : ℕ) → has (slot.Player p) ≡ true → has_player (with_rows (begun t) rows) p ≡ true
+    players_there p there =
+        mapped _ (player_of (with_rows (begun t) rows).players p) (ap is_some (tells (slot.Player p) refl refl) ∙ told_there rows (slot.Player p) spelled there)
+
+    pub kept_facts : AreFacts (with_locked (with_rows (begun t) rows) t.locked)
+    kept_facts = facts_whole has (with_rows (begun t) rows) t.locked whole players_there
+
+    fixtures_there : (f : ℕ) → has (slot.Fixture f) ≡ true → has_fixture (with_rows (begun t) rows) f ≡ true
     fixtures_there f there =
         mapped _ (fixture_of (with_rows (begun t) rows).calendar f) (ap is_some (tells (slot.Fixture f) refl refl) ∙ told_there rows (slot.Fixture f) spelled there)
 

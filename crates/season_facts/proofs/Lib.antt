@@ -2,3 +2,4 @@ mod Absent
 mod ClubFacts
 mod Found
 pub mod KeptFacts
+mod StillThere

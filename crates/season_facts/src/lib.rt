@@ -5,6 +5,7 @@ mod begin;
 mod calendar_commands;
 mod commands;
 mod judge;
+mod laws;
 mod match_commands;
 mod parts;
 mod player_commands;

@@ -15,4 +15,5 @@ invariant_of-self c =
       fixture_ids = kept_or_out (λ (x : CalendarFacts). All (λ f. IsId f.id) x.fixtures) (fixture_refusal calendar c.args.fixture) calendar c.add_fixture.new.self (with_fixture calendar c.args.fixture)
           c.self.invariant.fixture_ids (λ _. ids) c.add_fixture.result c.add_fixture.ensures.judged c.add_fixture.ensures.ok c.add_fixture.ensures.err;
       lines_in_range = c.self.invariant.lines_in_range;
+      lines_there = c.self.invariant.lines_there;
     }

@@ -15,4 +15,5 @@ invariant_of-self c =
       fixture_ids = kept_or_out (λ (x : CalendarFacts). All (λ f. IsId f.id) x.fixtures) (move_refusal calendar fixture c.args.gameweek c.args.kickoff c.has_facts-has_facts.result) calendar c.move_fixture.new.self (with_move calendar fixture c.args.gameweek c.args.kickoff)
           c.self.invariant.fixture_ids (λ _. ids) c.move_fixture.result c.move_fixture.ensures.judged c.move_fixture.ensures.ok c.move_fixture.ensures.err;
       lines_in_range = c.self.invariant.lines_in_range;
+      lines_there = c.self.invariant.lines_there;
     }

@@ -1,7 +1,7 @@
 use Rattle.std.proofs.Common.{refl, subst, sym}
 use Rattle.std.specs.List.{All}
 use Rattle.season_facts.specs.Kept.{IsId}
-use Rattle.season_facts.proofs.KeptFacts.{ids_with_change}
+use Rattle.season_facts.proofs.KeptFacts.{AllThere, ids_with_change, there_changed}
 use Rattle.season_facts.proofs.season.Season.set_club.Goals as goal
 
 pub invariant_of-self : goal.invariant_of-self
@@ -10,4 +10,6 @@ invariant_of-self c = record {
       (ids_with_change (λ p. record p { club = c.args.club }) c.self.inside.players c.args.player (λ p. refl) c.self.invariant.player_ids);
   fixture_ids = c.self.invariant.fixture_ids;
   lines_in_range = c.self.invariant.lines_in_range;
+  lines_there = subst (λ new. AllThere new c.self.inside.matches) (sym c.set_club.ensures)
+      (there_changed (λ p. record p { club = c.args.club }) c.self.inside.players c.args.player c.self.inside.matches (λ p. refl) c.self.invariant.lines_there);
 }
