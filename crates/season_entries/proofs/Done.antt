@@ -23,6 +23,7 @@ use Rattle.season_book.specs.Book.{Facts}
 use Rattle.season_book.specs.EntryCommands.{deeds_in}
 use Rattle.season_book.specs.declared.command.Command.{Command}
 use Rattle.season_entries.specs.Deeds.{IsDeedDone, IsInTime, StandWherever, rows_refusal, rows_refused_in}
+use Rattle.season_entries.specs.Earlier.{RowsStayBefore, rows_before}
 use Rattle.season_entries.specs.Entries.{AreSold}
 use Rattle.season_entries.proofs.Placing.{have_positions}
 
@@ -58,17 +59,22 @@ unrefused (Err rule) judged none done = let x : Some rule ≡ None = sym judged 
 in_time : (next : Option ℕ) (old new : List Row) (g : ℕ) → next ≡ Some g → (AllUpTo g old → AllUpTo g new) → IsInTime next old → IsInTime next new
 in_time next old new g e f = subst (λ o. IsInTime o old → IsInTime o new) (sym e) f
 
+stay_before : (next : Option ℕ) (e : ℕ) (old new : Managers) (g : ℕ) → next ≡ Some g → rows_before g (season_of new e) ≡ rows_before g (season_of old e) → RowsStayBefore next e old new
+stay_before next e old new g is same = subst (λ (o : Option ℕ). RowsStayBefore o e old new) (sym is) same
+
 -- a command was done, where its rows and sales stand for what its deeds add in the next gameweek
 pub deed_done : (facts : Facts) (e : ℕ) (command : Command) (old new : Managers) → rows_refusal facts (season_of old e) command ≡ None → IsSameBut e old new
     → ((g : ℕ) → next_gameweek facts.calendar ≡ Some g → AllUpTo g (season_of old e) → AllUpTo g (season_of new e))
+    → ((g : ℕ) → next_gameweek facts.calendar ≡ Some g → rows_before g (season_of new e) ≡ rows_before g (season_of old e))
     → ((g : ℕ) (h : List Event) → next_gameweek facts.calendar ≡ Some g → StandWherever facts.players (season_of old e) h → StandWherever facts.players (season_of new e) (h ++ in_gameweek g (deeds_in facts h command g)))
     → ((g : ℕ) (h : List Event) → next_gameweek facts.calendar ≡ Some g → StandWherever facts.players (season_of old e) h → AreSold (sales_of old e) h → AreSold (sales_of new e) (h ++ in_gameweek g (deeds_in facts h command g)))
     → IsDeedDone facts e command old new
-deed_done facts e command old new granted same up stand sold =
+deed_done facts e command old new granted same up before stand sold =
     let n = next_there (next_gameweek facts.calendar) (rows_refused_in facts (season_of old e) command) granted in
     record {
       same = same;
       later = in_time (next_gameweek facts.calendar) (season_of old e) (season_of new e) n.0 n.1 (up n.0 n.1);
+      earlier = stay_before (next_gameweek facts.calendar) e old new n.0 n.1 (before n.0 n.1);
       goes_on = λ h st. subst (λ (o : Option ℕ). StandWherever facts.players (season_of new e) (h ++ option_map_or (λ g. in_gameweek g (deeds_in facts h command g)) o [])) (sym n.1) (stand n.0 h n.1 st);
       sold = λ h st are. subst (λ (o : Option ℕ). AreSold (sales_of new e) (h ++ option_map_or (λ g. in_gameweek g (deeds_in facts h command g)) o [])) (sym n.1) (sold n.0 h n.1 st are);
     }

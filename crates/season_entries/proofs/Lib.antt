@@ -2,6 +2,7 @@ pub mod Times
 pub mod Placing
 pub mod Books
 pub mod Sales
+pub mod Earlier
 pub mod Done
 pub mod After
 pub mod Keyed

@@ -1,7 +1,6 @@
 -- The sales of a history, as deeds are added.
-use Rattle.std.proofs.Common.{◌≡◌, ◌+◌, ◌++◌, ◌∷◌, [], ℕ, suc, Bool, true, false, cond, ◌&&◌, List, length, map, nat_eq, refl, sym, ap, ◌∙◌, subst}
+use Rattle.std.proofs.Common.{◌≡◌, ◌++◌, ◌∷◌, [], ℕ, suc, Bool, true, false, cond, ◌&&◌, List, length, map, nat_eq, refl, sym, ap, ◌∙◌}
 use Rattle.std.proofs.lemmas.List.{append_assoc, append-nil}
-use Rattle.rule_book.specs.declared.player.Player.{Player}
 use Rattle.rule_book.specs.declared.transfers.Sale.{Sale}
 use Rattle.rule_book.specs.EntryRecords.{sales_in, sold_by, sold_in}
 use Rattle.rule_book.specs.History.{Deed, Event, in_gameweek}
@@ -10,9 +9,7 @@ use Rattle.rule_book.specs.HistoryTransfers.{is_swap, swaps_in}
 use Rattle.rule_book.specs.PlayerFigures.{position_in}
 use Rattle.season_ledger.specs.Stands.{RowsAlwaysTell}
 use Rattle.manager_book.specs.Calls.{with_gameweek}
-use Rattle.manager_book.specs.declared.manager.Manager.{Manager}
-use Rattle.season_book.specs.Book.{EntryFacts}
-use Rattle.season_entries.specs.Entries.{AreSold, IsEntry}
+use Rattle.season_entries.specs.Entries.{AreSold}
 use Rattle.season_entries.specs.EntryLaws.{RowsCountSales}
 use Rattle.season_entries.proofs.Placing.{have_positions}
 

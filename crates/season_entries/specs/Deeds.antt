@@ -21,6 +21,7 @@ use Rattle.season_book.specs.declared.answer.Answer.{Answer}
 use Rattle.season_book.specs.declared.answer.Answer.TheVariants as answer
 use Rattle.season_book.specs.declared.command.Command.{Command}
 use Rattle.season_book.specs.declared.command.Command.TheVariants as command
+use Rattle.season_entries.specs.Earlier.{RowsStayBefore}
 use Rattle.season_entries.specs.Entries.{AreEntries, AreSold}
 
 -- What refuses a command.
@@ -75,10 +76,11 @@ abbrev pub StandWherever : List Player → List Row → List Event → Type 0
 StandWherever players rows h = (position : ℕ → Position) → HavePositions position players → StandsFor position rows h
 
 -- a command of entry e was done: other entries stay, as keys and names do, nothing was done later than the next gameweek,
--- and rows and sales stand for what the history goes on to
+-- the rows of all earlier ones stay, and rows and sales stand for what the history goes on to
 pub record IsDeedDone (facts : Facts) (e : ℕ) (command : Command) (old new : Managers) : Type 0 where
   pub same : IsSameBut e old new
   pub later : IsInTime (next_gameweek facts.calendar) (season_of old e) → IsInTime (next_gameweek facts.calendar) (season_of new e)
+  pub earlier : RowsStayBefore (next_gameweek facts.calendar) e old new
   pub goes_on : (h : List Event) → StandWherever facts.players (season_of old e) h
       → StandWherever facts.players (season_of new e) (history_after facts h command)
   pub sold : (h : List Event) → StandWherever facts.players (season_of old e) h

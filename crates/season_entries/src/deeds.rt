@@ -6,6 +6,7 @@ ghost use Rattle.season_book.specs.Commands.{IsCommand, part_of};
 ghost use Rattle.season_book.specs.declared.command.Command.TheVariants as command;
 ghost use Rattle.season_book.specs.declared.part.Part.TheVariants as part;
 ghost use Rattle.season_entries.specs.Deeds.{AreInTime, IsDeedDone, IsDeedGranted, StandForBooksAfter};
+ghost use Rattle.season_entries.specs.Earlier.{RowsStayBefore};
 
 use fpl_base::{Chip, EntryId, Memory, PlayerId, Refused};
 use manager_book::{ManagerBook, rows_refuse_alike};
@@ -156,7 +157,8 @@ fn do_by_rows(
 }
 
 /// Does a command of entry `e`'s manager that nothing refuses, as `judge_deed` says; unchanged where memory is wanting.
-/// The managers then stand for each book for which they stood, with his history behind the command.
+/// The managers then stand for each book for which they stood, with his history behind the command. His rows of the
+/// gameweeks before the next one stay.
 pub fn do_deed(
     season: &Season,
     managers: &mut ManagerBook,
@@ -170,6 +172,7 @@ pub fn do_deed(
     requires granted { IsDeedGranted season.now (season_of managers.old e) command.now }
     ensures later { AreInTime (next_gameweek season.now.calendar) managers.new.managers }
     ensures others { IsSameBut e managers.old managers.new }
+    ensures earlier { RowsStayBefore (next_gameweek season.now.calendar) e managers.old managers.new }
     ensures books { OnOk result (StandForBooksAfter season.now e command.now managers.old.managers managers.new.managers) }
     ensures err { OnErr result (managers.new ≡ managers.old) }
 {

@@ -1,4 +1,5 @@
 // What follows from the definitions alone.
+ghost use Rattle.season_entries.specs.Earlier.{EarlierRowsTell};
 ghost use Rattle.season_entries.specs.EntryLaws.{EarlyIsInTime, EntriesAreIssued, FactsLeaveEntries, InTimeIsEarly, ManagersOwnTheirKeys, MomentsLeaveEntries, OwnersAreAlike, RowsCountSales};
 ghost use Rattle.season_entries.specs.Known.{EntriesAreKnown};
 
@@ -48,3 +49,9 @@ pub fn rows_count_sales()
     // The law that rows always tell, for the prover.
     rows_tell();
 }
+
+/// A law: rows that are the same before a gameweek tell the same of each gameweek before it: the team that stands, whether
+/// the entry has begun, and what its transfers cost. So a manager's command leaves all that is told of locked gameweeks.
+pub fn earlier_rows_tell()
+    ensures { EarlierRowsTell }
+{}

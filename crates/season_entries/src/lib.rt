@@ -11,6 +11,6 @@ pub use deeds::do_deed;
 pub use judge::judge_deed;
 pub use keys::{do_key, judge_key};
 pub use laws::{
-    early_is_in_time, entries_are_issued, entries_are_known, facts_leave_entries,
-    moments_leave_entries, owners_are_alike, rows_count_sales,
+    earlier_rows_tell, early_is_in_time, entries_are_issued, entries_are_known,
+    facts_leave_entries, moments_leave_entries, owners_are_alike, rows_count_sales,
 };

@@ -1,4 +1,5 @@
 pub mod AnswerFacts
+pub mod ChangedFacts
 pub mod HostFacts
 pub mod LastFacts
 pub mod MoneyFacts

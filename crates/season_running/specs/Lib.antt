@@ -1,3 +1,4 @@
 pub mod Accepting
+pub mod Changed
 pub mod EntryLaws
 pub mod Standing

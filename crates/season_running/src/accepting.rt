@@ -1,8 +1,9 @@
 // A command that is done, and kept as its caller's last one.
-ghost use Rattle.std.specs.Prelude.{ℕ, IfErr};
+ghost use Rattle.std.specs.Prelude.{ℕ, IfErr, OnOk};
 ghost use Rattle.season_book.specs.Commands.{IsCommand};
 ghost use Rattle.season_book.specs.Doing.{IsStoreless};
 ghost use Rattle.season_running.specs.Accepting.{IsBegun, IsGrantedTo, IsKept, IsTakenOrOut};
+ghost use Rattle.season_running.specs.Changed.{IsChangedBy};
 
 use crate::lasts::{LastCommand, Lasts};
 use crate::running::RunningSeason;
@@ -24,7 +25,8 @@ pub fn change(
 ) -> Result<Made, Memory>
     requires read { IsCommand command.now }
     requires granted { IsGrantedTo running.old caller.now now command.now }
-    ensures { IsTakenOrOut caller.now now number command.now running.old running.new lasts.old lasts.new result }
+    ensures taken { IsTakenOrOut caller.now now number command.now running.old running.new lasts.old lasts.new result }
+    ensures changed { OnOk result (IsChangedBy caller.now command.now running.old running.new) }
 {
     let made = running.made_by(command);
     let before = keep(lasts, caller, number, command, &made)?;

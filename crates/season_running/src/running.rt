@@ -17,6 +17,7 @@ ghost use Rattle.season_entries.specs.Deeds.{IsDeedGranted};
 ghost use Rattle.season_entries.specs.Keys.{keys_of};
 ghost use Rattle.season_book.specs.Hosts.{entry_with};
 ghost use Rattle.season_running.specs.Accepting.{HasRoom, IsDone, IsGrantedTo, IsRefusal, IsRuled, made_by};
+ghost use Rattle.season_running.specs.Changed.{IsChangedBy};
 ghost use Rattle.season_running.specs.EntryLaws.{IsOrderly};
 ghost use Rattle.season_running.specs.Standing.{InStep, Plays};
 
@@ -250,11 +251,13 @@ impl RunningSeason {
         }
     }
 
-    /// Does a command that nothing refuses at this moment, as `judge` says; unchanged where memory is wanting.
+    /// Does a command that nothing refuses at this moment, as `judge` says; unchanged where memory is wanting. It changes its
+    /// own part of the season alone.
     pub fn change(&mut self, caller: &Caller, now: Moment, command: &Command) -> Result<(), Memory>
         requires read { IsCommand command.now }
         requires granted { IsGrantedTo self.old caller.now now command.now }
         ensures done { OnOk result (IsDone caller.now now command.now self.old self.new) }
+        ensures changed { OnOk result (IsChangedBy caller.now command.now self.old self.new) }
         ensures err { OnErr result (self.new ≡ self.old) }
     {
         match command.part() {
@@ -276,6 +279,7 @@ impl RunningSeason {
         requires facts { part_of command.now ≡ part.Facts }
         requires granted { IsGranted self.old.facts now command.now }
         ensures done { OnOk result (IsDone caller.now now command.now self.old self.new) }
+        ensures changed { OnOk result (IsChangedBy caller.now command.now self.old self.new) }
         ensures err { OnErr result (self.new ≡ self.old) }
     {
         // The law that the entries stay, for the prover.
@@ -288,6 +292,7 @@ impl RunningSeason {
         requires made { part_of command.now ≡ part.Entries }
         requires granted { HasRoom self.old.managers command.now }
         ensures done { (now : ℕ) (caller : Caller) → OnOk result (IsDone caller now command.now self.old self.new) }
+        ensures changed { (caller : Caller) → OnOk result (IsChangedBy caller command.now self.old self.new) }
         ensures err { OnErr result (self.new ≡ self.old) }
     {
         // The law that the members of leagues are entries, for the prover.
@@ -307,6 +312,7 @@ impl RunningSeason {
         requires deed { part_of command.now ≡ part.Deeds }
         requires granted { (1 ≤ caller_number caller.now) × (caller_number caller.now ≤ length self.old.managers) × IsDeedGranted self.old.facts (manager_in self.old.managers (caller_number caller.now)).season command.now }
         ensures done { (now : ℕ) → OnOk result (IsDone caller.now now command.now self.old self.new) }
+        ensures changed { OnOk result (IsChangedBy caller.now command.now self.old self.new) }
         ensures err { OnErr result (self.new ≡ self.old) }
     {
         // The laws on which entries are there, when their managers act, and who is in leagues, for the prover.
@@ -324,6 +330,7 @@ impl RunningSeason {
         requires part { part_of command.now ≡ part.Leagues }
         requires granted { IsLeagueGranted self.old.facts self.old.managers self.old.leagues (caller_number caller.now) command.now }
         ensures done { (now : ℕ) → OnOk result (IsDone caller.now now command.now self.old self.new) }
+        ensures changed { OnOk result (IsChangedBy caller.now command.now self.old self.new) }
         ensures err { OnErr result (self.new ≡ self.old) }
     {
         // The law that its members are entries, for the prover.
@@ -342,6 +349,7 @@ impl RunningSeason {
         requires part { part_of command.now ≡ part.Cups }
         requires granted { IsCupGranted self.old.facts self.old.cups command.now }
         ensures done { (now : ℕ) (caller : Caller) → OnOk result (IsDone caller now command.now self.old self.new) }
+        ensures changed { (caller : Caller) → OnOk result (IsChangedBy caller command.now self.old self.new) }
         ensures err { OnErr result (self.new ≡ self.old) }
     {
         do_cup(&self.season, &mut self.cups, command)

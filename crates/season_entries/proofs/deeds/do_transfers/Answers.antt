@@ -14,6 +14,7 @@ use Rattle.season_book.specs.declared.command.Command.TheVariants as command
 use Rattle.season_entries.specs.Deeds.{StandWherever}
 use Rattle.season_entries.specs.Entries.{AreSold}
 use Rattle.season_entries.proofs.Done.{deed_done, sold_alike, up_to_row}
+use Rattle.season_entries.proofs.Earlier.{before_row}
 use Rattle.season_entries.proofs.Sales.{sold_on}
 use Rattle.season_entries.proofs.Times.{in_time_at}
 use Rattle.season_entries.proofs.deeds.do_transfers.Goals as goal
@@ -34,6 +35,7 @@ returns-in-Ok-clause-done c =
     sold_alike c.rows_refuse_alike.ensures facts.players c.args.swaps.now c.in-Ok.field-0.1 old new g h are st m in
     deed_done facts e (command.Transfers c.args.swaps.now) c.args.managers.now c.transfer.new.self c.requires.granted.unbroken c.in-Ok.ensures.others
     (λ g n up. let m = c.in-Ok.ensures.moves g (next ∙ n) in up_to_row old new g (record { made = used_by old g + length c.in-Ok.field-0.1; team = m.after }) m.rows up)
+    (λ g n. let m = c.in-Ok.ensures.moves g (next ∙ n) in before_row old new g (record { made = used_by old g + length c.in-Ok.field-0.1; team = m.after }) m.rows)
     (λ g h n st position have. subst (λ (ds : List Deed). StandsFor position new (h ++ in_gameweek g ds)) (alike g h n st)
     (c.in-Ok.ensures.history position h g (subst (λ (ps : List Player). HavePositions position ps) (sym c.players-2.ensures) have) (st position have) (next ∙ n)))
     (λ g h n st sold. subst (λ (ds : List Deed). AreSold (sales_of c.transfer.new.self e) (h ++ in_gameweek g ds)) (alike g h n st)

@@ -1,7 +1,9 @@
 use Rattle.std.proofs.Common.{◌∙◌, Some, length, refl, subst, sym}
 use Rattle.season_running.specs.Accepting.{HasRoom, IsDone}
+use Rattle.season_running.specs.Changed.{IsChangedBy}
 use Rattle.season_running.specs.Standing.{Running}
 use Rattle.season_book.specs.EntryViews.{gameweek_seen}
+use Rattle.season_running.proofs.ChangedFacts.{key_changed}
 use Rattle.season_running.proofs.RuledFacts.{key_done, profile_stays, same_many}
 use Rattle.season_running.proofs.StepFacts.{not_fewer}
 use Rattle.season_running.proofs.running.RunningSeason.add_entry.Goals as goal
@@ -32,5 +34,18 @@ returns-after-do_key-clause-done c = λ now caller.
           (same_many before.facts.players before.managers book.entries plays.entries)
           (w.in-Ok.ensures.books before.facts.players book.entries plays.entries) ok) in
           rw w.result-is done
+      | in-Err w ↦ rw w.result-is tt
+    ]
+
+pub returns-after-do_key-clause-changed : goal.returns-after-do_key-clause-changed
+returns-after-do_key-clause-changed c = λ caller.
+    let facts = c.self.inside.season in
+    let after : Running = record { facts = facts; managers = c.do_key.new.managers.managers; leagues = c.self.inside.leagues; cups = c.self.inside.cups } in
+    elim c.match-do_key.branch [
+      | in-Ok w ↦
+          let changed : IsChangedBy caller c.args.command.now c.args.self.now after =
+          subst (λ (r : Running). IsChangedBy caller c.args.command.now r after) c.self.view_is
+          (key_changed caller c.args.command.now facts c.self.inside.leagues c.self.inside.cups c.self.inside.managers c.do_key.new.managers c.in-Key.key c.in-Key.name c.in-Key.is w.in-Ok.ensures.rows) in
+          rw w.result-is changed
       | in-Err w ↦ rw w.result-is tt
     ]

@@ -1,7 +1,9 @@
 use Rattle.std.proofs.Common.{ap, subst, sym}
 use Rattle.season_book.specs.Doing.{IsGranted}
 use Rattle.season_running.specs.Accepting.{IsDone}
+use Rattle.season_running.specs.Changed.{IsChangedBy}
 use Rattle.season_running.specs.Standing.{Running}
+use Rattle.season_running.proofs.ChangedFacts.{facts_changed}
 use Rattle.season_running.proofs.RuledFacts.{facts_done, on_ok}
 use Rattle.season_running.proofs.running.RunningSeason.change_facts.Goals as goal
 
@@ -14,3 +16,10 @@ returns-clause-done c =
     on_ok c.change.result c.change.ensures.ok (λ same. subst (λ (r : Running). IsDone c.args.caller.now c.args.now c.args.command.now r after) c.self.view_is
     (λ operator book plays ok. facts_done operator book c.args.caller.now c.args.now c.args.command.now before plays after c.facts_leave_entries.ensures c.requires.facts granted
     (ap (λ f. let r : Running = record { facts = f; managers = managers; leagues = c.self.inside.leagues; cups = c.self.inside.cups } in r) same)))
+
+pub returns-clause-changed : goal.returns-clause-changed
+returns-clause-changed c =
+    let before : Running = record { facts = c.self.inside.season; managers = c.self.inside.managers.managers; leagues = c.self.inside.leagues; cups = c.self.inside.cups } in
+    let after : Running = record before { facts = c.change.new.self } in
+    on_ok c.change.result c.change.ensures.ok (λ same. subst (λ (r : Running). IsChangedBy c.args.caller.now c.args.command.now r after) c.self.view_is
+    (facts_changed c.args.caller.now c.args.command.now before c.change.new.self c.requires.facts same))

@@ -4,7 +4,9 @@ use Rattle.rule_book.specs.Calendar.{next_gameweek}
 use Rattle.manager_book.specs.Managers.{manager_in}
 use Rattle.season_entries.specs.Deeds.{IsDeedGranted, rows_refused_in}
 use Rattle.season_running.specs.Accepting.{IsDone}
+use Rattle.season_running.specs.Changed.{IsChangedBy}
 use Rattle.season_running.specs.Standing.{Running}
+use Rattle.season_running.proofs.ChangedFacts.{deed_changed}
 use Rattle.season_running.proofs.RuledFacts.{deed_done, on_ok}
 use Rattle.season_running.proofs.StepFacts.{as_many, open_then}
 use Rattle.season_running.proofs.running.RunningSeason.do_deed.Goals as goal
@@ -20,6 +22,14 @@ returns-in-Entry-clause-done c = λ now.
     on_ok c.do_deed.result c.do_deed.ensures.books (λ stand. subst (λ (r : Running). IsDone c.args.caller.now now c.args.command.now r after) c.self.view_is
     (λ operator book plays ok. deed_done operator book c.args.caller.now now c.args.command.now before plays after c.entries_are_issued.ensures c.in-Entry.entry
     c.requires.deed number one few refl refl refl stand ok))
+
+pub returns-in-Entry-clause-changed : goal.returns-in-Entry-clause-changed
+returns-in-Entry-clause-changed c =
+    let facts = c.self.inside.season in
+    let after : Running = record { facts = facts; managers = c.do_deed.new.managers.managers; leagues = c.self.inside.leagues; cups = c.self.inside.cups } in
+    on_ok c.do_deed.result c.do_deed.ensures.books (λ stand. subst (λ (r : Running). IsChangedBy c.args.caller.now c.args.command.now r after) c.self.view_is
+    (deed_changed c.args.caller.now c.args.command.now facts c.self.inside.leagues c.self.inside.cups c.self.inside.managers c.do_deed.new.managers c.in-Entry.entry
+    c.requires.deed (ap caller_number c.in-Entry.is) c.do_deed.ensures.others c.do_deed.ensures.earlier))
 
 pub invariant_of-self : goal.invariant_of-self
 invariant_of-self c =

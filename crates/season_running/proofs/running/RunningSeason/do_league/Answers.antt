@@ -2,7 +2,9 @@ use Rattle.std.proofs.Common.{ap, length, subst, sym}
 use Rattle.season_book.specs.Book.{caller_number}
 use Rattle.season_competitions.specs.Leagues.{AreMembers, IsLeagueGranted}
 use Rattle.season_running.specs.Accepting.{IsDone}
+use Rattle.season_running.specs.Changed.{IsChangedBy}
 use Rattle.season_running.specs.Standing.{Running}
+use Rattle.season_running.proofs.ChangedFacts.{leagues_changed}
 use Rattle.season_running.proofs.RuledFacts.{league_done, on_ok}
 use Rattle.season_running.proofs.StepFacts.{either}
 use Rattle.season_running.proofs.running.RunningSeason.do_league.Goals as goal
@@ -14,6 +16,13 @@ returns-clause-done c = λ now.
     on_ok c.do_league.result c.do_league.ensures.done (λ same. subst (λ (r : Running). IsDone c.args.caller.now now c.args.command.now r after) c.self.view_is
     (λ operator book plays ok. league_done operator book c.args.caller.now now c.args.command.now before plays after c.requires.part
     (ap (λ l. let r : Running = record before { leagues = l } in r) same) ok))
+
+pub returns-clause-changed : goal.returns-clause-changed
+returns-clause-changed c =
+    let before : Running = record { facts = c.self.inside.season; managers = c.self.inside.managers.managers; leagues = c.self.inside.leagues; cups = c.self.inside.cups } in
+    let after : Running = record before { leagues = c.do_league.new.leagues } in
+    on_ok c.do_league.result c.do_league.ensures.done (λ same. subst (λ (r : Running). IsChangedBy c.args.caller.now c.args.command.now r after) c.self.view_is
+    (leagues_changed c.args.caller.now c.args.command.now before c.do_league.new.leagues c.requires.part))
 
 pub invariant_of-self : goal.invariant_of-self
 invariant_of-self c =
