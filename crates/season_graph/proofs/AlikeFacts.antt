@@ -1,23 +1,25 @@
 -- Facts that differ in nothing that a node hangs on keep all nodes.
 use Rattle.std.proofs.Common.{◌≡◌, ℕ, ◌&&◌, nat_le, ◌⊎◌, inl, [], Option, Some, None, is_some, refl, sym, ◌∙◌, ap}
-use Rattle.std.specs.List.{filter}
+use Rattle.std.specs.List.{filter, list_all}
 use Rattle.std.specs.Option.{option_map, option_map_or, unwrap_or}
 use Rattle.fpl_base.specs.declared.kinds.Position.{Position}
 use Rattle.fpl_base.specs.declared.kinds.Position.TheVariants.{Keeper}
 use Rattle.rule_book.specs.declared.player.Player.{Player}
-use Rattle.rule_book.specs.Calendar.{standing_among}
-use Rattle.rule_book.specs.MatchFacts.{is_finished, line_of}
+use Rattle.rule_book.specs.Calendar.{standing}
 use Rattle.rule_book.specs.PlayerFigures.{position_in}
 use Rattle.rule_book.specs.Players.{player_of}
 use Rattle.rescore_graph.specs.Graph.{Among}
 use Rattle.rescore_graph.specs.States.{State}
-use Rattle.season_graph.specs.Changes.{AreAlike, Follows, IsKept}
-use Rattle.season_graph.specs.declared.nodes.Node.{Node}
-use Rattle.season_graph.specs.declared.nodes.Node.TheVariants as node
-use Rattle.season_graph.specs.declared.nodes.Value.{Value}
-use Rattle.season_graph.specs.Season.{SeasonFacts, IsSeason, is_live, players_of}
-use Rattle.season_graph.proofs.ChangedFacts.{change_sound}
+use Rattle.season_graph.specs.Changes.{AreAlike, Follows, IsKept, MarksTouched}
+use Rattle.season_nodes.specs.declared.nodes.Node.{Node}
+use Rattle.season_nodes.specs.declared.nodes.Node.TheVariants as node
+use Rattle.season_nodes.specs.declared.nodes.Value.{Value}
+use Rattle.season_nodes.specs.Season.{SeasonFacts, IsSeason, has_line, is_live}
+use Rattle.season_nodes.specs.Reading.{filter_local}
+use Rattle.season_nodes.proofs.RisingFacts.{players_same}
+use Rattle.season_graph.proofs.ChangedFacts.{change_exact, change_sound, some_lines}
 use Rattle.season_graph.proofs.RefreshedFacts.{refreshed_nothing}
+use Rattle.season_graph.proofs.TeamFacts.{team_kept}
 
 abbrev place : Option Player → Option Position
 place o = option_map (λ x. x.position) o
@@ -37,10 +39,18 @@ module _ (b d : SeasonFacts) (c : AreAlike b d) where
   position_same : (q : ℕ) → position_in b.players q ≡ position_in d.players q
   position_same q = place_or (player_of b.players q) ∙ ap (λ o. unwrap_or o Keeper) (c.positions q) ∙ sym (place_or (player_of d.players q))
 
-  pub alike_kept : (n : Node) → IsKept b d n ⊎ Among [] n
-  alike_kept (node.Line f p) = inl (ap (λ m. is_some (line_of m f p)) c.matches, λ l. (ap (λ m. line_of m f p) c.matches, c.profile, position_same p))
-  alike_kept (node.Bonus f) = inl (ap (λ m. is_live (record b { matches = m }) (node.Bonus f)) c.matches, λ l. (ap (λ m. players_of (record b { matches = m }) f) c.matches, ap (λ m. is_finished m f) c.matches))
-  alike_kept (node.PlayerGw p g) = inl ((λ i. player_there p i && (nat_le 1 g && nat_le g (c.locked i))), λ l. λ i. filter (λ f. is_some (line_of (c.matches i) f p)) (standing_among (c.fixtures i) g))
+  module _ (is_b : IsSeason b) (is_d : IsSeason d) where
+    alike_kept : (n : Node) → IsKept b d n ⊎ Among [] n
+    alike_kept (node.Line f p) = inl (ap is_some (c.lines f p), λ l. (c.lines f p, c.profile, position_same p))
+    alike_kept (node.Bonus f) = let same = players_same b d is_b is_d f (λ q. ap is_some (c.lines f q)) in inl (some_lines b d f same, λ l. (same, c.marks f))
+    alike_kept (node.PlayerGw p g) = inl (
+      (λ i. player_there p i && (nat_le 1 g && nat_le g (c.locked i))),
+      λ l. filter_local (has_line b p) (has_line d p) (standing b.calendar g) (λ f a. ap is_some (c.lines f p)) ∙ ap (filter (has_line d p)) (c.stand g),
+    )
+    alike_kept (node.TeamGw e g) = inl (team_kept b d c.entries e g (ap (nat_le g) c.locked) (λ i. list_all (λ f. c.marks f i) (c.stand g i)) (λ q a. player_there q))
 
-  pub alike_follows : IsSeason b → IsSeason d → (s : State Node Value) → Follows b d s s
-  alike_follows is_b is_d s sound = change_sound b d is_b is_d [] alike_kept s s sound (refreshed_nothing (is_live d) s)
+    pub alike_follows : (s : State Node Value) → Follows b d s s
+    alike_follows s sound = change_sound b d is_b is_d [] alike_kept s s sound (refreshed_nothing (is_live d) s)
+
+    pub alike_marks : (s : State Node Value) → MarksTouched b d s s
+    alike_marks s sound = change_exact b d is_b is_d [] alike_kept s s sound (refreshed_nothing (is_live d) s) (λ n a. absurd a)

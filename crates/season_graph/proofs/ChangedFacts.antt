@@ -1,5 +1,5 @@
 -- What one change of the facts touches, and that it leaves everything else as it was.
-use Rattle.std.proofs.Common.{◌≡◌, ◌≢◌, ℕ, ◌==◌, Bool, true, false, not, ◌&&◌, cond, nat_le, ◌⊎◌, inl, inr, ⊎_elim, ◌↔◌, List, [], ◌∷◌, Option, Some, None, is_some, length, map, nat_lt, refl, sym, ◌∙◌, ap, ap₂, subst, arith}
+use Rattle.std.proofs.Common.{◌≡◌, ◌≢◌, ℕ, ◌==◌, Bool, true, false, not, ◌&&◌, cond, if◌then◌else◌, nat_le, ◌⊎◌, inl, inr, ⊎_elim, ◌↔◌, List, [], ◌∷◌, Option, Some, None, is_some, length, map, nat_lt, refl, sym, ◌∙◌, ap, ap₂, subst, arith}
 use Rattle.std.specs.Bool.{beq}
 use Rattle.std.specs.Cmp.{booleans_Decides}
 use Rattle.std.specs.List.{filter, flat_map, list_any}
@@ -8,29 +8,32 @@ use Rattle.std.proofs.lemmas.Bool.Decides.{nat_tests}
 use Rattle.std.proofs.lemmas.List.{length-map}
 use Rattle.std.proofs.lemmas.Option.{same_Some}
 use Rattle.rule_book.specs.ById.{at_id}
-use Rattle.rule_book.specs.Calendar.{standing, stands_in}
-use Rattle.rule_book.specs.MatchFacts.{is_finished, line_of, lines_of}
+use Rattle.rule_book.specs.declared.team.Team.{Team}
+use Rattle.rule_book.specs.Calendar.{has_ended, standing, stands_in}
+use Rattle.rule_book.specs.MatchFacts.{line_of, lines_of}
 use Rattle.rule_book.specs.PlayerFigures.{position_in}
 use Rattle.rule_book.specs.Players.{player_of}
+use Rattle.rule_book.specs.ScoreOfTeam.{score_of}
 use Rattle.rescore_graph.specs.declared.cells.Slot.{Slot}
 use Rattle.rescore_graph.specs.Graph.{Among}
 use Rattle.rescore_graph.specs.States.{State, is_dirty, IsDirty}
 use Rattle.rescore_graph.specs.Settling.{Sound, SoundBut}
 use Rattle.rescore_graph.proofs.ChangeFacts.{Untouched, sound_start}
-use Rattle.season_graph.specs.Changes.{IsSame, IsKept, IsTouched, DifferInLine, DifferInMark, Follows, MarksTouched}
-use Rattle.season_graph.specs.declared.nodes.Node.{Node}
-use Rattle.season_graph.specs.declared.nodes.Node.TheVariants as node
-use Rattle.season_graph.specs.declared.nodes.Value.{Value}
-use Rattle.season_graph.specs.declared.nodes.Value.TheVariants as value
-use Rattle.season_graph.specs.Reading.{filter_local, from_filter, to_filter}
+use Rattle.season_graph.specs.Changes.{IsSame, IsKept, IsTouched, DifferInLine, Follows, MarksTouched}
+use Rattle.season_nodes.specs.declared.nodes.Node.{Node}
+use Rattle.season_nodes.specs.declared.nodes.Node.TheVariants as node
+use Rattle.season_nodes.specs.declared.nodes.Value.{Value}
+use Rattle.season_nodes.specs.declared.nodes.Value.TheVariants as value
+use Rattle.season_nodes.specs.Reading.{filter_local, from_filter, map_local, to_filter, to_map}
 use Rattle.season_graph.specs.Refreshed.{Refreshed}
-use Rattle.season_graph.specs.Season.{SeasonFacts, IsSeason, has_line, players_of, fixtures_of, is_live, season_graph, worth_of, no_worth, worth_in, bonuses_in, with_bonus, took_part, gathered}
-use Rattle.season_graph.specs.SeasonLaws.{season_lawful}
+use Rattle.season_nodes.specs.Season.{SeasonFacts, IsSeason, fielded_in, fifteen_of, figures_held, figures_of_fifteen, has_line, is_there, no_figures, players_of, fixtures_of, is_live, season_graph, worth_of, no_worth, worth_in, bonuses_in, with_bonus, took_part, gathered}
+use Rattle.season_nodes.specs.SeasonLaws.{season_lawful}
 use Rattle.season_graph.specs.Touched.{is_other, gameweek_beside, line_nodes}
-use Rattle.season_graph.proofs.DependentFacts.{stands_there, there_stands}
-use Rattle.season_graph.proofs.Lists.{listed_test}
+use Rattle.season_nodes.proofs.DependentFacts.{stands_there, there_stands}
+use Rattle.season_nodes.proofs.Lists.{listed_test}
 use Rattle.season_graph.proofs.RefreshedFacts.{refreshed_listed, refreshed_sound, refreshed_exact}
-use Rattle.season_graph.proofs.RisingFacts.{players_same}
+use Rattle.season_graph.proofs.TeamFacts.{team_kept}
+use Rattle.season_nodes.proofs.RisingFacts.{players_same}
 
 clash : true ≡ false → ⊥
 clash e = cc
@@ -73,7 +76,11 @@ eqb_case m n false e = inr (λ i. grind (arith, nat_tests, e, i))
 pub same_or_not : (m n : ℕ) → (m ≡ n) ⊎ (m ≢ n)
 same_or_not m n = eqb_case m n (m == n) refl
 
-both_or_other : (k q f p : ℕ) → ((k ≡ f) × (q ≡ p)) ⊎ ((k ≢ f) ⊎ (q ≢ p))
+pub among_or_not : (ps : List ℕ) (q : ℕ) → Among ps q ⊎ (¬ Among ps q)
+among_or_not [] q = inr (λ a. a)
+among_or_not (p ∷ ps) q = ⊎_elim (λ e. inl (inl e)) (λ n. ⊎_elim (λ a. inl (inr a)) (λ m. inr (λ o. ⊎_elim n m o)) (among_or_not ps q)) (same_or_not p q)
+
+pub both_or_other : (k q f p : ℕ) → ((k ≡ f) × (q ≡ p)) ⊎ ((k ≢ f) ⊎ (q ≢ p))
 both_or_other k q f p = ⊎_elim (λ e. ⊎_elim (λ d. inl (e, d)) (λ n. inr (inr n)) (same_or_not q p)) (λ n. inr (inl n)) (same_or_not k f)
 
 pub bool_case : (b c : Bool) → (b ≡ c) ⊎ (is_other b c ≡ true)
@@ -82,6 +89,12 @@ bool_case true false = inr refl
 bool_case false true = inr refl
 bool_case false false = inl refl
 
+pub iff_same : (x y : Bool) → (x ≡ true → y ≡ true) → (y ≡ true → x ≡ true) → x ≡ y
+iff_same true true there back = refl
+iff_same true false there back = absurd (clash (sym (there refl)))
+iff_same false true there back = absurd (clash (sym (back refl)))
+iff_same false false there back = refl
+
 module _ (b d : SeasonFacts) where
   pub some_lines : (f : ℕ) → players_of b f ≡ players_of d f → is_live b (node.Bonus f) ≡ is_live d (node.Bonus f)
   some_lines f e = ap (nat_lt 0) (sym (length-map (lines_of b.matches f) (λ row. row.0)) ∙ ap length e ∙ length-map (lines_of d.matches f) (λ row. row.0))
@@ -89,6 +102,23 @@ module _ (b d : SeasonFacts) where
   line_same : (f p : ℕ) → line_of b.matches f p ≡ line_of d.matches f p → b.profile ≡ d.profile → position_in b.players p ≡ position_in d.players p
       → value.Line (option_map_or (worth_of b.profile (position_in b.players p)) (line_of b.matches f p) no_worth) ≡ value.Line (option_map_or (worth_of d.profile (position_in d.players p)) (line_of d.matches f p) no_worth)
   line_same f p e u v = λ i. value.Line (option_map_or (worth_of (u i) (v i)) (e i) no_worth)
+
+  -- where the same team has the same players who are there, each is there who was
+  there_alike : (e g : ℕ) → b.team e g ≡ d.team e g → fielded_in b e g ≡ fielded_in d e g → (p : ℕ) → Among (fifteen_of b e g) p → is_there b p ≡ is_there d p
+  there_alike e g same fielded p a = iff_same (is_there b p) (is_there d p)
+      (λ y. (from_filter (is_there d) (fifteen_of d e g) p (subst (λ ps. Among ps p) fielded (to_filter (is_there b) (fifteen_of b e g) p a y))).1)
+      (λ y. (from_filter (is_there b) (fifteen_of b e g) p (subst (λ ps. Among ps p) (sym fielded)
+      (to_filter (is_there d) (fifteen_of d e g) p (subst (λ (t : Team). Among (map (λ pick. pick.player) t.picks) p) same a) y))).1)
+
+  -- so the same is told of its players
+  figures_alike : (v : Node → Option Value) (e g : ℕ) → b.team e g ≡ d.team e g → fielded_in b e g ≡ fielded_in d e g
+      → figures_of_fifteen b v (b.team e g) g ≡ figures_of_fifteen d v (d.team e g) g
+  figures_alike v e g same fielded =
+      map_local (λ pick. if is_there b pick.player then figures_held (v (node.PlayerGw pick.player g)) else no_figures)
+      (λ pick. if is_there d pick.player then figures_held (v (node.PlayerGw pick.player g)) else no_figures) (b.team e g).picks
+      (λ pick a. ap (λ t. if t then figures_held (v (node.PlayerGw pick.player g)) else no_figures)
+      (there_alike e g same fielded pick.player (to_map (λ x. x.player) (b.team e g).picks pick a)))
+      ∙ ap (λ (t : Team). figures_of_fifteen d v t g) same
 
   -- what is kept has its inputs and its own function
   pub kept_untouched : (s : State Node Value) (n : Node) → IsKept b d n → is_live d n ≡ true → Untouched (season_graph b) (season_graph d) s s n
@@ -113,6 +143,14 @@ module _ (b d : SeasonFacts) where
     own = λ v. ap (λ fs. value.PlayerGw (gathered (λ f. worth_in (v (node.Line f p))) (λ f. unwrap_or (at_id (bonuses_in (v (node.Bonus f))) p) 0) fs)) (sym (k.1 l));
     values = λ m a. refl;
   }
+  kept_untouched s (node.TeamGw e g) k l =
+      let same = k.1 l in record {
+        live = k.0 ∙ l;
+        cell = refl;
+        inputs = λ m a. subst (λ ps. Among (map (λ p. node.PlayerGw p g) ps) m) (sym same.3) a;
+        own = λ v. sym (λ i. value.TeamGw (score_of (same.0 i) (figures_alike v e g same.0 same.3 i) (same.2 i) (same.1 i)));
+        values = λ m a. refl;
+      }
 
   -- after a change of the facts all is sound but for what the change does not keep
   pub changed_start : IsSeason b → (X : Node → Type 0) (s : State Node Value) → Sound (season_graph b) s → ((n : Node) → IsKept b d n ⊎ X n) → SoundBut (season_graph d) X s
@@ -122,12 +160,6 @@ module _ (b d : SeasonFacts) where
     where
       kept_at : (n : Node) → (¬ X n) → IsKept b d n
       kept_at n x = ⊎_elim (λ k. k) (λ y. absurd (x y)) (kept n)
-
-pub iff_same : (x y : Bool) → (x ≡ true → y ≡ true) → (y ≡ true → x ≡ true) → x ≡ y
-iff_same true true there back = refl
-iff_same true false there back = absurd (clash (sym (there refl)))
-iff_same false true there back = absurd (clash (sym (back refl)))
-iff_same false false there back = refl
 
 pub other_same : (x y : Bool) → x ≡ y → is_other x y ≡ true → ⊥
 other_same true true e o = clash (sym o)
@@ -215,6 +247,7 @@ module _ (b d : SeasonFacts) (is : IsSeason b) (is_d : IsSeason d) (f p : ℕ) (
       (λ n. inl (gameweek_kept q g (λ k a. ap is_some (c.others k q (inr n)))))
       (same_or_not q p))
       (bool_case (has_line b p f) (has_line d p f))
+  line_listed (node.TeamGw e g) = inl (team_kept b d c.entries e g (λ i. nat_le g (c.calendar i).locked) (λ i. has_ended (c.calendar i) (λ k. c.marks k i) g) (λ q a i. is_some (player_of (c.players i) q)))
 
   listed_same : players_of b f ≡ players_of d f → has_line b p f ≡ has_line d p f
   listed_same e = sym (listed_test (lines_of b.matches f) p) ∙ ap (list_any (λ q. q == p)) e ∙ listed_test (lines_of d.matches f) p
@@ -238,24 +271,7 @@ module _ (b d : SeasonFacts) (is : IsSeason b) (is_d : IsSeason d) (f p : ℕ) (
           at_node b d (node.PlayerGw p y.0) n y.1.1 l (λ k live. other_same (has_line b p f) (has_line d p f) (counted_same y.0 y.1.0 (k live)) r.0))
           r.1
 
--- a mark
-module _ (b d : SeasonFacts) (is_b : IsSeason b) (is_d : IsSeason d) (f : ℕ) (c : DifferInMark b d f) where
-  mark_gameweek : (q g : ℕ) → IsKept b d (node.PlayerGw q g)
-  mark_gameweek q g = (
-    (λ i. is_some (player_of (c.players i) q) && (nat_le 1 g && nat_le g (c.calendar i).locked)),
-    λ l. filter_local (has_line b q) (has_line d q) (standing b.calendar g) (λ k a. ap is_some (c.lines k q)) ∙ ap (λ x. filter (has_line d q) (standing x g)) c.calendar,
-  )
-
-  pub mark_listed : (n : Node) → IsKept b d n ⊎ Among (node.Bonus f ∷ []) n
-  mark_listed (node.Line k q) = inl (ap is_some (c.lines k q), λ l. (c.lines k q, c.profile, ap (λ ps. position_in ps q) c.players))
-  mark_listed (node.Bonus k) = ⊎_elim (λ i. inr (inl (ap node.Bonus (sym i)))) (λ n. let same = players_same b d is_b is_d k (λ q. ap is_some (c.lines k q)) in inl (some_lines b d k same, λ l. (same, c.marks k n))) (same_or_not k f)
-  mark_listed (node.PlayerGw q g) = inl (mark_gameweek q g)
-
-  pub mark_touched : is_finished b.matches f ≢ is_finished d.matches f → (n : Node) → Among (node.Bonus f ∷ []) n → is_live d n ≡ true → IsTouched b d n
-  mark_touched differs n (inl e) l = (l, subst (λ x. ¬ IsKept b d x) e (λ k. differs (k.1 (subst (λ x. is_live d x ≡ true) (sym e) l)).1))
-  mark_touched differs n (inr a) l = absurd a
-
--- the cells follow a change of one line, of one mark
+-- the cells follow a change of one line
 module _ (b d : SeasonFacts) (is_b : IsSeason b) (is_d : IsSeason d) (s t : State Node Value) where
   at_line : (f p : ℕ) → Sound (season_graph b) s → Refreshed (is_live d) (Among (line_nodes d f p (is_some (s (node.Line f p))))) s t → Refreshed (is_live d) (Among (line_nodes d f p (has_line b p f))) s t
   at_line f p sound r = subst (λ was. Refreshed (is_live d) (Among (line_nodes d f p was)) s t) (had_cell_at (node.Line f p) sound) r
@@ -268,9 +284,3 @@ module _ (b d : SeasonFacts) (is_b : IsSeason b) (is_d : IsSeason d) (s t : Stat
 
   pub line_marks : (f p : ℕ) → DifferInLine b d f p → line_of b.matches f p ≢ line_of d.matches f p → Refreshed (is_live d) (Among (line_nodes d f p (is_some (s (node.Line f p))))) s t → MarksTouched b d s t
   line_marks f p c differs r sound = change_exact b d is_b is_d (line_nodes d f p (has_line b p f)) (line_listed b d is_b is_d f p c) s t sound (at_line f p sound r) (line_touched b d is_b is_d f p c differs)
-
-  pub mark_follows : (f : ℕ) → DifferInMark b d f → Refreshed (is_live d) (Among (node.Bonus f ∷ [])) s t → Follows b d s t
-  mark_follows f c r sound = change_sound b d is_b is_d (node.Bonus f ∷ []) (mark_listed b d is_b is_d f c) s t sound r
-
-  pub mark_marks : (f : ℕ) → DifferInMark b d f → is_finished b.matches f ≢ is_finished d.matches f → Refreshed (is_live d) (Among (node.Bonus f ∷ [])) s t → MarksTouched b d s t
-  mark_marks f c differs r sound = change_exact b d is_b is_d (node.Bonus f ∷ []) (mark_listed b d is_b is_d f c) s t sound r (mark_touched b d is_b is_d f c differs)

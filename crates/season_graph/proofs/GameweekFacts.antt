@@ -1,4 +1,4 @@
--- The gameweeks of a player, one after another.
+-- The gameweeks of a player or of an entry, one after another, and what each of so many numbers stands for.
 use Rattle.std.proofs.Common.{◌≡◌, ℕ, zero, suc, ◌+◌, ◌<◌, ◌≤◌, Bool, inl, ⊎_elim, List, [], ◌∷◌, ◌++◌, length, take, get_or, sym, ap, subst, arith, add-one}
 use Rattle.std.specs.Prelude.{IfSome, slice_get}
 use Rattle.std.specs.List.{flat_map}
@@ -6,36 +6,53 @@ use Rattle.std.proofs.lemmas.Option.{slice_get-get_or}
 use Rattle.std.proofs.lemmas.Bool.Decides.{leb_tells}
 use Rattle.rescore_graph.specs.Graph.{Among}
 use Rattle.rescore_graph.specs.States.{State}
-use Rattle.season_graph.specs.declared.nodes.Node.{Node}
-use Rattle.season_graph.specs.declared.nodes.Node.TheVariants as node
-use Rattle.season_graph.specs.declared.nodes.Value.{Value}
-use Rattle.season_graph.specs.Reading.{among_either, among_left, among_right}
+use Rattle.season_nodes.specs.declared.nodes.Node.{Node}
+use Rattle.season_nodes.specs.declared.nodes.Value.{Value}
+use Rattle.season_nodes.specs.Reading.{among_either, among_left, among_right}
 use Rattle.season_graph.specs.Refreshed.{Refreshed}
-use Rattle.season_graph.specs.Touched.{player_nodes}
-use Rattle.season_graph.proofs.Lists.{flat_more}
+use Rattle.season_graph.specs.Touched.{numbered_nodes, gameweek_nodes}
+use Rattle.season_nodes.proofs.Lists.{flat_more}
 use Rattle.season_graph.proofs.RefreshedFacts.{refreshed_append, refreshed_listed}
 
 -- a gameweek behind the first ones is listed
-pub gameweek_among : (p first g n : ℕ) → first < g → g ≤ first + n → Among (player_nodes p first n) (node.PlayerGw p g)
-gameweek_among p first g zero low high = absurd (omega arith)
-gameweek_among p first g (suc n) low high = ⊎_elim
-    (λ a. among_left (player_nodes p first n) (node.PlayerGw p (first + n + 1) ∷ []) (node.PlayerGw p g) (gameweek_among p first g n low a.1))
-    (λ a. let x : first + n < g = a.1 in let i : first + n + 1 ≡ g = omega arith in among_right (player_nodes p first n) (node.PlayerGw p (first + n + 1) ∷ []) (node.PlayerGw p g) (inl (ap (node.PlayerGw p) i)))
+pub gameweek_among : (at : ℕ → Node) (first g n : ℕ) → first < g → g ≤ first + n → Among (gameweek_nodes at first n) (at g)
+gameweek_among at first g zero low high = absurd (omega arith)
+gameweek_among at first g (suc n) low high = ⊎_elim
+    (λ a. among_left (gameweek_nodes at first n) (at (first + n + 1) ∷ []) (at g) (gameweek_among at first g n low a.1))
+    (λ a. let x : first + n < g = a.1 in let i : first + n + 1 ≡ g = omega arith in among_right (gameweek_nodes at first n) (at (first + n + 1) ∷ []) (at g) (inl (ap at i)))
     (leb_tells g (first + n))
 
 -- and a listed one is a gameweek behind them
-pub from_gameweeks : (p first n : ℕ) (m : Node) → Among (player_nodes p first n) m → (g : ℕ) × ((first < g) × (node.PlayerGw p g ≡ m))
-from_gameweeks p first zero m a = absurd a
-from_gameweeks p first (suc n) m a = ⊎_elim
-    (λ x. from_gameweeks p first n m x)
+pub from_gameweeks : (at : ℕ → Node) (first n : ℕ) (m : Node) → Among (gameweek_nodes at first n) m → (g : ℕ) × ((first < g) × (at g ≡ m))
+from_gameweeks at first zero m a = absurd a
+from_gameweeks at first (suc n) m a = ⊎_elim
+    (λ x. from_gameweeks at first n m x)
     (λ x. ⊎_elim (λ i. (first + n + 1, (omega arith, i))) (λ y. absurd y) x)
-    (among_either (player_nodes p first n) (node.PlayerGw p (first + n + 1) ∷ []) m a)
+    (among_either (gameweek_nodes at first n) (at (first + n + 1) ∷ []) m a)
 
 -- one more gameweek
-pub refreshed_gameweek : (live : Node → Bool) (p first n : ℕ) (s t u : State Node Value) → Refreshed live (Among (player_nodes p first n)) s t
-    → Refreshed live (Among (node.PlayerGw p (first + n + 1) ∷ [])) t u → Refreshed live (Among (player_nodes p first (n + 1))) s u
-refreshed_gameweek live p first n s t u x y = subst (λ k. Refreshed live (Among (player_nodes p first k)) s u) (sym (add-one n))
-    (refreshed_append live (player_nodes p first n) (node.PlayerGw p (first + n + 1) ∷ []) s t u x y)
+pub refreshed_gameweek : (live : Node → Bool) (at : ℕ → Node) (first n : ℕ) (s t u : State Node Value) → Refreshed live (Among (gameweek_nodes at first n)) s t
+    → Refreshed live (Among (at (first + n + 1) ∷ [])) t u → Refreshed live (Among (gameweek_nodes at first (n + 1))) s u
+refreshed_gameweek live at first n s t u x y = subst (λ k. Refreshed live (Among (gameweek_nodes at first k)) s u) (sym (add-one n))
+    (refreshed_append live (gameweek_nodes at first n) (at (first + n + 1) ∷ []) s t u x y)
+
+-- what each number stands for is listed, and what is listed is one's
+pub numbered_among : (each : ℕ → List Node) (n e : ℕ) (m : Node) → 1 ≤ e → e ≤ n → Among (each e) m → Among (numbered_nodes each n) m
+numbered_among each zero e m low high a = absurd (omega arith)
+numbered_among each (suc n) e m low high a = ⊎_elim
+    (λ x. among_left (numbered_nodes each n) (each (n + 1)) m (numbered_among each n e m low x.1 a))
+    (λ x. let y : n < e = x.1 in let i : e ≡ n + 1 = omega arith in among_right (numbered_nodes each n) (each (n + 1)) m (subst (λ k. Among (each k) m) i a))
+    (leb_tells e n)
+
+pub from_numbered : (each : ℕ → List Node) (n : ℕ) (m : Node) → Among (numbered_nodes each n) m → (e : ℕ) × Among (each e) m
+from_numbered each zero m a = absurd a
+from_numbered each (suc n) m a = ⊎_elim (λ x. from_numbered each n m x) (λ x. (n + 1, x)) (among_either (numbered_nodes each n) (each (n + 1)) m a)
+
+-- one more number
+pub refreshed_numbered : (live : Node → Bool) (each : ℕ → List Node) (n : ℕ) (s t u : State Node Value) → Refreshed live (Among (numbered_nodes each n)) s t
+    → Refreshed live (Among (each (n + 1))) t u → Refreshed live (Among (numbered_nodes each (n + 1))) s u
+refreshed_numbered live each n s t u x y = subst (λ k. Refreshed live (Among (numbered_nodes each k)) s u) (sym (add-one n))
+    (refreshed_append live (numbered_nodes each n) (each (n + 1)) s t u x y)
 
 -- what each of a list stands for, one more
 pub refreshed_next : {X : Type 0} (live : Node → Bool) (f : X → List Node) (xs : List X) (i : ℕ) (s t u : State Node Value) → i < length xs → Refreshed live (Among (flat_map f (take i xs))) s t

@@ -13,10 +13,10 @@ use Rattle.match_facts.specs.Laws.{LinesAreAMap, LinesGo, SheetsAreAMap, SheetsH
 use Rattle.rescore_graph.specs.Graph.{Among}
 use Rattle.season_graph.specs.BookChanges.{LineIsDropped, LineIsPut, MarkIsSet, SheetIsPut, with_matches}
 use Rattle.season_graph.specs.Changes.{DifferInLine}
-use Rattle.season_graph.specs.Reading.{among_either, from_filter}
-use Rattle.season_graph.specs.Season.{SeasonFacts, IsSeason, Rising, has_line, players_of}
+use Rattle.season_nodes.specs.Reading.{among_either, from_filter}
+use Rattle.season_nodes.specs.Season.{SeasonFacts, IsSeason, Rising, has_line, players_of}
 use Rattle.season_graph.proofs.ChangedFacts.{same_or_not}
-use Rattle.season_graph.proofs.RisingFacts.{rising_append, rising_filter}
+use Rattle.season_nodes.proofs.RisingFacts.{rising_append, rising_filter}
 
 -- what an id chooses
 here : {Y : Type 0} (k q : ℕ) (x y : Y) → q ≡ k → (if q == k then x else y) ≡ x
@@ -129,6 +129,7 @@ module _ (maps : SheetsAreAMap) (b : SeasonFacts) (is : IsSeason b) (f p : ℕ) 
         (sym (lines_here maps b f one_sheet q ∙ others q (⊎_elim (λ n. absurd (n e)) (λ n. n) o))))
         (λ n. lines_away maps b f one_sheet k q n)
         (same_or_not k f);
+    entries = record { begun = λ e g w. refl; team = λ e g l. refl; cost = λ e g l. refl };
   }
 
 pub line_is_put : SheetsAreAMap → LinesAreAMap → LineIsPut
@@ -174,6 +175,7 @@ mark_is_set sheets b f finished is =
             (λ e. subst (λ x. line_of b.matches x q ≡ line_of (after sheets b f sheet).matches x q) (sym e) (sym (lines_here sheets b f sheet q)))
             (lines_away sheets b f sheet k q)
             (same_or_not k f);
+        entries = record { begun = λ e g w. refl; team = λ e g l. refl; cost = λ e g l. refl };
       },
     )
 
@@ -195,5 +197,6 @@ sheet_is_put sheets own b f lines finished ps marked is are others =
             (others.lines_stay q (⊎_elim (λ n. absurd (n e)) (λ n. n) o) ∙ sym (at q) ∙ sym (lines_here sheets b f sheet q)))
             (λ n. lines_away sheets b f sheet k q n)
             (same_or_not k f);
+        entries = record { begun = λ e g w. refl; team = λ e g l. refl; cost = λ e g l. refl };
       },
     )

@@ -10,9 +10,10 @@ use Rattle.rule_book.specs.declared.season.Fixture.{Fixture}
 use Rattle.rule_book.specs.Calendar.{moved_to, passed_deadlines}
 use Rattle.fpl_base.specs.declared.kinds.Position.{Position}
 use Rattle.rule_book.specs.Players.{player_of, with_change, with_player}
-use Rattle.season_graph.specs.BookChanges.{ClubChanges, DeadlineMoves, FixtureComes, FixtureMoves, GoneChanges, MomentPasses, PlayerComes, PriceChanges, with_players}
+use Rattle.season_graph.specs.BookChanges.{ClubChanges, DeadlineMoves, FixtureComes, FixtureMoves, GoneChanges, ManagersChange, MomentPasses, PlayerComes, PriceChanges, with_players}
 use Rattle.season_graph.specs.Changes.{AreAlike}
-use Rattle.season_graph.specs.Season.{SeasonFacts, IsSeason, has_line}
+use Rattle.season_nodes.specs.Season.{SeasonFacts, IsSeason, has_line}
+use Rattle.season_nodes.proofs.DependentFacts.{same_test}
 use Rattle.season_graph.proofs.ChangedFacts.{same_or_not}
 
 clash : true ≡ false → ⊥
@@ -42,7 +43,7 @@ module _ {X : Type 0} (t u : X → Bool) where
   lost_case x ys a false e h r = r
 
   -- what it takes away is not
-  find_lost : (xs : List X) → ((x : X) → t x ≡ true → u x ≡ false) → find t (filter u xs) ≡ None
+  pub find_lost : (xs : List X) → ((x : X) → t x ≡ true → u x ≡ false) → find t (filter u xs) ≡ None
   find_lost [] h = refl
   find_lost (x ∷ xs) h = lost_case x (filter u xs) (t x) (u x) refl (h x) (find_lost xs h)
 
@@ -86,6 +87,20 @@ module _ {X : Type 0} (id_of : X → ℕ) where
             ∙ none_or (find t xs)
       ]
 
+itself_found : {X : Type 0} (o : Option X) (x : X) (rest : Option X) (t : Bool) → t ≡ true → is_some (option_or o (cond t (Some x) rest)) ≡ true
+itself_found None x rest true e = refl
+itself_found (Some y) x rest true e = refl
+itself_found o x rest false e = absurd (clash (sym e))
+
+-- and is found itself
+is_placed : {X : Type 0} (id_of : X → ℕ) (xs : List X) (x : X)
+    → is_some (find (λ y. id_of y == id_of x) (filter (λ y. nat_lt (id_of y) (id_of x)) xs ++ x ∷ filter (λ y. nat_lt (id_of x) (id_of y)) xs)) ≡ true
+is_placed id_of xs x =
+    let low = filter (λ y. nat_lt (id_of y) (id_of x)) xs in
+    let high = filter (λ y. nat_lt (id_of x) (id_of y)) xs in
+    ap is_some (find-append (λ y. id_of y == id_of x) low (x ∷ high))
+    ∙ itself_found (find (λ y. id_of y == id_of x) low) x (find (λ y. id_of y == id_of x) high) (id_of x == id_of x) (same_test (id_of x) (id_of x) refl)
+
 moved_case : (f k : ℕ) (to : Option ℕ) (kickoff : ℕ) (x : Fixture) (r s : Option Fixture) (b : Bool) → k ≢ f → (x.id == f) ≡ b → r ≡ s
     → cond ((if b then record x { gw = to; kickoff = kickoff } else x).id == k) (Some (if b then record x { gw = to; kickoff = kickoff } else x)) r ≡ cond (x.id == k) (Some x) s
 moved_case f k to kickoff x r s true n e i =
@@ -105,13 +120,13 @@ found_moved (x ∷ xs) f k to kickoff n = moved_case f k to kickoff x (find (λ 
 pub fixture_moves : FixtureMoves
 fixture_moves b f to kickoff is lawful = (
   record { calendar = lawful; ascending = is.ascending; ranges = is.ranges; there = is.there },
-  record { profile = refl; locked = refl; players = refl; matches = refl; others = λ k n. ap (option_and_then (λ x. x.gw)) (sym (found_moved b.calendar.fixtures f k to kickoff n)) },
+  record { profile = refl; locked = refl; players = refl; matches = refl; others = λ k n. ap (option_and_then (λ x. x.gw)) (sym (found_moved b.calendar.fixtures f k to kickoff n)); entries = record { begun = λ e g w. refl; team = λ e g l. refl; cost = λ e g l. refl } },
 )
 
 pub fixture_comes : FixtureComes
 fixture_comes b x is lawful = (
   record { calendar = lawful; ascending = is.ascending; ranges = is.ranges; there = is.there },
-  record { profile = refl; locked = refl; players = refl; matches = refl; others = λ k n. ap (option_and_then (λ y. y.gw)) (sym (found_placed (λ y. y.id) b.calendar.fixtures x k n)) },
+  record { profile = refl; locked = refl; players = refl; matches = refl; others = λ k n. ap (option_and_then (λ y. y.gw)) (sym (found_placed (λ y. y.id) b.calendar.fixtures x k n)); entries = record { begun = λ e g w. refl; team = λ e g l. refl; cost = λ e g l. refl } },
 )
 
 not_less : (n m : ℕ) → n ≤ max n m
@@ -120,13 +135,13 @@ not_less n m = omega arith
 pub moment_passes : MomentPasses
 moment_passes b now is lawful = (
   record { calendar = lawful; ascending = is.ascending; ranges = is.ranges; there = is.there },
-  record { profile = refl; players = refl; matches = refl; fixtures = refl; before = refl; rises = not_less b.calendar.locked (passed_deadlines b.calendar.deadlines now) },
+  record { profile = refl; players = refl; matches = refl; fixtures = refl; before = refl; rises = not_less b.calendar.locked (passed_deadlines b.calendar.deadlines now); entries = record { begun = λ e g w. refl; team = λ e g l. refl; cost = λ e g l. refl } },
 )
 
 pub deadline_moves : DeadlineMoves
 deadline_moves b g t is lawful = (
   record { calendar = lawful; ascending = is.ascending; ranges = is.ranges; there = is.there },
-  record { profile = refl; locked = refl; fixtures = refl; matches = refl; positions = λ q. refl },
+  record { profile = refl; locked = refl; stand = λ g. refl; lines = λ f q. refl; marks = λ f. refl; positions = λ q. refl; entries = record { begun = λ e g w. refl; team = λ e g l. refl; cost = λ e g l. refl } },
 )
 
 -- so does a new player
@@ -142,7 +157,7 @@ player_comes b x is new =
             (λ n. ap is_some (sym (others p n)) ∙ is.there f p h)
             (same_or_not p x.id);
       },
-      record { profile = refl; calendar = refl; matches = refl; absent = new; others = others },
+      record { profile = refl; calendar = refl; matches = refl; absent = new; there = is_placed (λ y. y.id) b.players x; others = others; entries = record { begun = λ e g w. refl; team = λ e g l. refl; cost = λ e g l. refl } },
     )
 
 abbrev place : Option Player → Option Position
@@ -184,7 +199,7 @@ module _ (change : Player → Player) (same_id : (x : Player) → (change x).id 
       ranges = is.ranges;
       there = λ f q h. there_still (player_of (with_change change b.players p) q) (player_of b.players q) (places_stay b.players p q) ∙ is.there f q h;
     },
-    record { profile = refl; locked = refl; fixtures = refl; matches = refl; positions = λ q. sym (places_stay b.players p q) },
+    record { profile = refl; locked = refl; stand = λ g. refl; lines = λ f q. refl; marks = λ f. refl; positions = λ q. sym (places_stay b.players p q); entries = record { begun = λ e g w. refl; team = λ e g l. refl; cost = λ e g l. refl } },
   )
 
 pub price_changes : PriceChanges
@@ -195,3 +210,10 @@ club_changes b p club is = player_changes (λ x. record x { club = club }) (λ x
 
 pub gone_changes : GoneChanges
 gone_changes b p gone is = player_changes (λ x. record x { gone = gone }) (λ x. refl) (λ x. refl) b p is
+
+-- a book of managers in which the locked gameweeks are as they were
+pub managers_change : ManagersChange
+managers_change b managers is stay = (
+  record { calendar = is.calendar; ascending = is.ascending; ranges = is.ranges; there = is.there },
+  record { profile = refl; locked = refl; stand = λ g. refl; lines = λ f q. refl; marks = λ f. refl; positions = λ q. refl; entries = stay },
+)

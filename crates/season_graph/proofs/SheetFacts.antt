@@ -1,29 +1,27 @@
 -- What some lines of a fixture and its mark touch.
 use Rattle.std.proofs.Common.{◌≡◌, ◌≢◌, ℕ, ◌==◌, Bool, true, false, ◌&&◌, cond, nat_le, ◌⊎◌, inl, inr, ⊎_elim, List, [], ◌∷◌, ◌++◌, Some, is_some, refl, sym, ◌∙◌, ap, subst}
 use Rattle.std.specs.List.{filter, list_any}
-use Rattle.rule_book.specs.Calendar.{standing, stands_in}
+use Rattle.rule_book.specs.Calendar.{has_ended, standing, stands_in}
 use Rattle.rule_book.specs.MatchFacts.{is_finished, line_of, lines_of}
 use Rattle.rule_book.specs.PlayerFigures.{position_in}
 use Rattle.rule_book.specs.Players.{player_of}
 use Rattle.rescore_graph.specs.Graph.{Among}
 use Rattle.rescore_graph.specs.States.{State}
 use Rattle.season_graph.specs.Changes.{IsKept, IsTouched, DifferInSheet, Follows, MarksTouched}
-use Rattle.season_graph.specs.declared.nodes.Node.{Node}
-use Rattle.season_graph.specs.declared.nodes.Node.TheVariants as node
-use Rattle.season_graph.specs.declared.nodes.Value.{Value}
-use Rattle.season_graph.specs.Reading.{among_either, among_left, among_right, filter_local, from_filter, to_filter, from_flat, to_flat}
+use Rattle.season_nodes.specs.declared.nodes.Node.{Node}
+use Rattle.season_nodes.specs.declared.nodes.Node.TheVariants as node
+use Rattle.season_nodes.specs.declared.nodes.Value.{Value}
+use Rattle.season_nodes.specs.Reading.{among_either, among_left, among_right, filter_local, from_filter, to_filter, from_flat, to_flat}
 use Rattle.season_graph.specs.Refreshed.{Refreshed}
-use Rattle.season_graph.specs.Season.{SeasonFacts, IsSeason, fixtures_of, has_line, is_live, players_of}
-use Rattle.season_graph.specs.Touched.{is_other, gameweek_beside, line_nodes, lines_nodes, sheet_nodes}
-use Rattle.season_graph.proofs.ChangedFacts.{beside_at, bool_case, at_node, change_exact, change_sound, other_same, from_beside, from_rest, iff_same, place_or_not, same_or_not, some_lines, to_rest}
-use Rattle.season_graph.proofs.DependentFacts.{stands_there, there_stands}
-use Rattle.season_graph.proofs.Lists.{listed_test}
-use Rattle.season_graph.proofs.RisingFacts.{players_same}
+use Rattle.season_nodes.specs.Season.{SeasonFacts, IsSeason, fixtures_of, has_line, is_live, players_of}
+use Rattle.season_graph.specs.Touched.{is_other, gameweek_beside, line_nodes, lines_nodes, mark_nodes, sheet_nodes}
+use Rattle.season_graph.proofs.ChangedFacts.{among_or_not, beside_at, bool_case, at_node, change_exact, change_sound, other_same, from_beside, from_rest, iff_same, place_or_not, same_or_not, some_lines, to_rest}
+use Rattle.season_graph.proofs.EndingFacts.{ending_listed, ending_touched}
+use Rattle.season_graph.proofs.TeamFacts.{team_kept}
+use Rattle.season_nodes.proofs.DependentFacts.{stands_there, there_stands}
+use Rattle.season_nodes.proofs.Lists.{listed_test}
+use Rattle.season_nodes.proofs.RisingFacts.{players_same}
 use Rattle.season_graph.proofs.RefreshedFacts.{refreshed_append, refreshed_some, refreshed_same, refreshed_both}
-
-among_or_not : (ps : List ℕ) (q : ℕ) → Among ps q ⊎ (¬ Among ps q)
-among_or_not [] q = inr (λ a. a)
-among_or_not (p ∷ ps) q = ⊎_elim (λ e. inl (inl e)) (λ n. ⊎_elim (λ a. inl (inr a)) (λ m. inr (λ o. ⊎_elim n m o)) (among_or_not ps q)) (same_or_not p q)
 
 module _ (b d : SeasonFacts) (is_b : IsSeason b) (is_d : IsSeason d) (f : ℕ) (ps : List ℕ) (marked : Bool) (c : DifferInSheet b d f ps marked) where
   abbrev was : ℕ → Bool
@@ -44,7 +42,10 @@ module _ (b d : SeasonFacts) (is_b : IsSeason b) (is_d : IsSeason d) (f : ℕ) (
   in_lines p n a x = among_left (lines_nodes d was f ps) (if_marked) n (to_flat (λ q. line_nodes d f q (was q)) ps p n a x)
     where
       if_marked : List Node
-      if_marked = cond marked (node.Bonus f ∷ []) []
+      if_marked = cond marked (mark_nodes d f) []
+
+  in_mark : (n : Node) → marked ≡ true → Among (mark_nodes d f) n → Among nodes n
+  in_mark n i a = among_right (lines_nodes d was f ps) (cond marked (mark_nodes d f) []) n (subst (λ t. Among (cond t (mark_nodes d f) []) n) (sym i) a)
 
   in_rest : (p : ℕ) (n : Node) → Among ps p → is_other (was p) (has_line d p f) ≡ true → Among (node.Bonus f ∷ gameweek_beside p (stands_in d.calendar f)) n → Among nodes n
   in_rest p n a o x = in_lines p n a (inr (to_rest (is_other (was p) (has_line d p f)) (node.Bonus f ∷ gameweek_beside p (stands_in d.calendar f)) n o x))
@@ -65,11 +66,15 @@ module _ (b d : SeasonFacts) (is_b : IsSeason b) (is_d : IsSeason d) (f : ℕ) (
   )
 
   bonus_listed : (t : Bool) → marked ≡ t → IsKept b d (node.Bonus f) ⊎ Among nodes (node.Bonus f)
-  bonus_listed true e = inr (among_right (lines_nodes d was f ps) (cond marked (node.Bonus f ∷ []) []) (node.Bonus f) (subst (λ t. Among (cond t (node.Bonus f ∷ []) []) (node.Bonus f)) (sym e) (inl refl)))
+  bonus_listed true e = inr (in_mark (node.Bonus f) e (inl refl))
   bonus_listed false e = ⊎_elim
       (λ r. inr (in_rest r.0 (node.Bonus f) r.1.0 r.1.1 (inl refl)))
       (λ n. inl (bonus_kept f (players_same b d is_b is_d f (all_same n)) (c.marks f (inr e))))
       (some_or_none ps)
+
+  team_listed : (t : Bool) → marked ≡ t → (e g : ℕ) → IsKept b d (node.TeamGw e g) ⊎ Among nodes (node.TeamGw e g)
+  team_listed true i e g = ⊎_elim inl (λ a. inr (in_mark (node.TeamGw e g) i (inr a))) (ending_listed b d is_d f c.calendar c.players (λ k n. c.marks k (inl n)) c.entries e g)
+  team_listed false i e g = inl (team_kept b d c.entries e g (λ j. nat_le g (c.calendar j).locked) (λ j. has_ended (c.calendar j) (λ k. c.marks k (inr i) j) g) (λ q a j. is_some (player_of (c.players j) q)))
 
   pub sheet_listed : (n : Node) → IsKept b d n ⊎ Among nodes n
   sheet_listed (node.Line k q) = ⊎_elim
@@ -93,6 +98,7 @@ module _ (b d : SeasonFacts) (is_b : IsSeason b) (is_d : IsSeason d) (f : ℕ) (
       (bool_case (was q) (has_line d q f)))
       (λ m. inl (gameweek_kept q g (λ k x. line_same k q (inr m))))
       (among_or_not ps q)
+  sheet_listed (node.TeamGw e g) = team_listed marked refl e g
 
   listed_same : (p : ℕ) → players_of b f ≡ players_of d f → was p ≡ has_line d p f
   listed_same p e = sym (listed_test (lines_of b.matches f) p) ∙ ap (list_any (λ q. q == p)) e ∙ listed_test (lines_of d.matches f) p
@@ -117,16 +123,17 @@ module _ (b d : SeasonFacts) (is_b : IsSeason b) (is_d : IsSeason d) (f : ℕ) (
             at_node b d (node.PlayerGw p z.0) n z.1.1 l (λ k live. other_same (was p) (has_line d p f) (counted_same p z.0 z.1.0 (k live)) r.0))
             r.1
 
-    by_mark : (n : Node) → Among (cond marked (node.Bonus f ∷ []) []) n → is_live d n ≡ true → IsTouched b d n
-    by_mark n a l = let r = from_rest marked (node.Bonus f ∷ []) n a in
+    by_mark : (n : Node) → Among (cond marked (mark_nodes d f) []) n → is_live d n ≡ true → IsTouched b d n
+    by_mark n a l = let r = from_rest marked (mark_nodes d f) n a in
         let alive : node.Bonus f ≡ n → is_live d (node.Bonus f) ≡ true = λ e. subst (λ z. is_live d z ≡ true) (sym e) l in
-        ⊎_elim (λ e. (l, subst (λ z. ¬ IsKept b d z) e (λ (k : IsKept b d (node.Bonus f)). mark r.0 (k.1 (alive e)).1))) (λ x. absurd x) r.1
+        ⊎_elim (λ e. (l, subst (λ z. ¬ IsKept b d z) e (λ (k : IsKept b d (node.Bonus f)). mark r.0 (k.1 (alive e)).1)))
+        (λ x. ending_touched b d is_d f c.calendar c.players (λ k n. c.marks k (inl n)) c.entries (mark r.0) n x l) r.1
 
     pub sheet_touched : (n : Node) → Among nodes n → is_live d n ≡ true → IsTouched b d n
     sheet_touched n a l = ⊎_elim
         (λ x. let r = from_flat (λ p. line_nodes d f p (was p)) ps n x in by_line n r.0 r.1.0 r.1.1 l)
         (λ x. by_mark n x l)
-        (among_either (lines_nodes d was f ps) (cond marked (node.Bonus f ∷ []) []) n a)
+        (among_either (lines_nodes d was f ps) (cond marked (mark_nodes d f) []) n a)
 
     pub sheet_marks : (s t : State Node Value) → Refreshed (is_live d) (Among nodes) s t → MarksTouched b d s t
     sheet_marks s t r sound = change_exact b d is_b is_d nodes sheet_listed s t sound r sheet_touched
@@ -145,6 +152,7 @@ line_in_nodes d f p q w (inl e) = ap player e
     player (node.Line k x) = x
     player (node.Bonus k) = 0
     player (node.PlayerGw x g) = 0
+    player (node.TeamGw x g) = 0
 line_in_nodes d f p q w (inr a) = other (from_rest (is_other w (has_line d q f)) (node.Bonus f ∷ gameweek_beside q (stands_in d.calendar f)) (node.Line f p) a).1
   where
     other : Among (node.Bonus f ∷ gameweek_beside q (stands_in d.calendar f)) (node.Line f p) → q ≡ p

@@ -9,7 +9,7 @@ use Rattle.rule_book.specs.MatchFacts.{MatchFacts}
 use Rattle.rule_book.specs.Players.{player_of}
 use Rattle.season_graph.specs.BookChanges.{LineIsPut, MarkIsSet, with_matches}
 use Rattle.season_graph.specs.Changes.{DifferInLine, DifferInMark}
-use Rattle.season_graph.specs.Season.{SeasonFacts, IsSeason}
+use Rattle.season_nodes.specs.Season.{SeasonFacts, IsSeason}
 
 -- what holds on Ok
 held_on_ok : {T E P : Type 0} (r : Result T E) → is_ok r ≡ true → OnOk r P → P

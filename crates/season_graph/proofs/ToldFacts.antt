@@ -15,14 +15,15 @@ use Rattle.rule_book.specs.Calendar.{standing as standing_in}
 use Rattle.rule_book.specs.Figures.{figure}
 use Rattle.rule_book.specs.MatchFacts.{Lines, is_finished, line_in, line_of, lines_of, players_in}
 use Rattle.rule_book.specs.PlayerFigures.{appearance, bonus_at, line_beside, played_with, points_at, position_in}
+use Rattle.rule_book.specs.ScoreOfTeam.{score_of}
 use Rattle.rescore_graph.specs.Graph.{Among}
-use Rattle.season_graph.specs.declared.nodes.LineWorth.{LineWorth}
-use Rattle.season_graph.specs.declared.nodes.Node.{Node}
-use Rattle.season_graph.specs.declared.nodes.Node.TheVariants as node
-use Rattle.season_graph.specs.declared.nodes.Value.TheVariants as value
-use Rattle.season_graph.specs.Season.{SeasonFacts, Rising, bonuses_in, fixtures_of, gathered, has_line, no_worth, own_value, took_part, with_bonus, with_worth, worth_in, worth_of}
+use Rattle.season_nodes.specs.declared.nodes.LineWorth.{LineWorth}
+use Rattle.season_nodes.specs.declared.nodes.Node.{Node}
+use Rattle.season_nodes.specs.declared.nodes.Node.TheVariants as node
+use Rattle.season_nodes.specs.declared.nodes.Value.TheVariants as value
+use Rattle.season_nodes.specs.Season.{SeasonFacts, Rising, bonuses_in, ended, fixtures_of, gathered, has_line, is_there, no_figures, no_worth, own_value, took_part, with_bonus, with_worth, worth_in, worth_of}
 use Rattle.season_graph.specs.Told.{told, gameweek_figures}
-use Rattle.season_graph.proofs.DependentFacts.{below_or_above, same_test}
+use Rattle.season_nodes.proofs.DependentFacts.{below_or_above, same_test}
 
 -- no player has two lines
 abbrev Distinct : Lines → Type 0
@@ -229,10 +230,40 @@ module _ (b : SeasonFacts) where
   row_found (r ∷ lines) row d (inr a) = row_case (r.0 == row.0) r lines row.0 row.1
       (below_or_above r.0 row.0 (λ e. d.0 (subst (λ x. Among (players_in lines) x) (sym e) (among_players lines row a)))) (row_found lines row d.1 a)
 
+  nowhere : (t : Bool) (f : ℕ) (fs : List ℕ) → t ≡ false → cond t (f ∷ fs) fs ≡ fs
+  nowhere true f fs e = absurd (cc)
+  nowhere false f fs e = refl
+
+  -- who has a line nowhere has one in none of some fixtures
+  in_none : (p : ℕ) → ((f : ℕ) → has_line b p f ≡ false) → (fs : List ℕ) → filter (has_line b p) fs ≡ []
+  in_none p none [] = refl
+  in_none p none (f ∷ fs) = nowhere (has_line b p f) f (filter (has_line b p) fs) (none f) ∙ in_none p none fs
+
+  there_case : (t : Bool) (p g : ℕ) → (t ≡ false → no_figures ≡ gameweek_figures b p g) → (if t then gameweek_figures b p g else no_figures) ≡ gameweek_figures b p g
+  there_case true p g none = refl
+  there_case false p g none = none refl
+
+  lineless : (t : Bool) → (t ≡ true → ⊥) → t ≡ false
+  lineless true n = absurd (n refl)
+  lineless false n = refl
+
+  false_true : false ≡ true → ⊥
+  false_true e = cc
+
+  -- a player who is not there has no lines, and so the figures of nothing
+  figures_told : ((f : ℕ) → Distinct (lines_of b.matches f)) → ((f p : ℕ) → has_line b p f ≡ true → is_there b p ≡ true) → (p g : ℕ)
+      → (if is_there b p then gameweek_figures b p g else no_figures) ≡ gameweek_figures b p g
+  figures_told distinct there p g = there_case (is_there b p) p g (λ absent.
+      ap (gathered (worth_told p distinct) (bonus_by_told p distinct))
+      (sym (in_none p (λ f. lineless (has_line b p f) (λ y. false_true (sym absent ∙ there f p y))) (standing_in b.calendar g)))
+      ∙ gameweek_told p distinct g)
+
   -- the value that the rule book tells of a node is its own function of those that it tells of its inputs
-  pub own_told : ((f : ℕ) → Distinct (lines_of b.matches f)) → (n : Node) → Some (told b n) ≡ Some (own_value b n (λ m. Some (told b m)))
-  own_told distinct (node.Line f p) = refl
-  own_told distinct (node.Bonus f) = ap (λ table. Some (value.Bonus (if is_finished b.matches f then with_bonus table else [])))
+  pub own_told : ((f : ℕ) → Distinct (lines_of b.matches f)) → ((f p : ℕ) → has_line b p f ≡ true → is_there b p ≡ true) → (n : Node) → Some (told b n) ≡ Some (own_value b n (λ m. Some (told b m)))
+  own_told distinct there (node.Line f p) = refl
+  own_told distinct there (node.Bonus f) = ap (λ table. Some (value.Bonus (if is_finished b.matches f then with_bonus table else [])))
       (sym (took_part_is (λ p. worth_in (Some (told b (node.Line f p)))) (lines_of b.matches f)
       (λ row a. ap (λ o. option_map_or (worth_of b.profile (position_in b.players row.0)) o no_worth) (row_found (lines_of b.matches f) row (distinct f) a))))
-  own_told distinct (node.PlayerGw p g) = ap (λ figures. Some (value.PlayerGw figures)) (sym (gameweek_told p distinct g))
+  own_told distinct there (node.PlayerGw p g) = ap (λ figures. Some (value.PlayerGw figures)) (sym (gameweek_told p distinct g))
+  own_told distinct there (node.TeamGw e g) = ap (λ figures. Some (value.TeamGw (score_of (b.team e g) figures (ended b g) (b.cost e g))))
+      (sym (λ i. map (λ pick. figures_told distinct there pick.player g i) (b.team e g).picks))

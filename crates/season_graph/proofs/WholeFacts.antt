@@ -10,15 +10,16 @@ use Rattle.rescore_graph.specs.declared.cells.Slot.{Slot}
 use Rattle.rescore_graph.specs.Graph.{Among}
 use Rattle.rescore_graph.specs.States.{State, is_dirty}
 use Rattle.rescore_graph.specs.Settling.{Sound}
-use Rattle.season_graph.specs.declared.nodes.Node.{Node}
-use Rattle.season_graph.specs.declared.nodes.Node.TheVariants as node
-use Rattle.season_graph.specs.declared.nodes.Value.{Value}
-use Rattle.season_graph.specs.Reading.{among_left, among_right, to_flat, to_map}
+use Rattle.season_nodes.specs.declared.nodes.Node.{Node}
+use Rattle.season_nodes.specs.declared.nodes.Node.TheVariants as node
+use Rattle.season_nodes.specs.declared.nodes.Value.{Value}
+use Rattle.season_nodes.specs.Reading.{among_left, among_right, to_flat, to_map}
 use Rattle.season_graph.specs.Refreshed.{refreshed, Refreshed}
-use Rattle.season_graph.specs.Season.{SeasonFacts, is_live, players_of, season_graph}
-use Rattle.season_graph.specs.SeasonLaws.{first_true, has_listed, has_some, second_true}
-use Rattle.season_graph.specs.Touched.{fixture_nodes, fixtures_nodes, locked_nodes, season_nodes}
-use Rattle.season_graph.proofs.LockFacts.{locked_among}
+use Rattle.season_nodes.specs.Season.{SeasonFacts, is_live, players_of, season_graph}
+use Rattle.season_nodes.specs.SeasonLaws.{first_true, has_listed, has_some, second_true}
+use Rattle.season_graph.specs.Touched.{all_nodes, fixture_nodes, fixtures_nodes, locked_nodes}
+use Rattle.season_graph.proofs.LockFacts.{locked_among, locked_team}
+use Rattle.season_graph.proofs.TeamFacts.{team_alive}
 
 clash : true ≡ false → ⊥
 clash e = cc
@@ -46,16 +47,17 @@ from_0 : (n : ℕ) → 0 ≤ n
 from_0 n = omega arith
 
 module _ (b : SeasonFacts) where
-  in_fixture : (f : ℕ) (n : Node) → nat_lt 0 (length (lines_of b.matches f)) ≡ true → Among (fixture_nodes b f) n → Among (season_nodes b) n
+  in_fixture : (f : ℕ) (n : Node) → nat_lt 0 (length (lines_of b.matches f)) ≡ true → Among (fixture_nodes b f) n → Among (all_nodes b) n
   in_fixture f n e a = among_left (fixtures_nodes b) (locked_nodes b 0) n (to_flat (fixture_nodes b) (keys_of b.matches) f n (with_lines b.matches f e) a)
 
   -- each live node is one of the season
-  pub live_among : (n : Node) → is_live b n ≡ true → Among (season_nodes b) n
+  pub live_among : (n : Node) → is_live b n ≡ true → Among (all_nodes b) n
   live_among (node.Line f p) l = in_fixture f (node.Line f p) (has_some (lines_of b.matches f) p l) (inr (to_map (node.Line f) (players_of b f) p (has_listed (lines_of b.matches f) p l)))
   live_among (node.Bonus f) l = in_fixture f (node.Bonus f) l (inl refl)
   live_among (node.PlayerGw p g) l = among_right (fixtures_nodes b) (locked_nodes b 0) (node.PlayerGw p g)
       (locked_among b 0 p g (from_0 b.calendar.locked)
       (from_1 g (first_true (nat_le 1 g) (nat_le g b.calendar.locked) (second_true (is_some (player_of b.players p)) (nat_le 1 g && nat_le g b.calendar.locked) l))) l)
+  live_among (node.TeamGw e g) l = among_right (fixtures_nodes b) (locked_nodes b 0) (node.TeamGw e g) (locked_team b 0 e g (from_0 b.calendar.locked) (from_1 g (team_alive b e g l).2) l)
 
 -- a cell that was planted where its node is live
 planted_some : (l : Bool) (o : Option (Slot Value)) → o ≡ refreshed l None → is_some o ≡ l

@@ -1,5 +1,5 @@
 -- What the calls that change the books do to the facts: each leaves a season, which differs from the one before as the
--- cells can follow it.
+-- cells can follow it. And when an index stays right.
 use Rattle.std.specs.Prelude.{◌≡◌, ℕ, Bool, true, false, List, [], Option, Some, None, is_some}
 use Rattle.rule_book.specs.declared.line.Line.{Line}
 use Rattle.rule_book.specs.declared.player.Player.{Player}
@@ -10,11 +10,14 @@ use Rattle.rule_book.specs.MatchCalls.{drop_line, put_line, put_sheet, set_finis
 use Rattle.rule_book.specs.MatchFacts.{Lines, MatchFacts, is_finished, line_in, line_of, players_in}
 use Rattle.rule_book.specs.Players.{player_of, with_club, with_gone, with_player, with_price}
 use Rattle.rule_book.specs.Repeats.{first_repeat}
+use Rattle.manager_book.specs.Managers.{Managers}
 use Rattle.rescore_graph.specs.Graph.{Among}
-use Rattle.season_graph.specs.Changes.{AreAlike, DifferInLine, DifferInLocks, DifferInMark, DifferInPlace, DifferInPlayer, DifferInSheet}
-use Rattle.season_graph.specs.Season.{SeasonFacts, IsSeason}
+use Rattle.season_graph.specs.Changes.{AreAlike, DifferInLine, DifferInLocks, DifferInMark, DifferInPlace, DifferInPlayer, DifferInSheet, EntriesStay}
+use Rattle.season_nodes.specs.BookFacts.{facts_with}
+use Rattle.season_nodes.specs.IndexFacts.{IsIndex}
+use Rattle.season_nodes.specs.Season.{SeasonFacts, IsSeason}
 
--- the facts with other lines and marks, with another calendar, with other players
+-- the facts with other lines and marks, with another calendar, with other players, with another book of managers
 abbrev pub with_matches : SeasonFacts → MatchFacts → SeasonFacts
 with_matches b matches = record b { matches = matches }
 
@@ -23,6 +26,9 @@ with_calendar b calendar = record b { calendar = calendar }
 
 abbrev pub with_players : SeasonFacts → List Player → SeasonFacts
 with_players b players = record b { players = players }
+
+abbrev pub with_managers : SeasonFacts → Managers → SeasonFacts
+with_managers b managers = facts_with b.profile b.calendar b.players b.matches managers
 
 -- a season begins with no facts of its matches
 abbrev pub SeasonBegins : Type 0
@@ -92,3 +98,12 @@ ClubChanges = (b : SeasonFacts) (p club : ℕ) → IsSeason b → let d = with_p
 
 abbrev pub GoneChanges : Type 0
 GoneChanges = (b : SeasonFacts) (p : ℕ) (gone : Bool) → IsSeason b → let d = with_players b (with_gone b.players p gone) in IsSeason d × AreAlike b d
+
+-- a manager does something that changes nothing of the locked gameweeks: no node is touched
+abbrev pub ManagersChange : Type 0
+ManagersChange = (b : SeasonFacts) (managers : Managers) → IsSeason b
+    → let d = with_managers b managers in EntriesStay b d → IsSeason d × AreAlike b d
+
+-- an index stays right where no gameweek is locked and the entries are as they were in those that are
+abbrev pub IndexStays : Type 0
+IndexStays = (b d : SeasonFacts) (holders : ℕ → ℕ → List ℕ) → b.calendar.locked ≡ d.calendar.locked → EntriesStay b d → IsIndex b holders → IsIndex d holders

@@ -1,17 +1,17 @@
 -- What one change of the facts leaves as it was.
-use Rattle.std.specs.Prelude.{◌≡◌, ◌≢◌, ◌≤◌, ℕ, List, Bool, true, false, ◌⊎◌, ◌↔◌, is_some}
+use Rattle.std.specs.Prelude.{◌≡◌, ◌≢◌, ◌≤◌, ℕ, List, Bool, true, false, ◌&&◌, ◌⊎◌, ◌↔◌, nat_le}
 use Rattle.std.specs.Option.{option_map}
-use Rattle.rule_book.specs.Calendar.{stands_in}
+use Rattle.rule_book.specs.Calendar.{standing, stands_in}
 use Rattle.rule_book.specs.MatchFacts.{is_finished, line_of}
 use Rattle.rule_book.specs.PlayerFigures.{position_in}
 use Rattle.rule_book.specs.Players.{player_of}
 use Rattle.rescore_graph.specs.Graph.{Among}
 use Rattle.rescore_graph.specs.States.{State, is_dirty, IsDirty}
 use Rattle.rescore_graph.specs.Settling.{Sound}
-use Rattle.season_graph.specs.declared.nodes.Value.{Value}
-use Rattle.season_graph.specs.declared.nodes.Node.{Node}
-use Rattle.season_graph.specs.declared.nodes.Node.TheVariants as node
-use Rattle.season_graph.specs.Season.{SeasonFacts, players_of, fixtures_of, is_live, season_graph}
+use Rattle.season_nodes.specs.declared.nodes.Value.{Value}
+use Rattle.season_nodes.specs.declared.nodes.Node.{Node}
+use Rattle.season_nodes.specs.declared.nodes.Node.TheVariants as node
+use Rattle.season_nodes.specs.Season.{SeasonFacts, IsSeason, ended, fielded_in, fixtures_of, has_begun, is_live, is_there, players_of, season_graph}
 
 module _ (b d : SeasonFacts) where
   -- a node's inputs and its own facts are the same in both
@@ -19,6 +19,7 @@ module _ (b d : SeasonFacts) where
   IsSame (node.Line f p) = (line_of b.matches f p ≡ line_of d.matches f p) × (b.profile ≡ d.profile) × (position_in b.players p ≡ position_in d.players p)
   IsSame (node.Bonus f) = (players_of b f ≡ players_of d f) × (is_finished b.matches f ≡ is_finished d.matches f)
   IsSame (node.PlayerGw p g) = fixtures_of b p g ≡ fixtures_of d p g
+  IsSame (node.TeamGw e g) = (b.team e g ≡ d.team e g) × (b.cost e g ≡ d.cost e g) × (ended b g ≡ ended d g) × (fielded_in b e g ≡ fielded_in d e g)
 
   -- a node that the change from b to d leaves as it was
   abbrev pub IsKept : Node → Type 0
@@ -28,6 +29,14 @@ module _ (b d : SeasonFacts) where
   abbrev pub IsTouched : Node → Type 0
   IsTouched n = (is_live d n ≡ true) × (¬ IsKept n)
 
+  -- the entries are as they were in each gameweek that was locked: the same have begun, with the same teams and the same
+  -- costs of transfers
+  pub record EntriesStay : Type 0 where
+    pub begun : (e g : ℕ) → (nat_le 1 g && nat_le g b.calendar.locked) ≡ true → has_begun b e g ≡ has_begun d e g
+    pub team : (e g : ℕ) → is_live b (node.TeamGw e g) ≡ true → b.team e g ≡ d.team e g
+    pub cost : (e g : ℕ) → is_live b (node.TeamGw e g) ≡ true → b.cost e g ≡ d.cost e g
+
+module _ (b d : SeasonFacts) where
   -- they differ at most in the line of a player in a fixture
   pub record DifferInLine (f p : ℕ) : Type 0 where
     pub profile : b.profile ≡ d.profile
@@ -35,6 +44,7 @@ module _ (b d : SeasonFacts) where
     pub players : b.players ≡ d.players
     pub marks : (k : ℕ) → is_finished b.matches k ≡ is_finished d.matches k
     pub others : (k q : ℕ) → (k ≢ f) ⊎ (q ≢ p) → line_of b.matches k q ≡ line_of d.matches k q
+    pub entries : EntriesStay b d
 
   -- they differ at most in the lines of some players in a fixture, and, if it is marked so, in its mark
   pub record DifferInSheet (f : ℕ) (ps : List ℕ) (marked : Bool) : Type 0 where
@@ -43,6 +53,7 @@ module _ (b d : SeasonFacts) where
     pub players : b.players ≡ d.players
     pub marks : (k : ℕ) → (k ≢ f) ⊎ (marked ≡ false) → is_finished b.matches k ≡ is_finished d.matches k
     pub others : (k q : ℕ) → (k ≢ f) ⊎ (¬ Among ps q) → line_of b.matches k q ≡ line_of d.matches k q
+    pub entries : EntriesStay b d
 
   -- they differ at most in the mark of a fixture
   pub record DifferInMark (f : ℕ) : Type 0 where
@@ -51,6 +62,7 @@ module _ (b d : SeasonFacts) where
     pub players : b.players ≡ d.players
     pub marks : (k : ℕ) → k ≢ f → is_finished b.matches k ≡ is_finished d.matches k
     pub lines : (k q : ℕ) → line_of b.matches k q ≡ line_of d.matches k q
+    pub entries : EntriesStay b d
 
   -- they differ at most in where a fixture stands
   pub record DifferInPlace (f : ℕ) : Type 0 where
@@ -59,15 +71,18 @@ module _ (b d : SeasonFacts) where
     pub players : b.players ≡ d.players
     pub matches : b.matches ≡ d.matches
     pub others : (k : ℕ) → k ≢ f → stands_in b.calendar k ≡ stands_in d.calendar k
+    pub entries : EntriesStay b d
 
 module _ (b d : SeasonFacts) where
-  -- they differ in a player, who is new
+  -- they differ in a player, who is new: he was not there, and is there
   pub record DifferInPlayer (p : ℕ) : Type 0 where
     pub profile : b.profile ≡ d.profile
     pub calendar : b.calendar ≡ d.calendar
     pub matches : b.matches ≡ d.matches
-    pub absent : is_some (player_of b.players p) ≡ false
+    pub absent : is_there b p ≡ false
+    pub there : is_there d p ≡ true
     pub others : (q : ℕ) → q ≢ p → player_of b.players q ≡ player_of d.players q
+    pub entries : EntriesStay b d
 
   -- more gameweeks are locked than the first ones
   pub record DifferInLocks (first : ℕ) : Type 0 where
@@ -77,14 +92,23 @@ module _ (b d : SeasonFacts) where
     pub fixtures : b.calendar.fixtures ≡ d.calendar.fixtures
     pub before : b.calendar.locked ≡ first
     pub rises : first ≤ d.calendar.locked
+    pub entries : EntriesStay b d
 
   -- they differ in nothing that a node hangs on
   pub record AreAlike : Type 0 where
     pub profile : b.profile ≡ d.profile
     pub locked : b.calendar.locked ≡ d.calendar.locked
-    pub fixtures : b.calendar.fixtures ≡ d.calendar.fixtures
-    pub matches : b.matches ≡ d.matches
+    pub stand : (g : ℕ) → standing b.calendar g ≡ standing d.calendar g
+    pub lines : (f p : ℕ) → line_of b.matches f p ≡ line_of d.matches f p
+    pub marks : (f : ℕ) → is_finished b.matches f ≡ is_finished d.matches f
     pub positions : (q : ℕ) → option_map (λ x. x.position) (player_of b.players q) ≡ option_map (λ x. x.position) (player_of d.players q)
+    pub entries : EntriesStay b d
+
+-- a line, a mark or a place that is named and is the same is no difference
+pub record SameIsAlike : Type 0 where
+  pub line : (b d : SeasonFacts) (f p : ℕ) → DifferInLine b d f p → line_of b.matches f p ≡ line_of d.matches f p → AreAlike b d
+  pub mark : (b d : SeasonFacts) (f : ℕ) → DifferInMark b d f → is_finished b.matches f ≡ is_finished d.matches f → AreAlike b d
+  pub place : (b d : SeasonFacts) (f : ℕ) → IsSeason b → IsSeason d → DifferInPlace b d f → stands_in b.calendar f ≡ stands_in d.calendar f → AreAlike b d
 
 -- cells s that are sound for the facts b became cells t that are sound for the facts d
 abbrev pub Follows : SeasonFacts → SeasonFacts → State Node Value → State Node Value → Type 0

@@ -3,9 +3,9 @@ use Rattle.std.specs.Prelude.{◌≡◌, ◌↔◌, true, false, IsSome}
 use Rattle.rescore_graph.specs.Graph.{replay}
 use Rattle.rescore_graph.specs.States.{State, is_dirty, values_in}
 use Rattle.rescore_graph.specs.Settling.{Sound}
-use Rattle.season_graph.specs.declared.nodes.Node.{Node}
-use Rattle.season_graph.specs.declared.nodes.Value.{Value}
-use Rattle.season_graph.specs.Season.{SeasonFacts, is_live, season_graph}
+use Rattle.season_nodes.specs.declared.nodes.Node.{Node}
+use Rattle.season_nodes.specs.declared.nodes.Value.{Value}
+use Rattle.season_nodes.specs.Season.{SeasonFacts, is_live, season_graph}
 use Rattle.season_graph.specs.Told.{IsTold}
 
 -- the cells are those of the live nodes, nothing is dirty, and each has its replay value, which is what the rule book

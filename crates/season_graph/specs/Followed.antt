@@ -4,33 +4,21 @@
 use Rattle.std.specs.Prelude.{◌≡◌, ◌≢◌, ◌-◌, ℕ, Bool, true, List, Option, is_some}
 use Rattle.rule_book.specs.Calendar.{stands_in}
 use Rattle.rule_book.specs.MatchFacts.{is_finished, line_of}
-use Rattle.rescore_graph.specs.declared.cells.Slot.{Slot}
 use Rattle.rescore_graph.specs.Graph.{Among}
-use Rattle.rescore_graph.specs.States.{Puts, State, look, values_in}
+use Rattle.rescore_graph.specs.States.{Puts}
 use Rattle.rescore_graph.specs.Settling.{Remains, Settles, Sound}
-use Rattle.season_graph.specs.declared.books.Books.{Books}
-use Rattle.season_graph.specs.declared.nodes.Node.{Node}
-use Rattle.season_graph.specs.declared.nodes.Node.TheVariants as node
-use Rattle.season_graph.specs.declared.nodes.Value.{Value}
-use Rattle.season_graph.specs.BookFacts.{facts_of}
+use Rattle.season_nodes.specs.declared.books.Books.{Books}
+use Rattle.season_nodes.specs.declared.nodes.Node.{Node}
+use Rattle.season_nodes.specs.declared.nodes.Node.TheVariants as node
+use Rattle.season_nodes.specs.BookFacts.{facts_of}
 use Rattle.season_graph.specs.Changes.{AreAlike, DifferInLine, DifferInLocks, DifferInMark, DifferInPlace, DifferInPlayer, DifferInSheet, Follows, MarksTouched}
 use Rattle.season_graph.specs.Evaluated.{IsEvaluated}
-use Rattle.season_graph.specs.NodeOrder.{node_cmp}
+use Rattle.season_nodes.specs.Held.{SeasonRows, held}
+use Rattle.season_nodes.specs.IndexFacts.{IsIndex}
+use Rattle.season_nodes.specs.NodeOrder.{node_cmp}
 use Rattle.season_graph.specs.Refreshed.{Refreshed, refreshed}
-use Rattle.season_graph.specs.Season.{SeasonFacts, IsSeason, is_live, season_graph}
-use Rattle.season_graph.specs.Touched.{line_nodes, lines_nodes, locked_nodes, moved_nodes, player_nodes, presence_nodes, sheet_nodes}
-
--- the cells of a season, as contracts see them
-abbrev pub SeasonRows : Type 0
-SeasonRows = List (Node × Slot Value)
-
--- what they hold of each node
-abbrev pub held : SeasonRows → State Node Value
-held cells = look node_cmp cells
-
--- the values that they hold
-abbrev pub held_values : SeasonRows → Node → Option Value
-held_values cells = values_in (held cells)
+use Rattle.season_nodes.specs.Season.{SeasonFacts, IsSeason, is_live, season_graph}
+use Rattle.season_graph.specs.Touched.{coming_nodes, entry_nodes, line_nodes, lines_nodes, locked_entries, locked_nodes, locked_players, mark_nodes, moved_nodes, player_nodes, presence_nodes, sheet_nodes}
 
 -- whether a player's line in a fixture has a cell
 abbrev pub had_line : SeasonRows → ℕ → ℕ → Bool
@@ -108,6 +96,9 @@ module _ (b : Books) where
   SheetMarked f ps marked old new = MarksFrom (IsOtherSheet f ps marked) old new
 
   -- the mark of a fixture
+  abbrev pub MarkRefreshed : ℕ → SeasonRows → SeasonRows → Type 0
+  MarkRefreshed f old new = Refreshes (mark_nodes (facts_of b) f) old new
+
   abbrev pub MarkFollowed : ℕ → SeasonRows → SeasonRows → Type 0
   MarkFollowed f old new = FollowsFrom (λ before. DifferInMark before (facts_of b) f) old new
 
@@ -131,17 +122,29 @@ module _ (b : Books) where
   abbrev pub MoveMarked : ℕ → Option ℕ → Option ℕ → SeasonRows → SeasonRows → Type 0
   MoveMarked f from to old new = MarksFrom (λ before. IsMove f from to before × (from ≢ to)) old new
 
-  -- a new player
-  abbrev pub PlayerRefreshed : ℕ → SeasonRows → SeasonRows → Type 0
-  PlayerRefreshed p old new = Refreshes (player_nodes p 0 b.calendar.now.locked) old new
+  -- a new player, where an index tells who holds him
+  abbrev pub PlayerRefreshed : (ℕ → ℕ → List ℕ) → ℕ → SeasonRows → SeasonRows → Type 0
+  PlayerRefreshed holders p old new = Refreshes (coming_nodes (facts_of b) holders p) old new
 
-  abbrev pub PlayerFollowed : ℕ → SeasonRows → SeasonRows → Type 0
-  PlayerFollowed p old new = FollowsFrom (λ before. DifferInPlayer before (facts_of b) p) old new
+  abbrev pub PlayerFollowed : (ℕ → ℕ → List ℕ) → ℕ → SeasonRows → SeasonRows → Type 0
+  PlayerFollowed holders p old new =
+      IsIndex (facts_of b) holders → FollowsFrom (λ before. DifferInPlayer before (facts_of b) p) old new
 
-  abbrev pub PlayerMarked : ℕ → SeasonRows → SeasonRows → Type 0
-  PlayerMarked p old new = MarksFrom (λ before. DifferInPlayer before (facts_of b) p) old new
+  abbrev pub PlayerMarked : (ℕ → ℕ → List ℕ) → ℕ → SeasonRows → SeasonRows → Type 0
+  PlayerMarked holders p old new =
+      IsIndex (facts_of b) holders → MarksFrom (λ before. DifferInPlayer before (facts_of b) p) old new
+
+  -- the locked gameweeks of an entry, behind the first ones
+  abbrev pub EntryRefreshed : ℕ → ℕ → SeasonRows → SeasonRows → Type 0
+  EntryRefreshed e first old new = Refreshes (entry_nodes e first (b.calendar.now.locked - first)) old new
 
   -- locks of gameweeks, behind the first ones
+  abbrev pub PlayersRefreshed : ℕ → SeasonRows → SeasonRows → Type 0
+  PlayersRefreshed first old new = Refreshes (locked_players (facts_of b) first) old new
+
+  abbrev pub EntriesRefreshed : ℕ → SeasonRows → SeasonRows → Type 0
+  EntriesRefreshed first old new = Refreshes (locked_entries (facts_of b) first) old new
+
   abbrev pub LocksRefreshed : ℕ → SeasonRows → SeasonRows → Type 0
   LocksRefreshed first old new = Refreshes (locked_nodes (facts_of b) first) old new
 
@@ -154,3 +157,6 @@ module _ (b : Books) where
   -- nothing that a node hangs on: the cells follow as they are
   abbrev pub AlikeFollowed : SeasonRows → Type 0
   AlikeFollowed cells = FollowsFrom (λ before. AreAlike before (facts_of b)) cells cells
+
+  abbrev pub AlikeMarked : SeasonRows → Type 0
+  AlikeMarked cells = MarksFrom (λ before. AreAlike before (facts_of b)) cells cells

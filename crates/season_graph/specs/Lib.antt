@@ -1,13 +1,8 @@
 pub mod BookChanges
-pub mod BookFacts
 pub mod Changes
-pub mod Dependents
 pub mod Evaluated
 pub mod Followed
-pub mod NodeOrder
-pub mod Reading
+pub mod Indexed
 pub mod Refreshed
-pub mod Season
-pub mod SeasonLaws
 pub mod Told
 pub mod Touched

@@ -1,12 +1,14 @@
 -- Which nodes a change of the facts touches.
-use Rattle.std.specs.Prelude.{ℕ, zero, suc, ◌+◌, ◌-◌, Bool, true, false, not, if◌then◌else◌, List, [], ◌∷◌, ◌++◌, Option, map}
-use Rattle.std.specs.List.{flat_map}
+use Rattle.std.specs.Prelude.{ℕ, zero, suc, ◌+◌, ◌-◌, ◌==◌, ◌&&◌, ◌||◌, Bool, true, false, not, if◌then◌else◌, List, [], ◌∷◌, ◌++◌, Option, map}
+use Rattle.std.specs.List.{flat_map, list_all}
 use Rattle.std.specs.Map.{keys_of}
 use Rattle.std.specs.Option.{option_map_or}
-use Rattle.rule_book.specs.Calendar.{stands_in}
-use Rattle.season_graph.specs.declared.nodes.Node.{Node}
-use Rattle.season_graph.specs.declared.nodes.Node.TheVariants as node
-use Rattle.season_graph.specs.Season.{SeasonFacts, has_line, players_of}
+use Rattle.rule_book.specs.Calendar.{is_locked, standing, stands_in}
+use Rattle.rule_book.specs.MatchFacts.{is_finished}
+use Rattle.season_nodes.specs.declared.nodes.Node.{Node}
+use Rattle.season_nodes.specs.declared.nodes.Node.TheVariants as node
+use Rattle.season_nodes.specs.Dependents.{gameweek_dependents}
+use Rattle.season_nodes.specs.Season.{SeasonFacts, has_line, players_of}
 
 -- whether two answers differ
 abbrev pub is_other : Bool → Bool → Bool
@@ -17,15 +19,64 @@ is_other false b = b
 abbrev pub gameweek_beside : ℕ → Option ℕ → List Node
 gameweek_beside p place = option_map_or (λ g. node.PlayerGw p g ∷ []) place []
 
--- some gameweeks of a player: so many, behind the first ones
+-- the nodes of some gameweeks: of so many, behind the first ones
+abbrev pub gameweek_nodes : (ℕ → Node) → ℕ → ℕ → List Node
+gameweek_nodes at first zero = []
+gameweek_nodes at first (suc n) = gameweek_nodes at first n ++ at (first + n + 1) ∷ []
+
+-- some gameweeks of a player, and of an entry
 abbrev pub player_nodes : ℕ → ℕ → ℕ → List Node
-player_nodes p first zero = []
-player_nodes p first (suc n) = player_nodes p first n ++ node.PlayerGw p (first + n + 1) ∷ []
+player_nodes p first n = gameweek_nodes (node.PlayerGw p) first n
+
+abbrev pub entry_nodes : ℕ → ℕ → ℕ → List Node
+entry_nodes e first n = gameweek_nodes (node.TeamGw e) first n
+
+-- the nodes of each of so many numbers from 1 on, of entries or of gameweeks
+abbrev pub numbered_nodes : (ℕ → List Node) → ℕ → List Node
+numbered_nodes each zero = []
+numbered_nodes each (suc n) = numbered_nodes each n ++ each (n + 1)
+
+-- the gameweeks of the entries that hold a player, in each of so many gameweeks
+abbrev pub holding_nodes : (ℕ → ℕ → List ℕ) → ℕ → ℕ → List Node
+holding_nodes holders p n = numbered_nodes (λ g. gameweek_dependents (holders p g) g) n
 
 module _ (b : SeasonFacts) where
+  -- the gameweeks behind the first ones, up to the last that is locked: of the players, of the entries, and of both
+  abbrev pub locked_players : ℕ → List Node
+  locked_players first = flat_map (λ player. player_nodes player.id first (b.calendar.locked - first)) b.players
+
+  abbrev pub locked_entries : ℕ → List Node
+  locked_entries first = numbered_nodes (λ e. entry_nodes e first (b.calendar.locked - first)) b.entries
+
   -- the nodes that become live when the gameweeks behind the first ones are locked
   abbrev pub locked_nodes : ℕ → List Node
-  locked_nodes first = flat_map (λ player. player_nodes player.id first (b.calendar.locked - first)) b.players
+  locked_nodes first = locked_players first ++ locked_entries first
+
+  -- the nodes that a new player touches, where it is told who holds him: his locked gameweeks, and the gameweeks of the
+  -- entries that hold him in them
+  abbrev pub coming_nodes : (ℕ → ℕ → List ℕ) → ℕ → List Node
+  coming_nodes holders p = player_nodes p 0 b.calendar.locked ++ holding_nodes holders p b.calendar.locked
+
+  -- the gameweek of each entry
+  abbrev pub team_nodes : ℕ → List Node
+  team_nodes g = numbered_nodes (λ e. node.TeamGw e g ∷ []) b.entries
+
+  -- whether each fixture that stands in a gameweek is finished, but for one that is left out
+  abbrev pub others_finished : ℕ → ℕ → Bool
+  others_finished f g = list_all (λ k. (k == f) || is_finished b.matches k) (standing b.calendar g)
+
+  -- the nodes that hang on whether a fixture of a gameweek is finished, or is there unfinished: where the gameweek is locked
+  -- and all its other fixtures are finished, the gameweek of each entry
+  abbrev pub ending_in : ℕ → ℕ → List Node
+  ending_in f g = if is_locked b.calendar g && others_finished f g then team_nodes g else []
+
+  -- the same of a place that may be no gameweek
+  abbrev pub ending_nodes : ℕ → Option ℕ → List Node
+  ending_nodes f place = option_map_or (ending_in f) place []
+
+  -- the nodes that the mark of a fixture touches: its bonus, and whether its gameweek has ended
+  abbrev pub mark_nodes : ℕ → List Node
+  mark_nodes f = node.Bonus f ∷ ending_nodes f (stands_in b.calendar f)
 
   -- the nodes that count whether a player has a line in a fixture
   abbrev pub presence_nodes : ℕ → ℕ → List Node
@@ -41,11 +92,19 @@ module _ (b : SeasonFacts) where
 
   -- and its mark, if it is another
   abbrev pub sheet_nodes : (ℕ → Bool) → ℕ → List ℕ → Bool → List Node
-  sheet_nodes was f ps marked = lines_nodes was f ps ++ (if marked then node.Bonus f ∷ [] else [])
+  sheet_nodes was f ps marked = lines_nodes was f ps ++ (if marked then mark_nodes f else [])
+
+  -- the gameweeks of its players that a fixture touches which stands in another gameweek
+  abbrev pub moved_players : ℕ → Option ℕ → Option ℕ → List Node
+  moved_players f from to = flat_map (λ p. gameweek_beside p from ++ gameweek_beside p to) (players_of b f)
+
+  -- and, where it is not finished, the gameweeks that end without it, or no longer with it
+  abbrev pub moved_endings : ℕ → Option ℕ → Option ℕ → List Node
+  moved_endings f from to = if is_finished b.matches f then [] else ending_nodes f from ++ ending_nodes f to
 
   -- the nodes that a fixture touches which stands in another gameweek
   abbrev pub moved_nodes : ℕ → Option ℕ → Option ℕ → List Node
-  moved_nodes f from to = flat_map (λ p. gameweek_beside p from ++ gameweek_beside p to) (players_of b f)
+  moved_nodes f from to = moved_players f from to ++ moved_endings f from to
 
   -- the nodes of a fixture: its bonus, and its lines
   abbrev pub fixture_nodes : ℕ → List Node
@@ -56,5 +115,5 @@ module _ (b : SeasonFacts) where
   fixtures_nodes = flat_map fixture_nodes (keys_of b.matches)
 
   -- all nodes that can be live
-  abbrev pub season_nodes : List Node
-  season_nodes = fixtures_nodes ++ locked_nodes 0
+  abbrev pub all_nodes : List Node
+  all_nodes = fixtures_nodes ++ locked_nodes 0

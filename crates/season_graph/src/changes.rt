@@ -1,13 +1,19 @@
 // What changes of the books do to the cells.
-ghost use Rattle.std.specs.Prelude.{◌≡◌, ◌<◌, ◌+◌, [], ◌∷◌, OnOk, IfSome, slice_get, if◌then◌else◌};
-ghost use Rattle.season_graph.specs.Followed.{Refreshes, RefreshesOne, GameweeksRefreshed, PresenceRefreshed, LineRefreshed, LineFollowed, LineMarked, LinesRefreshed, SheetRefreshed, SheetFollowed, SheetMarked, MarkFollowed, MarkMarked, MoveRefreshed, MoveFollowed, MoveMarked, PlayerRefreshed, PlayerFollowed, PlayerMarked, LocksRefreshed, LocksFollowed, LocksMarked};
-ghost use Rattle.season_graph.specs.Touched.{gameweek_beside};
-ghost use Rattle.season_graph.specs.declared.nodes.Node.{Node};
+ghost use Rattle.std.specs.Prelude.{[], OnOk, if◌then◌else◌};
+ghost use Rattle.season_graph.specs.Followed.{Refreshes, PresenceRefreshed, LineRefreshed, LineFollowed, LineMarked, LinesRefreshed, SheetRefreshed, SheetFollowed, SheetMarked, MarkRefreshed, MarkFollowed, MarkMarked, MoveRefreshed, MoveFollowed, MoveMarked, PlayerRefreshed, PlayerFollowed, PlayerMarked, LocksRefreshed, LocksFollowed, LocksMarked};
+ghost use Rattle.season_graph.specs.Indexed.{IndexFollowed, IndexKept};
+ghost use Rattle.season_graph.specs.Touched.{gameweek_beside, mark_nodes, moved_players};
+ghost use Rattle.season_nodes.specs.BookFacts.{facts_of};
+ghost use Rattle.season_nodes.specs.IndexFacts.{holders_in};
 
-use crate::books::Books;
-use crate::nodes::Node;
-use crate::rules::SeasonCells;
+use crate::endings::{refresh_endings, refresh_mark};
+use crate::holding::refresh_holding;
+use crate::indexing::index_gameweeks;
+use crate::locks::{refresh_gameweeks, refresh_locked};
+use crate::refreshing::{refresh_bonus, refresh_line, refresh_one};
 use fpl_base::{FixtureId, Gw, Memory, PlayerId};
+use season_nodes::{Books, Index, Node};
+use season_rules::SeasonCells;
 
 /// A player's line in a fixture was put in, replaced by another, or taken away. After want of memory the cells follow
 /// neither the old books nor these, and have to be made anew.
@@ -46,18 +52,18 @@ pub fn sheet_changed(
     Ok(())
 }
 
-/// A fixture was marked as finished, or the mark was taken away. Want of memory is as for one line.
+/// A fixture was marked as finished, or the mark was taken away. Where all other fixtures of its gameweek are finished,
+/// the gameweek ends by it, or goes on again. Want of memory is as for one line.
 pub fn mark_changed(
     cells: &mut SeasonCells,
     books: &Books,
     fixture: FixtureId,
 ) -> Result<(), Memory>
-    ensures nodes { OnOk result
-        (Refreshes books.now (Node.Bonus fixture ∷ []) cells.old cells.new) }
+    ensures nodes { OnOk result (MarkRefreshed books.now fixture cells.old cells.new) }
     ensures sound { OnOk result (MarkFollowed books.now fixture cells.old cells.new) }
     ensures exact { OnOk result (MarkMarked books.now fixture cells.old cells.new) }
 {
-    refresh_bonus(cells, books, fixture)?;
+    refresh_mark(cells, books, fixture)?;
     Ok(())
 }
 
@@ -78,77 +84,42 @@ pub fn fixture_moved(
     Ok(())
 }
 
-/// A player came, who was not there before. Want of memory is as for one line.
-pub fn player_added(cells: &mut SeasonCells, books: &Books, player: PlayerId) -> Result<(), Memory>
-    ensures nodes { OnOk result (PlayerRefreshed books.now player cells.old cells.new) }
-    ensures sound { OnOk result (PlayerFollowed books.now player cells.old cells.new) }
-    ensures exact { OnOk result (PlayerMarked books.now player cells.old cells.new) }
+/// A player came, who was not there before. A team of a locked gameweek that holds him scores with him from now on; the
+/// index tells of such teams. Want of memory is as for one line.
+pub fn player_added(
+    index: &Index,
+    cells: &mut SeasonCells,
+    books: &Books,
+    player: PlayerId,
+) -> Result<(), Memory>
+    ensures nodes { OnOk result
+        (PlayerRefreshed books.now (holders_in index.now) player cells.old cells.new) }
+    ensures sound { OnOk result
+        (PlayerFollowed books.now (holders_in index.now) player cells.old cells.new) }
+    ensures exact { OnOk result
+        (PlayerMarked books.now (holders_in index.now) player cells.old cells.new) }
 {
     refresh_gameweeks(cells, books, player, 0)?;
+    refresh_holding(index, cells, books, player)?;
     Ok(())
 }
 
-/// Gameweeks were locked. `first` is how many were locked before. Want of memory is as for one line.
-pub fn gameweeks_locked(cells: &mut SeasonCells, books: &Books, first: u8) -> Result<(), Memory>
+/// Gameweeks were locked. `first` is how many were locked before. The index has then also who holds whom in these
+/// gameweeks. After want of memory the cells and the index have to be made anew.
+pub fn gameweeks_locked(
+    index: &mut Index,
+    cells: &mut SeasonCells,
+    books: &Books,
+    first: u8,
+) -> Result<(), Memory>
     ensures nodes { OnOk result (LocksRefreshed books.now first cells.old cells.new) }
     ensures sound { OnOk result (LocksFollowed books.now first cells.old cells.new) }
     ensures exact { OnOk result (LocksMarked books.now first cells.old cells.new) }
+    ensures index { OnOk result (IndexFollowed (facts_of books.now) first index.old index.new) }
+    ensures earlier { OnOk result (IndexKept first index.old index.new) }
 {
-    refresh_players(cells, books, first)?;
-    Ok(())
-}
-
-// Brings one node up to date: it is made dirty where it is live, planted if it has no cell, and taken out where it is
-// not live.
-fn refresh(cells: &mut SeasonCells, books: &Books, n: &Node) -> Result<(), Memory>
-    ensures { OnOk result (RefreshesOne books.now n.now cells.old cells.new) }
-{
-    let has_cell = cells.evaluations(*n).is_some();
-    if !books.is_live(n) {
-        if has_cell {
-            cells.uproot(*n);
-        }
-        return Ok(());
-    }
-    if has_cell {
-        cells.mark(*n)?;
-    } else {
-        cells.plant(*n)?;
-    }
-    Ok(())
-}
-
-// Brings a node up to date.
-fn refresh_one(cells: &mut SeasonCells, books: &Books, n: &Node) -> Result<(), Memory>
-    ensures { OnOk result (Refreshes books.now (n.now ∷ []) cells.old cells.new) }
-{
-    refresh(cells, books, n)?;
-    Ok(())
-}
-
-// Brings the line of a player in a fixture up to date.
-pub(crate) fn refresh_line(
-    cells: &mut SeasonCells,
-    books: &Books,
-    fixture: FixtureId,
-    player: PlayerId,
-) -> Result<(), Memory>
-    ensures { OnOk result
-        (Refreshes books.now (Node.Line fixture player ∷ []) cells.old cells.new) }
-{
-    refresh_one(cells, books, &Node::Line(fixture, player))?;
-    Ok(())
-}
-
-// Brings the bonus of a fixture up to date.
-pub(crate) fn refresh_bonus(
-    cells: &mut SeasonCells,
-    books: &Books,
-    fixture: FixtureId,
-) -> Result<(), Memory>
-    ensures { OnOk result (Refreshes books.now (Node.Bonus fixture ∷ []) cells.old cells.new) }
-{
-    refresh_one(cells, books, &Node::Bonus(fixture))?;
+    index_gameweeks(index, books, first)?;
+    refresh_locked(cells, books, first)?;
     Ok(())
 }
 
@@ -199,7 +170,7 @@ fn refresh_fact(
     Ok(())
 }
 
-// Brings up to date what these lines of a fixture touch, and its bonus if it is marked so.
+// Brings up to date what these lines of a fixture touch, and what its mark does if it is marked so.
 fn refresh_sheet(
     cells: &mut SeasonCells,
     books: &Books,
@@ -211,7 +182,7 @@ fn refresh_sheet(
         (SheetRefreshed books.now fixture players.now marked cells.old cells.new) }
 {
     refresh_lines(cells, books, fixture, players)?;
-    refresh_bonus_if(cells, books, fixture, marked)?;
+    refresh_mark_if(cells, books, fixture, marked)?;
     Ok(())
 }
 
@@ -230,23 +201,23 @@ fn refresh_lines(
     Ok(())
 }
 
-// Brings the bonus of a fixture up to date if it is marked so.
-fn refresh_bonus_if(
+// Brings up to date what the mark of a fixture touches if it is marked so.
+fn refresh_mark_if(
     cells: &mut SeasonCells,
     books: &Books,
     fixture: FixtureId,
     marked: bool,
 ) -> Result<(), Memory>
     ensures { OnOk result
-        (Refreshes books.now (if marked then Node.Bonus fixture ∷ [] else []) cells.old cells.new) }
+        (Refreshes books.now (if marked then mark_nodes (facts_of books.now) fixture else []) cells.old cells.new) }
 {
     if marked {
-        refresh_bonus(cells, books, fixture)?;
+        refresh_mark(cells, books, fixture)?;
     }
     Ok(())
 }
 
-// Brings up to date what counts the lines of a fixture in one of two gameweeks.
+// Brings up to date what counts a fixture in one of two gameweeks.
 fn refresh_moved(
     cells: &mut SeasonCells,
     books: &Books,
@@ -256,73 +227,25 @@ fn refresh_moved(
 ) -> Result<(), Memory>
     ensures { OnOk result (MoveRefreshed books.now fixture from.now to.now cells.old cells.new) }
 {
+    refresh_moved_players(cells, books, fixture, from, to)?;
+    refresh_endings(cells, books, fixture, from, to)?;
+    Ok(())
+}
+
+// Brings up to date what counts the lines of a fixture in one of two gameweeks.
+fn refresh_moved_players(
+    cells: &mut SeasonCells,
+    books: &Books,
+    fixture: FixtureId,
+    from: &Option<Gw>,
+    to: &Option<Gw>,
+) -> Result<(), Memory>
+    ensures { OnOk result
+        (Refreshes books.now (moved_players (facts_of books.now) fixture from.now to.now) cells.old cells.new) }
+{
     for player in books.matches.players_of(fixture) {
         refresh_gameweek(cells, books, *player, from)?;
         refresh_gameweek(cells, books, *player, to)?;
     }
-    Ok(())
-}
-
-// Brings the locked gameweeks of each player up to date, behind the first ones.
-pub(crate) fn refresh_players(
-    cells: &mut SeasonCells,
-    books: &Books,
-    first: u8,
-) -> Result<(), Memory>
-    ensures { OnOk result (LocksRefreshed books.now first cells.old cells.new) }
-{
-    for place in 0..books.players.len() {
-        refresh_player(cells, books, place, first)?;
-    }
-    Ok(())
-}
-
-// Brings the locked gameweeks of the player at a place up to date, behind the first ones.
-fn refresh_player(
-    cells: &mut SeasonCells,
-    books: &Books,
-    place: usize,
-    first: u8,
-) -> Result<(), Memory>
-    ensures { OnOk result
-        (IfSome (slice_get books.now.players.now place)
-        (λ player. GameweeksRefreshed books.now player.id first cells.old cells.new)) }
-{
-    if let Some(player) = books.players.at(place) {
-        refresh_gameweeks(cells, books, player.id, first)?;
-    }
-    Ok(())
-}
-
-// Brings the locked gameweeks of a player up to date, behind the first ones.
-fn refresh_gameweeks(
-    cells: &mut SeasonCells,
-    books: &Books,
-    player: PlayerId,
-    first: u8,
-) -> Result<(), Memory>
-    ensures { OnOk result (GameweeksRefreshed books.now player first cells.old cells.new) }
-{
-    for number in 0..books.calendar.locked().saturating_sub(first) {
-        refresh_numbered(cells, books, player, first + number)?;
-    }
-    Ok(())
-}
-
-// Brings the gameweek of a number from 0 of a player up to date.
-fn refresh_numbered(
-    cells: &mut SeasonCells,
-    books: &Books,
-    player: PlayerId,
-    number: u8,
-) -> Result<(), Memory>
-    requires { number < 38 }
-    ensures { OnOk result
-        (Refreshes books.now (Node.PlayerGw player (number + 1) ∷ []) cells.old cells.new) }
-{
-    let Some(gameweek) = Gw::new(number + 1) else {
-        unreachable!()
-    };
-    refresh_one(cells, books, &Node::PlayerGw(player, gameweek))?;
     Ok(())
 }

@@ -1,18 +1,20 @@
 // Cells that are brought to the values that the rule book tells.
 ghost use Rattle.std.specs.Prelude.{◌≤◌, ◌+◌, ◌∷◌, [], IfOk, OnOk};
 ghost use Rattle.std.specs.List.{sum_by};
-ghost use Rattle.season_graph.specs.BookFacts.{facts_of};
+ghost use Rattle.season_nodes.specs.BookFacts.{facts_of};
 ghost use Rattle.season_graph.specs.Followed.{AreEvaluated, AreSound, HasRemained, HasSettled, Refreshes};
-ghost use Rattle.season_graph.specs.Season.{IsSeason, weight_of};
-ghost use Rattle.season_graph.specs.Touched.{fixture_nodes, fixtures_nodes, season_nodes};
+ghost use Rattle.season_nodes.specs.IndexFacts.{IsIndex, holders_in};
+ghost use Rattle.season_nodes.specs.Season.{IsSeason, weight_of};
+ghost use Rattle.season_graph.specs.Touched.{all_nodes, fixture_nodes, fixtures_nodes};
 
-use crate::books::Books;
-use crate::changes::{refresh_bonus, refresh_line, refresh_players};
+use crate::indexing::index_gameweeks;
 use crate::laws::replay_is_told;
-use crate::nodes::Node;
-use crate::rules::{SeasonCells, SeasonRules};
+use crate::locks::refresh_locked;
+use crate::refreshing::{refresh_bonus, refresh_line};
 use fpl_base::{FixtureId, Memory, Steps};
 use rescore_graph::{Cells, Report};
+use season_nodes::{Books, Index, Node};
+use season_rules::{SeasonCells, SeasonRules};
 use std::alloc::Global;
 use std::sync::ledger::Ledger;
 
@@ -24,6 +26,7 @@ pub fn settle_season<L: Ledger>(
     steps: &mut Steps<L>,
 ) -> Result<Report<Node>, Memory>
     requires season { IsSeason (facts_of rules.now.books) }
+    requires index { IsIndex (facts_of rules.now.books) (holders_in rules.now.index.now) }
     requires sound { AreSound (facts_of rules.now.books) cells.old }
     ensures evaluated { OnOk result (AreEvaluated (facts_of rules.now.books) cells.new) }
     ensures settled { IfOk result
@@ -37,13 +40,39 @@ pub fn settle_season<L: Ledger>(
     Ok(report)
 }
 
-/// The cells of these books, made from nothing and evaluated.
+/// The cells of these books, made from nothing and evaluated, and who holds whom by them.
 pub fn evaluate_all<L: Ledger>(
     alloc: Global,
     books: &Books,
     steps: &mut Steps<L>,
-) -> Result<SeasonCells, Memory>
+) -> Result<(SeasonCells, Index), Memory>
     requires { IsSeason (facts_of books.now) }
+    ensures cells { IfOk result (λ made. AreEvaluated (facts_of books.now) made.0) }
+    ensures index { IfOk result (λ made. IsIndex (facts_of books.now) (holders_in made.1)) }
+{
+    let index = index_all(alloc, books)?;
+    let cells = cells_of(alloc, books, &index, steps)?;
+    Ok((cells, index))
+}
+
+// Who holds whom in the locked gameweeks.
+fn index_all(alloc: Global, books: &Books) -> Result<Index, Memory>
+    ensures { IfOk result (λ index. IsIndex (facts_of books.now) (holders_in index)) }
+{
+    let mut index = Index::new(alloc);
+    index_gameweeks(&mut index, books, 0)?;
+    Ok(index)
+}
+
+// The cells of these books, evaluated.
+fn cells_of<L: Ledger>(
+    alloc: Global,
+    books: &Books,
+    index: &Index,
+    steps: &mut Steps<L>,
+) -> Result<SeasonCells, Memory>
+    requires season { IsSeason (facts_of books.now) }
+    requires index { IsIndex (facts_of books.now) (holders_in index.now) }
     ensures { IfOk result (λ cells. AreEvaluated (facts_of books.now) cells) }
 {
     let rules = SeasonRules {
@@ -52,7 +81,9 @@ pub fn evaluate_all<L: Ledger>(
             calendar: books.calendar,
             players: books.players,
             matches: books.matches,
+            managers: books.managers,
         },
+        index,
     };
     let mut cells = Cells::new(alloc);
     refresh_all(&mut cells, books)?;
@@ -63,10 +94,10 @@ pub fn evaluate_all<L: Ledger>(
 // Brings all nodes up to date.
 fn refresh_all(cells: &mut SeasonCells, books: &Books) -> Result<(), Memory>
     ensures { OnOk result
-        (Refreshes books.now (season_nodes (facts_of books.now)) cells.old cells.new) }
+        (Refreshes books.now (all_nodes (facts_of books.now)) cells.old cells.new) }
 {
     refresh_fixtures(cells, books)?;
-    refresh_players(cells, books, 0)?;
+    refresh_locked(cells, books, 0)?;
     Ok(())
 }
 

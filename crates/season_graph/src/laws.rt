@@ -1,25 +1,28 @@
 ghost use Rattle.rescore_graph.specs.Graph.{replay};
-ghost use Rattle.season_graph.specs.BookChanges.{SeasonBegins, LineIsPut, LineIsDropped, MarkIsSet, SheetIsPut, FixtureMoves, FixtureComes, MomentPasses, PlayerComes, DeadlineMoves, PriceChanges, ClubChanges, GoneChanges};
-ghost use Rattle.season_graph.specs.BookFacts.{facts_of};
-ghost use Rattle.season_graph.specs.Followed.{AlikeFollowed};
-ghost use Rattle.season_graph.specs.Season.{IsSeason, season_graph};
+ghost use Rattle.season_graph.specs.BookChanges.{SeasonBegins, LineIsPut, LineIsDropped, MarkIsSet, SheetIsPut, FixtureMoves, FixtureComes, MomentPasses, PlayerComes, DeadlineMoves, PriceChanges, ClubChanges, GoneChanges, ManagersChange, IndexStays};
+ghost use Rattle.season_nodes.specs.BookFacts.{facts_of};
+ghost use Rattle.season_graph.specs.Changes.{SameIsAlike};
+ghost use Rattle.season_graph.specs.Followed.{AlikeFollowed, AlikeMarked};
+ghost use Rattle.season_nodes.specs.IndexFacts.{IsIndex, holders_in};
+ghost use Rattle.season_nodes.specs.Season.{IsSeason, season_graph};
 ghost use Rattle.season_graph.specs.Told.{IsTold};
 
-use crate::books::Books;
-use crate::rules::{SeasonCells, SeasonRules};
 use match_facts::facts_are_maps;
 use rescore_graph::replay_is_one;
+use season_nodes::Books;
+use season_rules::{SeasonCells, SeasonRules};
 
 /// A law: the replay value of each live node is what the rule book tells straight from the facts. It is a line's worth,
-/// the bonus of a fixture, or what a player did in a gameweek.
+/// the bonus of a fixture, what a player did in a gameweek, or what an entry's team scored there.
 pub fn replay_is_told(rules: &SeasonRules)
-    requires { IsSeason (facts_of rules.now.books) }
+    requires season { IsSeason (facts_of rules.now.books) }
+    requires index { IsIndex (facts_of rules.now.books) (holders_in rules.now.index.now) }
     ensures { IsTold (facts_of rules.now.books) (replay (season_graph (facts_of rules.now.books))) }
 {
     replay_is_one(rules);
 }
 
-/// A law: a lawful calendar, any players and no facts of the matches are a season.
+/// A law: a lawful calendar, any players, no facts of the matches, and any entries are a season.
 pub fn season_begins()
     ensures { SeasonBegins }
 {}
@@ -53,7 +56,24 @@ pub fn players_change()
     ensures gone { GoneChanges }
 {}
 
-/// A law: cells follow books that differ in nothing that a node hangs on, as they are.
+/// A law: a book of managers in which all locked gameweeks are as they were leaves a season, which differs in nothing that
+/// a node hangs on.
+pub fn managers_change()
+    ensures { ManagersChange }
+{}
+
+/// A law: an index stays right where no gameweek is locked and the entries are as they were in those that are.
+pub fn index_stays()
+    ensures { IndexStays }
+{}
+
+/// A law: a line, a mark or a place that a change names, and leaves as it was, is no difference that a node hangs on.
+pub fn same_is_alike()
+    ensures { SameIsAlike }
+{}
+
+/// A law: cells follow books that differ in nothing that a node hangs on, as they are, and nothing is touched.
 pub fn books_alike(cells: &SeasonCells, books: &Books)
-    ensures { AlikeFollowed books.now cells.now }
+    ensures sound { AlikeFollowed books.now cells.now }
+    ensures exact { AlikeMarked books.now cells.now }
 {}

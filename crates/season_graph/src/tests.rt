@@ -3,17 +3,19 @@ ghost use Rattle.std.specs.Prelude.{◌≡◌, ◌<◌, [], true, is_ok, is_some
 ghost use Rattle.fpl_base.specs.declared.kinds.Profile.TheVariants as profile;
 ghost use Rattle.rule_book.specs.Figures.{IsLine};
 ghost use Rattle.rule_book.specs.Players.{player_of};
-ghost use Rattle.season_graph.specs.BookFacts.{facts_with};
+ghost use Rattle.season_nodes.specs.BookFacts.{facts_with};
 ghost use Rattle.season_graph.specs.Followed.{AreSound};
-ghost use Rattle.season_graph.specs.Season.{IsSeason};
+ghost use Rattle.season_nodes.specs.IndexFacts.{IsIndex, holders_in};
+ghost use Rattle.season_nodes.specs.Season.{IsSeason};
 
 use crate::{
-    Books, Node, SeasonCells, SeasonRules, Value, evaluate_all, fact_changed, matches_change,
-    season_begins, settle_season,
+    Books, Index, Node, SeasonCells, SeasonRules, Value, evaluate_all, fact_changed, index_stays,
+    matches_change, season_begins, settle_season,
 };
 use fpl_base::{
     ClubId, FixtureId, Gw, Moment, Name, PlayerId, Position, Profile, Refused, Steps, Tenths,
 };
+use manager_book::ManagerBook;
 use match_facts::{Line, MatchFacts, line_ok};
 use player_prices::Players;
 use rule_book::{Fixture, Player};
@@ -93,32 +95,39 @@ fn line(goals: u16, assists: u16, key_passes: u16) -> Line {
 
 // Puts a line in, and tells how many nodes were evaluated. So a change of the books, the cells that follow it, and their
 // evaluation fit together by their contracts.
-fn put_line<L: Ledger>(
-    calendar: &Calendar,
-    players: &Players,
-    matches: &mut MatchFacts,
+fn put_line<'a, L: Ledger>(
+    calendar: &'a Calendar,
+    players: &'a Players,
+    managers: &'a ManagerBook,
+    matches: &'a mut MatchFacts,
+    index: &'a Index,
     cells: &mut SeasonCells,
     player: PlayerId,
     line: &Line,
     steps: &mut Steps<L>,
 ) -> Result<usize, Fail>
-    requires season { IsSeason (facts_with profile.A calendar.now players.now matches.old) }
-    requires sound { AreSound (facts_with profile.A calendar.now players.now matches.old) cells.old }
+    requires season { IsSeason (facts_with profile.A calendar.now players.now matches.old managers.now) }
+    requires index { IsIndex (facts_with profile.A calendar.now players.now matches.old managers.now) (holders_in index.now) }
+    requires sound { AreSound (facts_with profile.A calendar.now players.now matches.old managers.now) cells.old }
     requires ranges { IsLine line.now }
     requires there { is_some (player_of players.now player) ≡ true }
-    ensures season { OnOk result (IsSeason (facts_with profile.A calendar.now players.now matches.new)) }
-    ensures sound { OnOk result (AreSound (facts_with profile.A calendar.now players.now matches.new) cells.new) }
+    ensures season { OnOk result (IsSeason (facts_with profile.A calendar.now players.now matches.new managers.now)) }
+    ensures index { OnOk result (IsIndex (facts_with profile.A calendar.now players.now matches.new managers.now) (holders_in index.now)) }
+    ensures sound { OnOk result (AreSound (facts_with profile.A calendar.now players.now matches.new managers.now) cells.new) }
 {
     let fixture = fixture()?;
     taken(matches.put_line(fixture, true, player, line))?;
     matches_change();
+    index_stays();
     let rules = SeasonRules {
         books: Books {
             profile: Profile::A,
             calendar,
             players,
             matches: &*matches,
+            managers,
         },
+        index,
     };
     fact_changed(cells, &rules.books, fixture, player)?;
     let report = settle_season(cells, &rules, steps)?;
@@ -132,22 +141,24 @@ fn points_of<L: Ledger>(
     steps: &mut Steps<L>,
 ) -> Result<i32, Fail> {
     match cells.get(Node::PlayerGw(id(number)?, gameweek()?), steps) {
-        Some(Value::PlayerGw(figures)) => Ok(figures.points),
+        Some(Value::PlayerGw(figures)) => Ok(figures.get().points),
         _ => Ok(-1),
     }
 }
 
-// The cells of a season without lines.
-fn begin<L: Ledger>(
+// The cells and the index of a season without lines.
+fn begin<'a, L: Ledger>(
     alloc: Global,
-    calendar: &Calendar,
-    players: &Players,
-    matches: &MatchFacts,
+    calendar: &'a Calendar,
+    players: &'a Players,
+    matches: &'a MatchFacts,
+    managers: &'a ManagerBook,
     steps: &mut Steps<L>,
-) -> Result<SeasonCells, Fail>
+) -> Result<(SeasonCells, Index), Fail>
     requires { matches.now ≡ [] }
-    ensures season { OnOk result (IsSeason (facts_with profile.A calendar.now players.now matches.now)) }
-    ensures sound { IfOk result (λ cells. AreSound (facts_with profile.A calendar.now players.now matches.now) cells) }
+    ensures season { OnOk result (IsSeason (facts_with profile.A calendar.now players.now matches.now managers.now)) }
+    ensures sound { IfOk result (λ made. AreSound (facts_with profile.A calendar.now players.now matches.now managers.now) made.0) }
+    ensures index { IfOk result (λ made. IsIndex (facts_with profile.A calendar.now players.now matches.now managers.now) (holders_in made.1)) }
 {
     let _locked = calendar.locked();
     season_begins();
@@ -156,6 +167,7 @@ fn begin<L: Ledger>(
         calendar,
         players,
         matches,
+        managers,
     };
     Ok(evaluate_all(alloc, &books, steps)?)
 }
@@ -175,7 +187,8 @@ fn corrects<L: Ledger>(rt: &impl Abort, alloc: Global, blank: Blank) -> Result<(
     let calendar = calendar(alloc)?;
     let players = players(alloc)?;
     let mut matches = MatchFacts::new(alloc);
-    let mut cells = begin(alloc, &calendar, &players, &matches, &mut steps)?;
+    let managers = ManagerBook::new(alloc, Profile::A);
+    let (mut cells, index) = begin(alloc, &calendar, &players, &matches, &managers, &mut steps)?;
     assert_eq!(rt; points_of(&cells, 1, &mut steps)?, 0);
     let player = id(1)?;
     let line = line(1, 0, 0);
@@ -183,7 +196,9 @@ fn corrects<L: Ledger>(rt: &impl Abort, alloc: Global, blank: Blank) -> Result<(
         let evaluated = put_line(
             &calendar,
             &players,
+            &managers,
             &mut matches,
+            &index,
             &mut cells,
             player,
             &line,

@@ -1,5 +1,5 @@
-use Rattle.season_graph.specs.BookFacts.{facts_of}
-use Rattle.season_graph.specs.Followed.{held}
+use Rattle.season_nodes.specs.BookFacts.{facts_of}
+use Rattle.season_nodes.specs.Held.{held}
 use Rattle.season_graph.proofs.ChangedFacts.{line_follows, line_marks}
 use Rattle.season_graph.proofs.changes.fact_changed.Goals as goal
 

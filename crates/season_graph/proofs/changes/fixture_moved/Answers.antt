@@ -1,5 +1,5 @@
-use Rattle.season_graph.specs.BookFacts.{facts_of}
-use Rattle.season_graph.specs.Followed.{held}
+use Rattle.season_nodes.specs.BookFacts.{facts_of}
+use Rattle.season_nodes.specs.Held.{held}
 use Rattle.season_graph.proofs.PlaceFacts.{place_follows, place_marks}
 use Rattle.season_graph.proofs.changes.fixture_moved.Goals as goal
 

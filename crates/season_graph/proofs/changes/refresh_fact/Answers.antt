@@ -1,11 +1,11 @@
 use Rattle.std.proofs.Common.{[], ◌∷◌, ◌∙◌, true, false}
 use Rattle.rescore_graph.specs.States.{look}
 use Rattle.rule_book.specs.Calendar.{stands_in}
-use Rattle.season_graph.specs.BookFacts.{facts_of}
-use Rattle.season_graph.specs.Season.{is_live, has_line}
+use Rattle.season_nodes.specs.BookFacts.{facts_of}
+use Rattle.season_nodes.specs.Season.{is_live, has_line}
 use Rattle.season_graph.specs.Touched.{gameweek_beside}
-use Rattle.season_graph.specs.declared.nodes.Node.TheVariants as node
-use Rattle.season_graph.specs.NodeOrder.{node_cmp}
+use Rattle.season_nodes.specs.declared.nodes.Node.TheVariants as node
+use Rattle.season_nodes.specs.NodeOrder.{node_cmp}
 use Rattle.season_graph.proofs.ChangedFacts.{line_chosen, counted_some}
 use Rattle.season_graph.proofs.RefreshedFacts.{refreshed_append}
 use Rattle.season_graph.proofs.changes.refresh_fact.Goals as goal

@@ -1,13 +1,13 @@
 use Rattle.std.proofs.Common.{◌≡◌, ◌++◌, ◌+◌, ℕ, Bool, List, is_some, take, refl, subst, sym}
 use Rattle.std.specs.List.{flat_map}
 use Rattle.rescore_graph.specs.States.{look}
-use Rattle.season_graph.specs.BookFacts.{facts_of}
-use Rattle.season_graph.specs.Season.{is_live}
+use Rattle.season_nodes.specs.BookFacts.{facts_of}
+use Rattle.season_nodes.specs.Season.{is_live}
 use Rattle.season_graph.specs.Touched.{line_nodes}
-use Rattle.season_graph.specs.declared.nodes.Node.{Node}
-use Rattle.season_graph.specs.declared.nodes.Node.TheVariants as node
-use Rattle.season_graph.proofs.Lists.{flat_more}
-use Rattle.season_graph.specs.NodeOrder.{node_cmp}
+use Rattle.season_nodes.specs.declared.nodes.Node.{Node}
+use Rattle.season_nodes.specs.declared.nodes.Node.TheVariants as node
+use Rattle.season_nodes.proofs.Lists.{flat_more}
+use Rattle.season_nodes.specs.NodeOrder.{node_cmp}
 use Rattle.season_graph.proofs.RefreshedFacts.{refreshed_listed}
 use Rattle.season_graph.proofs.SheetFacts.{line_more}
 use Rattle.season_graph.proofs.changes.refresh_lines.Goals as goal

@@ -1,12 +1,12 @@
 use Rattle.std.proofs.Common.{is_some, take}
 use Rattle.rescore_graph.specs.Graph.{Among}
 use Rattle.rescore_graph.specs.States.{look}
-use Rattle.season_graph.specs.BookFacts.{facts_of}
+use Rattle.season_nodes.specs.BookFacts.{facts_of}
 use Rattle.season_graph.specs.Refreshed.{Refreshed}
-use Rattle.season_graph.specs.Season.{is_live}
+use Rattle.season_nodes.specs.Season.{is_live}
 use Rattle.season_graph.specs.Touched.{lines_nodes}
-use Rattle.season_graph.specs.declared.nodes.Node.TheVariants as node
-use Rattle.season_graph.specs.NodeOrder.{node_cmp}
+use Rattle.season_nodes.specs.declared.nodes.Node.TheVariants as node
+use Rattle.season_nodes.specs.NodeOrder.{node_cmp}
 use Rattle.season_graph.proofs.changes.refresh_lines.Given as goal
 
 abbrev pub invariant-loop-player : goal.invariant-loop-player

@@ -1,5 +1,5 @@
-use Rattle.season_graph.specs.BookFacts.{facts_of}
-use Rattle.season_graph.specs.Followed.{held}
+use Rattle.season_nodes.specs.BookFacts.{facts_of}
+use Rattle.season_nodes.specs.Held.{held}
 use Rattle.season_graph.proofs.SheetFacts.{sheet_exact, sheet_sound}
 use Rattle.season_graph.proofs.changes.sheet_changed.Goals as goal
 

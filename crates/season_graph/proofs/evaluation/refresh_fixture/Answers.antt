@@ -1,9 +1,9 @@
 use Rattle.std.proofs.Common.{◌≡◌, ◌+◌, ◌++◌, ◌∷◌, [], map, take, ap, subst, sym}
-use Rattle.season_graph.specs.BookFacts.{facts_of}
-use Rattle.season_graph.specs.Followed.{held}
-use Rattle.season_graph.specs.Season.{is_live}
-use Rattle.season_graph.specs.declared.nodes.Node.TheVariants as node
-use Rattle.season_graph.proofs.Lists.{mapped_more}
+use Rattle.season_nodes.specs.BookFacts.{facts_of}
+use Rattle.season_nodes.specs.Held.{held}
+use Rattle.season_nodes.specs.Season.{is_live}
+use Rattle.season_nodes.specs.declared.nodes.Node.TheVariants as node
+use Rattle.season_nodes.proofs.Lists.{mapped_more}
 use Rattle.season_graph.proofs.RefreshedFacts.{refreshed_append, refreshed_listed}
 use Rattle.season_graph.proofs.evaluation.refresh_fixture.Goals as goal
 

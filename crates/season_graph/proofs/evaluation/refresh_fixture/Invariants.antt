@@ -1,6 +1,6 @@
 use Rattle.std.proofs.Common.{◌∷◌, map, take}
 use Rattle.season_graph.specs.Followed.{Refreshes}
-use Rattle.season_graph.specs.declared.nodes.Node.TheVariants as node
+use Rattle.season_nodes.specs.declared.nodes.Node.TheVariants as node
 use Rattle.season_graph.proofs.evaluation.refresh_fixture.Given as goal
 
 abbrev pub invariant-loop-player : goal.invariant-loop-player

@@ -1,10 +1,10 @@
 use Rattle.std.proofs.Common.{◌≡◌, ◌+◌, ◌++◌, take, subst, sym}
 use Rattle.std.specs.List.{flat_map}
-use Rattle.season_graph.specs.BookFacts.{facts_of}
-use Rattle.season_graph.specs.Followed.{held}
-use Rattle.season_graph.specs.Season.{is_live}
+use Rattle.season_nodes.specs.BookFacts.{facts_of}
+use Rattle.season_nodes.specs.Held.{held}
+use Rattle.season_nodes.specs.Season.{is_live}
 use Rattle.season_graph.specs.Touched.{fixture_nodes}
-use Rattle.season_graph.proofs.Lists.{flat_more}
+use Rattle.season_nodes.proofs.Lists.{flat_more}
 use Rattle.season_graph.proofs.RefreshedFacts.{refreshed_append, refreshed_listed}
 use Rattle.season_graph.proofs.evaluation.refresh_fixtures.Goals as goal
 

@@ -1,6 +1,6 @@
 use Rattle.std.proofs.Common.{take}
 use Rattle.std.specs.List.{flat_map}
-use Rattle.season_graph.specs.BookFacts.{facts_of}
+use Rattle.season_nodes.specs.BookFacts.{facts_of}
 use Rattle.season_graph.specs.Followed.{Refreshes}
 use Rattle.season_graph.specs.Touched.{fixture_nodes}
 use Rattle.season_graph.proofs.evaluation.refresh_fixtures.Given as goal

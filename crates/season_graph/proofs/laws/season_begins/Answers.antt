@@ -1,7 +1,7 @@
 use Rattle.std.proofs.Common.{◌≡◌, true, false, Some, None, is_some, sym, ◌∙◌, ap, subst}
 use Rattle.rule_book.specs.declared.line.Line.{Line}
 use Rattle.rule_book.specs.MatchFacts.{MatchFacts, line_of, lines_of, players_in}
-use Rattle.season_graph.specs.Season.{Rising}
+use Rattle.season_nodes.specs.Season.{Rising}
 use Rattle.season_graph.proofs.laws.season_begins.Goals as goal
 
 no_line : (line : Line) → None ≡ Some line → ⊥

@@ -1,0 +1,11 @@
+use Rattle.std.proofs.Common.{[], ◌∷◌}
+use Rattle.season_nodes.specs.BookFacts.{facts_of}
+use Rattle.season_nodes.specs.Held.{held}
+use Rattle.season_nodes.specs.Season.{is_live}
+use Rattle.season_nodes.specs.declared.nodes.Node.TheVariants as node
+use Rattle.season_graph.proofs.GameweekFacts.{refreshed_numbered}
+use Rattle.season_graph.proofs.endings.refresh_teams.Goals as goal
+
+pub loop-number-preserved : goal.loop-number-preserved
+loop-number-preserved c = refreshed_numbered (is_live (facts_of c.args.books.now)) (λ e. node.TeamGw e c.args.gameweek ∷ []) c.loop-number.number
+    (held c.args.cells.now) (held c.loop-number.cells) (held c.refresh_team.new.cells) c.loop-number.invariant c.in_ok-refresh_team.ensures

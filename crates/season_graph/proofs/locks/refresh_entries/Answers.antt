@@ -1,0 +1,11 @@
+use Rattle.std.proofs.Common.{◌-◌}
+use Rattle.season_nodes.specs.BookFacts.{facts_of}
+use Rattle.season_nodes.specs.Held.{held}
+use Rattle.season_nodes.specs.Season.{is_live}
+use Rattle.season_graph.specs.Touched.{entry_nodes}
+use Rattle.season_graph.proofs.GameweekFacts.{refreshed_numbered}
+use Rattle.season_graph.proofs.locks.refresh_entries.Goals as goal
+
+pub loop-number-preserved : goal.loop-number-preserved
+loop-number-preserved c = refreshed_numbered (is_live (facts_of c.args.books.now)) (λ e. entry_nodes e c.args.first (c.args.books.now.calendar.now.locked - c.args.first)) c.loop-number.number
+    (held c.args.cells.now) (held c.loop-number.cells) (held c.refresh_issued.new.cells) c.loop-number.invariant c.in_ok-refresh_issued.ensures

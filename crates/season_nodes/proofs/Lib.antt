@@ -1,0 +1,5 @@
+pub mod BookTeams
+pub mod DependentFacts
+pub mod IndexLemmas
+pub mod Lists
+pub mod RisingFacts

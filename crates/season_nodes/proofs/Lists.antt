@@ -1,0 +1,65 @@
+-- Lists that a loop makes, one more element at a time.
+use Rattle.std.proofs.Common.{◌≡◌, ◌<◌, ◌≤◌, ◌+◌, ◌==◌, ◌||◌, ◌∷◌, [], ◌++◌, ℕ, Bool, true, false, cond, if◌then◌else◌, List, Option, Some, is_some, length, get_or, map, take, arith, refl, sym, ap, ◌∙◌, subst}
+use Rattle.std.specs.Prelude.{IfSome}
+use Rattle.std.specs.List.{slice_get, filter, flat_map, fold, list_any}
+use Rattle.std.proofs.lemmas.List.{take_all, take_more, map-append, append-nil, flat_map_more}
+use Rattle.std.proofs.lemmas.List.Elements.{filter_more}
+use Rattle.std.proofs.lemmas.List.Sums.{fold_push}
+use Rattle.std.proofs.lemmas.Option.{slice_get-get_or}
+use Rattle.rule_book.specs.declared.line.Line.{Line}
+use Rattle.rule_book.specs.declared.team_score.Figures.{Figures}
+use Rattle.rule_book.specs.MatchFacts.{Lines, line_in, players_in}
+use Rattle.season_nodes.specs.declared.nodes.LineWorth.{LineWorth}
+use Rattle.season_nodes.specs.Season.{no_figures, with_worth, gathered}
+
+-- one more element behind the first i
+pub take_next : {X : Type 0} (xs : List X) (i : ℕ) (x : X) → i < length xs → x ≡ get_or xs i x → take (i + 1) xs ≡ take i xs ++ x ∷ []
+take_next xs i x within is = take_more xs i x within ∙ ap (λ y. take i xs ++ y ∷ []) (sym is)
+
+-- what a function makes of each, one more
+pub row_more : {X Y : Type 0} (f : X → Y) (xs : List X) (i : ℕ) (y : Y) (old new : List Y) → i < length xs → IfSome (slice_get xs i) (λ x. y ≡ f x) → old ≡ map f (take i xs) → new ≡ old ++ y ∷ [] → new ≡ map f (take (i + 1) xs)
+row_more f [] i y old new within is so_far more = absurd (omega arith)
+row_more f (z ∷ zs) i y old new within is so_far more =
+    let xs = z ∷ zs in
+    let x = get_or xs i z in
+    let made : y ≡ f x = subst (λ o. IfSome o (λ x. y ≡ f x)) (slice_get-get_or xs i z within) is in
+    more ∙ ap (λ ys. ys ++ y ∷ []) so_far ∙ ap (λ w. map f (take i xs) ++ w ∷ []) made
+    ∙ sym (map-append f (take i xs) (x ∷ [])) ∙ ap (map f) (sym (take_more xs i z within))
+
+listed_case : (b c : Bool) (line : Line) (rest : Option Line) → c ≡ is_some rest → (b || c) ≡ is_some (cond b (Some line) rest)
+listed_case true c line rest e = refl
+listed_case false c line rest e = e
+
+-- who is listed has a line
+pub listed_test : (lines : Lines) (p : ℕ) → list_any (λ q. q == p) (players_in lines) ≡ is_some (line_in lines p)
+listed_test [] p = refl
+listed_test (row ∷ lines) p = listed_case (row.0 == p) (list_any (λ q. q == p) (players_in lines)) row.1 (line_in lines p) (listed_test lines p)
+
+step_case : (w : ℕ → LineWorth) (u : ℕ → ℕ) (fs : List ℕ) (f : ℕ) (b : Bool) → gathered w u (fs ++ cond b (f ∷ []) []) ≡ (if b then with_worth (gathered w u fs) (w f) (u f) else gathered w u fs)
+step_case w u fs f true = fold_push (λ figures f. with_worth figures (w f) (u f)) no_figures fs f
+step_case w u fs f false = ap (gathered w u) (append-nil fs)
+
+-- the figures with one fixture more
+pub gathered_more : (test : ℕ → Bool) (w : ℕ → LineWorth) (u : ℕ → ℕ) (fs : List ℕ) (i f : ℕ) (old new : Figures) → i < length fs → f ≡ get_or fs i f
+    → old ≡ gathered w u (filter test (take i fs)) → new ≡ (if test f then with_worth old (w f) (u f) else old) → new ≡ gathered w u (filter test (take (i + 1) fs))
+gathered_more test w u fs i f old new within is so_far more =
+    more ∙ ap (λ figures. if test f then with_worth figures (w f) (u f) else figures) so_far
+    ∙ sym (step_case w u (filter test (take i fs)) f (test f))
+    ∙ ap (λ k. gathered w u (filter test (take i fs) ++ cond (test k) (k ∷ []) [])) is
+    ∙ ap (gathered w u) (sym (filter_more test fs i f within))
+
+-- a list that is mapped, with one more
+pub mapped_more : {X Y : Type 0} (f : X → Y) (xs : List X) (i : ℕ) (d : X) → i < length xs → map f (take i xs) ++ f (get_or xs i d) ∷ [] ≡ map f (take (i + 1) xs)
+mapped_more f xs i d within = sym (map-append f (take i xs) (get_or xs i d ∷ [])) ∙ ap (map f) (sym (take_more xs i d within))
+
+-- what a function makes of each, one after another, with one more
+pub flat_more : {X Y : Type 0} (f : X → List Y) (xs : List X) (i : ℕ) (d : X) → i < length xs → flat_map f (take i xs) ++ f (get_or xs i d) ≡ flat_map f (take (i + 1) xs)
+flat_more f xs i d within = flat_map_more f [] (take i xs) (get_or xs i d) ∙ ap (flat_map f) (sym (take_more xs i d within))
+
+-- a sum, one more
+pub fold_more : {X B : Type 0} (f : B → X → B) (b : B) (xs : List X) (i : ℕ) (x : X) → i < length xs → x ≡ get_or xs i x → f (fold f b (take i xs)) x ≡ fold f b (take (i + 1) xs)
+fold_more f b xs i x within is = sym (fold_push f b (take i xs) x) ∙ ap (fold f b) (sym (take_next xs i x within is))
+
+-- a list whose first n are made of the first n of another, where neither has more
+pub made_whole : {X Y : Type 0} (f : X → Y) (xs : List X) (ys : List Y) (n : ℕ) → length xs ≤ n → length ys ≤ n → take n ys ≡ map f (take n xs) → ys ≡ map f xs
+made_whole f xs ys n short also made = sym (take_all n ys also) ∙ made ∙ ap (map f) (take_all n xs short)

@@ -1,0 +1,149 @@
+// What the operator and the managers handed in, as it now stands.
+ghost use Rattle.std.specs.Prelude.{◌≡◌, ◌+◌, false, nat_le, is_some, IfSome};
+ghost use Rattle.std.specs.Option.{option_map_or};
+ghost use Rattle.season_ledger.specs.Rows.{is_begun_by, standing_at, team_in};
+ghost use Rattle.rule_book.specs.PlayerFigures.{position_in};
+ghost use Rattle.season_nodes.specs.BookFacts.{facts_of};
+ghost use Rattle.season_nodes.specs.Season.{ended, has_begun, has_line, is_live, is_there};
+ghost use Rattle.season_nodes.specs.declared.nodes.Node.{Node};
+
+use crate::nodes::Node;
+use fpl_base::{EntryId, FixtureId, Gw, PlayerId, Position, Profile, Steps};
+use manager_book::ManagerBook;
+use match_facts::MatchFacts;
+use player_prices::Players;
+use rule_book::Team;
+use season_calendar::Calendar;
+use season_ledger::Entry;
+use std::sync::ledger::Ledger;
+
+/// The books of a season, lent.
+#[derive(Drop)]
+pub struct Books<'a> {
+    /// By which rules lines are scored.
+    pub profile: Profile,
+    /// Which gameweeks are locked, and where the fixtures stand.
+    pub calendar: &'a Calendar,
+    /// Who is there, and where each plays.
+    pub players: &'a Players,
+    /// The lines of the players in the fixtures, and which fixtures are finished.
+    pub matches: &'a MatchFacts,
+    /// The entries: when each began, its team in each gameweek, and what its transfers cost.
+    pub managers: &'a ManagerBook,
+}
+
+impl Books<'_> {
+    /// Whether a player has a line in a fixture.
+    pub fn has_line(&self, player: PlayerId, fixture: FixtureId) -> bool
+        ensures { result ≡ has_line (facts_of self.now) player fixture }
+    {
+        self.matches.has_line(fixture, player)
+    }
+
+    /// Where a player plays.
+    pub fn position(&self, player: PlayerId) -> Position
+        ensures { result ≡ position_in self.now.players.now player }
+    {
+        match self.players.get(player) {
+            Some(player) => player.position,
+            None => Position::Keeper,
+        }
+    }
+
+    /// Whether a player is there.
+    pub fn is_there(&self, player: PlayerId) -> bool
+        ensures { result ≡ is_there (facts_of self.now) player }
+    {
+        self.players.get(player).is_some()
+    }
+
+    /// Whether each fixture that stands in a gameweek is finished.
+    pub fn has_ended(&self, gameweek: Gw) -> bool
+        ensures { result ≡ ended (facts_of self.now) gameweek }
+    {
+        let fixtures = self.calendar.standing(gameweek);
+        fixtures
+            .iter()
+            .all(|fixture| self.matches.finished(*fixture))
+    }
+
+    /// An entry's team in a gameweek; `None` where it has not begun.
+    pub fn team(&self, entry: EntryId, gameweek: Gw) -> Option<Team>
+        ensures team { IfSome result (λ team. team ≡ (facts_of self.now).team entry gameweek) }
+        ensures begun { is_some result ≡ has_begun (facts_of self.now) entry gameweek }
+    {
+        match self.managers.manager(entry) {
+            Some(manager) => standing_team(&manager.season, gameweek),
+            None => None,
+        }
+    }
+
+    /// The same by a counted read.
+    pub fn team_at<L: Ledger>(
+        &self,
+        entry: EntryId,
+        gameweek: Gw,
+        steps: &mut Steps<L>,
+    ) -> Option<Team>
+        ensures team { IfSome result (λ team. team ≡ (facts_of self.now).team entry gameweek) }
+        ensures begun { is_some result ≡ has_begun (facts_of self.now) entry gameweek }
+        ensures counted { steps.new ≡ steps.old + 1 }
+    {
+        steps.tick();
+        self.team(entry, gameweek)
+    }
+
+    /// Whether a player has a gameweek.
+    pub fn has_gameweek(&self, player: PlayerId, gameweek: Gw) -> bool
+        ensures { result ≡ is_live (facts_of self.now) (Node.PlayerGw player gameweek) }
+    {
+        self.is_there(player) && gameweek.get() <= self.calendar.locked()
+    }
+
+    // Whether an entry has begun in a gameweek.
+    fn has_begun(&self, entry: EntryId, gameweek: Gw) -> bool
+        ensures { result ≡ has_begun (facts_of self.now) entry gameweek }
+    {
+        entry.get() <= self.managers.entries() && self.begins_by(entry, gameweek)
+    }
+
+    // Whether the first gameweek of an entry is a gameweek or one before it.
+    fn begins_by(&self, entry: EntryId, gameweek: Gw) -> bool
+        ensures { result ≡ option_map_or (λ first. nat_le first gameweek) ((facts_of self.now).first entry) false }
+    {
+        match self.managers.first(entry) {
+            Some(first) => first.get() <= gameweek.get(),
+            None => false,
+        }
+    }
+
+    // Whether an entry has a gameweek.
+    fn has_team(&self, entry: EntryId, gameweek: Gw) -> bool
+        ensures { result ≡ is_live (facts_of self.now) (Node.TeamGw entry gameweek) }
+    {
+        self.has_begun(entry, gameweek) && gameweek.get() <= self.calendar.locked()
+    }
+
+    /// Whether a node is live.
+    pub fn is_live(&self, n: &Node) -> bool
+        ensures { result ≡ is_live (facts_of self.now) n.now }
+    {
+        match *n {
+            Node::Line(fixture, player) => self.has_line(player, fixture),
+            Node::Bonus(fixture) => !self.matches.players_of(fixture).is_empty(),
+            Node::PlayerGw(player, gameweek) => self.has_gameweek(player, gameweek),
+            Node::TeamGw(entry, gameweek) => self.has_team(entry, gameweek),
+        }
+    }
+}
+
+// The team that stands in a gameweek of an entry's season.
+fn standing_team(season: &Entry, gameweek: Gw) -> Option<Team>
+    ensures rows { result ≡ team_in (standing_at season.now gameweek) }
+    ensures begun { is_some result ≡ is_begun_by season.now gameweek }
+{
+    match season.standing(gameweek) {
+        Some(standing) => Some(standing.team),
+        None => None,
+    }
+}
