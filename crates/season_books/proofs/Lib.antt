@@ -10,5 +10,6 @@ pub mod Lawful
 pub mod Listed
 pub mod Loops
 pub mod Members
+pub mod Nearer
 pub mod Numbered
 pub mod Trading

@@ -1,8 +1,8 @@
 // The records of a store, and what is found among them.
-ghost use Rattle.std.specs.Prelude.{◌≡◌, ◌<◌, ◌≤◌, ◌-◌, IfOk, IsTrue, drop, false, filter, length, take};
+ghost use Rattle.std.specs.Prelude.{◌≡◌, ◌<◌, ◌≤◌, ◌-◌, IfOk, IsTrue, drop, false, filter, length, take, true};
 ghost use Rattle.std.specs.List.{HoldsAt};
 ghost use Rattle.std.specs.Option.{option_map};
-ghost use Rattle.fpl_base.specs.Keeping.{KeysRise, is_same_key, map_of};
+ghost use Rattle.fpl_base.specs.Keeping.{KeysRise, is_same_key, map_of, precedes};
 ghost use Rattle.fpl_base.specs.Rows.{IsPlace};
 ghost use Rattle.season_books.specs.LeagueRules.{is_member_of, stands_before};
 ghost use Rattle.season_books.specs.Stored.{between, is_there, is_within, told};
@@ -12,10 +12,15 @@ use record_codec::{Item, Slot, decode};
 use std::alloc::Global;
 use std::marker::Model;
 
+// How many kinds of records have a start of their own; those above them share the last one.
+const KINDS: usize = 16;
+
 /// Records in the order of their keys.
 #[derive(Drop)]
 pub struct Stored<'a> {
     rows: &'a [(RecordKey, Bytes)],
+    // how many records have a lesser kind than each; no answer depends on it
+    starts: [usize; KINDS],
 }
 
 impl<'a> Model for Stored<'a> {
@@ -45,6 +50,48 @@ fn cut(rows: &[(RecordKey, Bytes)], first: usize, end: usize) -> &[(RecordKey, B
     if first < end { &rows[first..end] } else { &[] }
 }
 
+// Where the record of a key stands among these, or would stand.
+fn place_in(rows: &[(RecordKey, Bytes)], key: RecordKey) -> usize
+    requires rise { KeysRise rows.now }
+    ensures { IsPlace rows.now key result }
+{
+    rows.partition_point(|row| row.0.precedes(&key))
+}
+
+// Whether the place of a key is not before the one place, and not behind the other.
+fn is_between(rows: &[(RecordKey, Bytes)], first: usize, end: usize, key: RecordKey) -> bool
+    ensures low { IsTrue result → first ≤ end }
+    ensures high { IsTrue result → end ≤ length rows.now }
+    ensures before { IsTrue result → 0 < first → HoldsAt (λ row. precedes row.0 key ≡ true) rows.now (first - 1) }
+    ensures behind { IsTrue result → end < length rows.now → HoldsAt (λ row. precedes row.0 key ≡ false) rows.now end }
+{
+    first <= end
+        && end <= rows.len()
+        && (first == 0 || rows[first - 1].0.precedes(&key))
+        && (end == rows.len() || !rows[end].0.precedes(&key))
+}
+
+// Where the record of a key stands, or would stand; two places that it may lie between are a hint.
+fn place_near(rows: &[(RecordKey, Bytes)], first: usize, end: usize, key: RecordKey) -> usize
+    requires rise { KeysRise rows.now }
+    ensures { IsPlace rows.now key result }
+{
+    if is_between(rows, first, end, key) {
+        first + place_in(&rows[first..end], key)
+    } else {
+        place_in(rows, key)
+    }
+}
+
+// How many records have a lesser kind than each.
+fn starts_of(rows: &[(RecordKey, Bytes)]) -> [usize; KINDS] {
+    let mut starts = [0; KINDS];
+    for kind in 0..KINDS {
+        starts[kind] = rows.partition_point(|row| (row.0.kind as usize) < kind);
+    }
+    starts
+}
+
 // Whether a record stands before all members of a league.
 fn stands_before(key: &RecordKey, league: u32) -> bool
     ensures { result ≡ stands_before league key.now }
@@ -58,7 +105,10 @@ impl<'a> Stored<'a> {
         requires { KeysRise rows.now }
         ensures { result ≡ rows.now }
     {
-        Stored { rows }
+        Stored {
+            rows,
+            starts: starts_of(rows),
+        }
     }
 
     /// The records themselves.
@@ -68,11 +118,22 @@ impl<'a> Stored<'a> {
         self.rows
     }
 
+    // From where on, and up to where, the records of a kind stand.
+    fn places_of(&self, kind: u8) -> (usize, usize) {
+        let at = kind as usize;
+        if at + 1 < KINDS {
+            (self.starts[at], self.starts[at + 1])
+        } else {
+            (self.starts[KINDS - 1], self.rows.len())
+        }
+    }
+
     // Where the record of a key stands, or would stand.
     fn place_of(&self, key: RecordKey) -> usize
         ensures { IsPlace self.now key result }
     {
-        self.rows.partition_point(|row| row.0.precedes(&key))
+        let (first, end) = self.places_of(key.kind);
+        place_near(self.rows, first, end, key)
     }
 
     /// The body of the record of a key, if there is one.
