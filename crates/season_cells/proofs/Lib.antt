@@ -1,0 +1,10 @@
+pub mod Corrected
+pub mod Following
+pub mod Found
+pub mod Leading
+pub mod Marked
+pub mod Others
+pub mod Places
+pub mod Rises
+pub mod Seen
+pub mod Stays

@@ -1,0 +1,24 @@
+use Rattle.season_cells.proofs.Leading as leading
+use Rattle.season_cells.proofs.laws.plans_lead.Goals as goal
+
+pub returns : goal.returns
+returns c = leading.plans_lead (record {
+  put = c.matches_change.ensures.put;
+  dropped = c.matches_change.ensures.dropped;
+  marked = c.matches_change.ensures.marked;
+  sheet = c.matches_change.ensures.sheet;
+  moves = c.calendar_changes.ensures.moved;
+  comes = c.calendar_changes.ensures.added;
+  deadline = c.calendar_changes.ensures.deadline;
+  player = c.players_change.ensures.added;
+  price = c.players_change.ensures.price;
+  club = c.players_change.ensures.club;
+  gone = c.players_change.ensures.gone;
+  managers = c.managers_change.ensures;
+  alike = c.same_is_alike.ensures;
+  tell = c.earlier_rows_tell.ensures;
+  sheets = c.facts_are_maps.ensures.sheets;
+  lines = c.facts_are_maps.ensures.lines;
+  lines_go = c.facts_are_maps.ensures.gone;
+  theirs = c.facts_are_maps.ensures.sheet;
+})

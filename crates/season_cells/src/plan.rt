@@ -1,0 +1,188 @@
+// What a command changes that cells hang on.
+ghost use Rattle.std.specs.Prelude.{◌≡◌, ◌↔◌, IfOk, IfSome, IsTrue, is_some, true};
+ghost use Rattle.rule_book.specs.Calendar.{stands_in};
+ghost use Rattle.rule_book.specs.MatchFacts.{is_finished, line_of};
+ghost use Rattle.season_book.specs.Commands.{are_there, has_fixture, part_of};
+ghost use Rattle.season_book.specs.declared.part.Part.TheVariants as part;
+ghost use Rattle.season_cells.specs.Plans.{IsLined, IsMarked, IsPlaced, IsPlanOf};
+
+use crate::sheets::sheet_plan;
+use fpl_base::{FixtureId, Gw, Memory, PlayerId, Steps};
+use rule_book::Line;
+use season_book::Command;
+use season_facts::Season;
+use std::alloc::Global;
+use std::sync::ledger::Ledger;
+
+/// What a command changes that cells hang on, told before it is done. What a command leaves as it was is no change.
+#[derive(Drop)]
+pub enum Plan {
+    /// Nothing.
+    Nothing,
+    /// A player comes.
+    Player(PlayerId),
+    /// A fixture moves from where it stood, or comes from nowhere.
+    Place {
+        fixture: FixtureId,
+        from: Option<Gw>,
+        to: Option<Gw>,
+    },
+    /// A player's line in a fixture comes, goes, or is another.
+    Line {
+        fixture: FixtureId,
+        player: PlayerId,
+    },
+    /// The mark of a fixture.
+    Mark(FixtureId),
+    /// The lines of these players in a fixture, and its mark if `marked` says so.
+    Sheet {
+        fixture: FixtureId,
+        players: Vec<PlayerId>,
+        marked: bool,
+    },
+}
+
+/// What a command on a season changes. It takes memory for a sheet alone. Each line of the fixture that it looks at is a
+/// counted read.
+pub fn planned<L: Ledger>(
+    alloc: Global,
+    season: &Season,
+    command: &Command,
+    steps: &mut Steps<L>,
+) -> Result<Plan, Memory>
+    requires there { part_of command.now ≡ part.Facts → are_there season.now command.now ≡ true }
+    ensures { IfOk result (λ plan. IsPlanOf season.now command.now plan) }
+{
+    match command {
+        Command::Player { id, .. } => Ok(Plan::Player(*id)),
+        Command::Fixture { id, gameweek, .. } => Ok(placed(*id, &None, gameweek)),
+        Command::Move {
+            fixture,
+            gameweek,
+            ..
+        } => Ok(moved(season, *fixture, gameweek)),
+        Command::Sheet {
+            fixture,
+            lines,
+            finished,
+        } => match named(season, *fixture) {
+            Some(fixture) => sheet_plan(alloc, season, fixture, lines.as_slice(), *finished, steps),
+            None => unreachable!(),
+        },
+        Command::Line {
+            fixture,
+            player,
+            line,
+        } => Ok(lined(season, *fixture, *player, &Some(*line), steps)),
+        Command::Drop { fixture, player } => Ok(lined(season, *fixture, *player, &None, steps)),
+        Command::Finished { fixture, finished } => Ok(marked(season, *fixture, *finished)),
+        Command::Season { .. }
+        | Command::Deadline { .. }
+        | Command::Price { .. }
+        | Command::Club { .. }
+        | Command::Gone { .. }
+        | Command::Key { .. }
+        | Command::Squad { .. }
+        | Command::Transfers { .. }
+        | Command::Lineup { .. }
+        | Command::Chip { .. }
+        | Command::CancelChip
+        | Command::League { .. }
+        | Command::Join { .. }
+        | Command::Draw { .. }
+        | Command::Cup { .. } => Ok(Plan::Nothing),
+    }
+}
+
+// The id of the fixture of a number, if it is there.
+pub(crate) fn named(season: &Season, number: u32) -> Option<FixtureId>
+    ensures there { is_some result ≡ has_fixture season.now number }
+    ensures same { IfSome result (λ fixture. fixture ≡ number) }
+{
+    match season.fixture(number) {
+        Some(fixture) => Some(fixture.id),
+        None => None,
+    }
+}
+
+// A fixture stands in another place than before, if it does.
+fn placed(fixture: FixtureId, from: &Option<Gw>, to: &Option<Gw>) -> Plan
+    ensures { IsPlaced fixture from.now to.now result }
+{
+    if from == to {
+        return Plan::Nothing;
+    }
+    Plan::Place {
+        fixture,
+        from: *from,
+        to: *to,
+    }
+}
+
+// The same of the fixture of a number, which is there.
+fn moved(season: &Season, number: u32, to: &Option<Gw>) -> Plan
+    requires { has_fixture season.now number ≡ true }
+    ensures { IsPlaced number (stands_in season.now.calendar number) to.now result }
+{
+    match named(season, number) {
+        Some(fixture) => placed(fixture, &season.calendar().stands_in(fixture), to),
+        None => unreachable!(),
+    }
+}
+
+// A player's line in the fixture of a number, which is there, is another, if it is.
+fn lined<L: Ledger>(
+    season: &Season,
+    number: u32,
+    player: PlayerId,
+    line: &Option<Line>,
+    steps: &mut Steps<L>,
+) -> Plan
+    requires { has_fixture season.now number ≡ true }
+    ensures { IsLined number player (line_of season.now.matches number player) line.now result }
+{
+    match named(season, number) {
+        Some(fixture) => {
+            if has_line(season, fixture, player, line, steps) {
+                Plan::Nothing
+            } else {
+                Plan::Line { fixture, player }
+            }
+        }
+        None => unreachable!(),
+    }
+}
+
+// Whether a player's line in a fixture is this one, or none where this is none.
+pub(crate) fn has_line<L: Ledger>(
+    season: &Season,
+    fixture: FixtureId,
+    player: PlayerId,
+    line: &Option<Line>,
+    steps: &mut Steps<L>,
+) -> bool
+    ensures { IsTrue result ↔ (line_of season.now.matches fixture player ≡ line.now) }
+{
+    match (season.line(fixture, player, steps), line) {
+        (Some(one), Some(other)) => one == other,
+        (None, None) => true,
+        _ => false,
+    }
+}
+
+// The mark of the fixture of a number, which is there, is another, if it is.
+fn marked(season: &Season, number: u32, finished: bool) -> Plan
+    requires { has_fixture season.now number ≡ true }
+    ensures { IsMarked number (is_finished season.now.matches number) finished result }
+{
+    match named(season, number) {
+        Some(fixture) => {
+            if season.is_finished(fixture) == finished {
+                Plan::Nothing
+            } else {
+                Plan::Mark(fixture)
+            }
+        }
+        None => unreachable!(),
+    }
+}
