@@ -11,7 +11,7 @@ use Rattle.season_nodes.specs.Held.{SeasonRows, held}
 use Rattle.season_nodes.specs.Season.{SeasonFacts, season_graph, weight_of}
 use Rattle.season_nodes.specs.declared.nodes.Node.{Node}
 use Rattle.season_nodes.specs.declared.nodes.Value.{Value}
-use Rattle.season_cells.specs.Correcting.{IsCheap, IsCorrected, IsMarked, IsReached}
+use Rattle.season_cells.specs.Correcting.{AreRaised, IsCheap, IsCorrected, IsReached}
 
 -- a cell that is raised keeps its count, and is dirty if it is there
 same_count : {V : Type 0} (x y : Option (Slot V)) → (y ≡ x) ⊎ (y ≡ raise x) → count_of y ≡ count_of x
@@ -29,7 +29,7 @@ reach_more g S T more zero n r = more n r
 reach_more g S T more (suc k) n r = (r.0, (r.1.0, reach_more g S T more k r.0 r.1.1))
 
 module _ (b d : SeasonFacts) (old new : SeasonRows) (m : State Node Value) (done : List Node)
-    (evaluated : IsEvaluated b (held old)) (marked : IsMarked b d (held old) m) (settles : Settles (season_graph d) m (held new) done) where
+    (evaluated : IsEvaluated b (held old)) (marked : AreRaised b d (held old) m) (settles : Settles (season_graph d) m (held new) done) where
   touched_dirty : (n : Node) → IsTouched b d n → IsDirty m n
   touched_dirty n = (marked.touched evaluated.sound evaluated.clean n).1
 

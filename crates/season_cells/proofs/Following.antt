@@ -10,7 +10,7 @@ use Rattle.season_nodes.specs.IndexFacts.{IndexRows, IsIndex, holders_in}
 use Rattle.season_nodes.specs.Season.{IsSeason, SeasonFacts, season_graph, weight_of}
 use Rattle.season_nodes.specs.declared.nodes.Node.{Node}
 use Rattle.season_nodes.specs.declared.nodes.Value.{Value}
-use Rattle.season_cells.specs.Correcting.{IsCheap, IsCorrected, IsMarked}
+use Rattle.season_cells.specs.Correcting.{AreRaised, IsCheap, IsCorrected}
 use Rattle.season_cells.specs.Kept.{AreCellsOf}
 use Rattle.season_cells.specs.Leading.{DifferAs, LeadsTo}
 use Rattle.season_cells.specs.declared.plan.Plan.{Plan}
@@ -25,8 +25,8 @@ module _ (stays : IndexStays) (b d x : SeasonFacts) (same : x ≡ d) (old : Seas
       subst (λ (f : SeasonFacts). IsIndex f (holders_in index)) (sym same) (stays b d (holders_in index) stay.0 stay.1 kept.index)
 
   module _ (mid : State Node Value)
-      (marks : (before : SeasonFacts) → IsSeason before → IsSeason x → IsIndex x (holders_in index) → DifferAs before x made → IsMarked before x (held old) mid) where
-    marked : IsMarked b x (held old) mid
+      (marks : (before : SeasonFacts) → IsSeason before → IsSeason x → IsIndex x (holders_in index) → DifferAs before x made → AreRaised before x (held old) mid) where
+    marked : AreRaised b x (held old) mid
     marked = marks b kept.season (subst IsSeason (sym same) leads.season) right (subst (λ (f : SeasonFacts). DifferAs b f made) (sym same) leads.differ)
 
     pub sound : Sound (season_graph x) mid

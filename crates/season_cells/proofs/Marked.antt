@@ -8,7 +8,7 @@ use Rattle.season_graph.specs.Refreshed.{Refreshed, refreshed}
 use Rattle.season_nodes.specs.Season.{SeasonFacts, is_live}
 use Rattle.season_nodes.specs.declared.nodes.Node.{Node}
 use Rattle.season_nodes.specs.declared.nodes.Value.{Value}
-use Rattle.season_cells.specs.Correcting.{IsMarked}
+use Rattle.season_cells.specs.Correcting.{AreRaised}
 use Rattle.season_cells.specs.Leading.{DifferAs}
 use Rattle.season_cells.specs.declared.plan.Plan.{Plan}
 use Rattle.season_cells.specs.declared.plan.Plan.TheVariants as plan
@@ -25,7 +25,7 @@ raised_case None there = absurd (none there)
     none e = cc
 raised_case (Some c) there = refl
 
-pub marked_by : (b d : SeasonFacts) (s t : State Node Value) (ns : List Node) → Refreshed (is_live d) (Among ns) s t → Follows b d s t → MarksTouched b d s t → IsMarked b d s t
+pub marked_by : (b d : SeasonFacts) (s t : State Node Value) (ns : List Node) → Refreshed (is_live d) (Among ns) s t → Follows b d s t → MarksTouched b d s t → AreRaised b d s t
 marked_by b d s t ns fresh follows touched = record {
   follows = follows;
   touched = touched;

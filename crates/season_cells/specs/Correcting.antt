@@ -19,7 +19,7 @@ module _ (b d : SeasonFacts) where
   StaysLive n = (is_live b n ≡ true) × (is_live d n ≡ true)
 
   -- cells s follow the change as t, in which nothing was evaluated yet: what is touched is dirty, and nothing else
-  pub record IsMarked (s t : State Node Value) : Type 0 where
+  pub record AreRaised (s t : State Node Value) : Type 0 where
     pub follows : Follows b d s t
     pub touched : MarksTouched b d s t
     pub raised : (n : Node) → is_live d n ≡ true → IsSome (s n) → (t n ≡ s n) ⊎ (t n ≡ raise (s n))

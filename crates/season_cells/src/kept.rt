@@ -6,7 +6,7 @@ ghost use Rattle.season_nodes.specs.BookFacts.{facts_of};
 ghost use Rattle.season_nodes.specs.Held.{held};
 ghost use Rattle.season_nodes.specs.IndexFacts.{IsIndex, holders_in};
 ghost use Rattle.season_nodes.specs.Season.{IsSeason, Rising, SeasonFacts};
-ghost use Rattle.season_cells.specs.Correcting.{IsCheap, IsCorrected, IsMarked};
+ghost use Rattle.season_cells.specs.Correcting.{AreRaised, IsCheap, IsCorrected};
 ghost use Rattle.season_cells.specs.Kept.{AreCellsOf, books_seen};
 ghost use Rattle.season_cells.specs.Leading.{DifferAs, LeadsTo};
 
@@ -134,7 +134,7 @@ impl KeptCells {
 fn mark(cells: &mut SeasonCells, rules: &SeasonRules, plan: &Plan) -> Result<(), Memory>
     ensures { OnOk result
         ((before : SeasonFacts) → IsSeason before → IsSeason (facts_of rules.now.books) → IsIndex (facts_of rules.now.books) (holders_in rules.now.index.now)
-        → DifferAs before (facts_of rules.now.books) plan.now → IsMarked before (facts_of rules.now.books) (held cells.old) (held cells.new)) }
+        → DifferAs before (facts_of rules.now.books) plan.now → AreRaised before (facts_of rules.now.books) (held cells.old) (held cells.new)) }
 {
     let books = &rules.books;
     match plan {
