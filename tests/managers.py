@@ -1,4 +1,5 @@
-"""What the input.py of the cases of managers, leagues and cups share: requests, and a small season with a first squad.
+"""What the input.py and output.py of the cases of managers, leagues and cups share: requests and answers, and a small
+season with a first squad.
 
 Eighteen players, P1 to P18, cost 50 each. P1 to P15 are a squad by slot, three of each of clubs 1 to 5:
 P1 and P12 are goalkeepers, P2 to P4, P14 and P15 defenders, P5 to P9 midfielders, P10, P11 and P13 forwards. The others
@@ -24,6 +25,11 @@ def do(key, target, /, **members):
     last[key] = last.get(key, 0) + 1
     body = json.dumps({"number": last[key], **members}, separators=(",", ":"))
     ask(target, key, body, "POST")
+
+
+def answer(status, body):
+    """An answer, with its length."""
+    print(end=f"HTTP/1.1 {status}\r\nContent-Type: application/json\r\nContent-Length: {len(body)}\r\n\r\n{body}")
 
 
 def is_refused(key, target, /, **members):
