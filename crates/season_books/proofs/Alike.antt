@@ -1,10 +1,13 @@
 -- Holdings that the test finds the same are the same, and picks that pass the tests are different players at prices that
 -- can be.
-use Rattle.std.proofs.Common.{◌≡◌, ◌≢◌, ℕ, zero, suc, ◌+◌, ◌<◌, ◌≤◌, Bool, true, false, not, ◌&&◌, ◌||◌, eqb, List, [], ◌∷◌, map, get_or, length, arith, refl, sym, ap, ap₂, ◌∙◌, ◌⊎◌, inl, inr}
+use Rattle.std.proofs.Common.{◌≡◌, ◌≢◌, ℕ, zero, suc, ◌+◌, ◌<◌, ◌≤◌, Bool, true, false, not, ◌&&◌, ◌||◌, eqb, List, [], ◌∷◌, map, get_or, length, arith, refl, subst, sym, ap, ap₂, ◌∙◌, ◌⊎◌, inl, inr}
 use Rattle.std.specs.List.{AllByRecursion as Each, All, AllPairs, list_all, list_any}
 use Rattle.std.proofs.lemmas.Bool.{and_parts, not-true, eqb-true, or_parts, eqb-false}
 use Rattle.std.proofs.lemmas.Bool.Decides.{nat_tests}
+use Rattle.std.specs.Cmp.Lexicographic.{pointwise}
+use Rattle.std.specs.Prelude.{Decides}
 use Rattle.std.proofs.lemmas.List.Kept.{AllPairs-cons}
+use Rattle.std.proofs.lemmas.Slice.Eq.{slice_eq-Decides}
 use Rattle.fpl_base.specs.declared.kinds.Position.{Position}
 use Rattle.record_codec.specs.Commands.{differ, is_between}
 use Rattle.rule_book.specs.declared.team.Pick.{Pick}
@@ -13,7 +16,7 @@ use Rattle.rule_book.specs.EntryRecords.{IsPriced, SameHoldings, price_among}
 use Rattle.rule_book.specs.History.{Holding}
 use Rattle.rule_book.specs.HistoryRules.{times}
 use Rattle.rule_book.specs.HistoryTeam.{holdings}
-use Rattle.season_books.specs.Sequels.{are_same_holdings, holdings_told, is_alike}
+use Rattle.season_books.specs.Sequels.{are_alike, are_same_holdings, holdings_told, is_alike}
 use Rattle.season_books.specs.TeamRules.{is_distinct, is_priced}
 
 abbrev players : List Holding → List ℕ
@@ -55,6 +58,30 @@ same_from a b e =
     let each : (p : ℕ) → IsAlike a b p
     = λ p. alike_either a b p (passes_or_absent (is_alike a b) a p parts.0) (passes_or_absent (is_alike a b) b p parts.1) in
     record { players = λ p. (each p).0; prices = λ p. (each p).1 }
+
+eqb_itself : (n : ℕ) → eqb n n ≡ true
+eqb_itself n = grind (arith, nat_tests)
+
+alike_itself : (a squad : List Holding) → are_alike a a squad ≡ true
+alike_itself a [] = refl
+alike_itself a (k ∷ squad) = rw (eqb_itself (times k.player (players a)), eqb_itself (price_among k.player a)) (alike_itself a squad)
+
+-- holdings are the same as themselves
+pub same_itself : (a : List Holding) → are_same_holdings a a ≡ true
+same_itself a = rw (alike_itself a a) refl
+
+abbrev is_same : ℕ × ℕ → ℕ × ℕ → Bool
+is_same a b = eqb a.0 b.0 && eqb a.1 b.1
+
+same_decides : (a b : ℕ × ℕ) → Decides (is_same a b) (a ≡ b)
+same_decides a b = (
+  λ e. let parts = and_parts (eqb a.0 b.0) (eqb a.1 b.1) e in (λ i. (eqb-true a.0 b.0 parts.0 i, eqb-true a.1 b.1 parts.1 i)),
+  λ same. subst (λ c. is_same a c ≡ true) same (rw (eqb_itself a.0, eqb_itself a.1) refl),
+)
+
+-- picks that the test of equality finds the same are
+pub same_picks : (xs ys : List (ℕ × ℕ)) (r : Bool) → r ≡ pointwise is_same xs ys → r ≡ true → xs ≡ ys
+same_picks xs ys r e = (slice_eq-Decides same_decides xs ys r e).0
 
 -- picks of numbers, each player at his position
 abbrev pub picks_at : (ℕ → Position) → List (ℕ × ℕ) → List Pick

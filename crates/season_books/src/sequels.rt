@@ -214,6 +214,9 @@ fn are_alike(
 fn are_same_holdings(picks: &[(u32, u32); 15], others: &[(u32, u32); 15]) -> bool
     ensures { result ≡ are_same_holdings (holdings_told picks.now) (holdings_told others.now) }
 {
+    if picks == others {
+        return true;
+    }
     are_alike(picks, others, picks) && are_alike(picks, others, others)
 }
 

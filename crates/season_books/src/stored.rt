@@ -10,6 +10,7 @@ ghost use Rattle.season_books.specs.Stored.{between, is_there, is_within, told};
 use fpl_base::{Bytes, LeagueId, Memory, RecordKey};
 use record_codec::{Item, Slot, decode};
 use std::alloc::Global;
+use std::cell::Cell;
 use std::marker::Model;
 
 // How many kinds of records have a start of their own; those above them share the last one.
@@ -21,6 +22,8 @@ pub struct Stored<'a> {
     rows: &'a [(RecordKey, Bytes)],
     // how many records have a lesser kind than each; no answer depends on it
     starts: [usize; KINDS],
+    // where a record of several numbers was looked for last; no answer depends on it
+    last: Cell<usize>,
 }
 
 impl<'a> Model for Stored<'a> {
@@ -108,6 +111,7 @@ impl<'a> Stored<'a> {
         Stored {
             rows,
             starts: starts_of(rows),
+            last: Cell::new(0),
         }
     }
 
@@ -128,12 +132,37 @@ impl<'a> Stored<'a> {
         }
     }
 
+    // Two places that the one of a key is likely to lie between. Where the first numbers of a kind are 1, 2, 3 and so on,
+    // a number tells its place; records of several numbers are looked for in turn, each beside the one before it.
+    fn likely(&self, key: RecordKey) -> (usize, usize) {
+        if key.b > 0 {
+            let last = self.last.get();
+            return (last, last.saturating_add(1));
+        }
+        let at = self.places_of(key.kind).0.saturating_add(key.a as usize);
+        (at.saturating_sub(1), at.saturating_sub(1))
+    }
+
+    // Two places that the one of a key lies between: those that are likely, or else those of its kind.
+    fn near(&self, key: RecordKey) -> (usize, usize) {
+        let (first, end) = self.likely(key);
+        if is_between(self.rows, first, end, key) {
+            (first, end)
+        } else {
+            self.places_of(key.kind)
+        }
+    }
+
     // Where the record of a key stands, or would stand.
     fn place_of(&self, key: RecordKey) -> usize
         ensures { IsPlace self.now key result }
     {
-        let (first, end) = self.places_of(key.kind);
-        place_near(self.rows, first, end, key)
+        let (first, end) = self.near(key);
+        let place = place_near(self.rows, first, end, key);
+        if key.b > 0 {
+            self.last.set(place);
+        }
+        place
     }
 
     /// The body of the record of a key, if there is one.

@@ -22,11 +22,8 @@ use Rattle.season_keeper.specs.Holding.{Store, Holds, Tells, Keeps, Moves, recor
 use Rattle.season_keeper.specs.Rows.{record_values, Stored, IsReading, Shows, ShowAll, ShowEach}
 use Rattle.season_keeper.proofs.Lists.{has_permuted}
 
-pub show_more : (rows : List Row) (i : ℕ) (row : Row) (all new : List (Key × List ℕ)) (one : Key × List ℕ) → i < length rows → row ≡ get_or rows i row → new ≡ all ++ one ∷ []
-    → ShowEach (take i rows) all → Shows row one → ShowEach (take (i + 1) rows) new
-show_more rows i row all new one low is pushed each shows =
-    let more : take (i + 1) rows ≡ take i rows ++ row ∷ [] = take_more rows i row low ∙ ap (λ r. take i rows ++ r ∷ []) (sym is) in
-    rw (more, pushed) (zip_push Shows (take i rows) all row one each shows)
+pub show_more : (rows : List Row) (row : Row) (all new : List (Key × List ℕ)) (one : Key × List ℕ) → new ≡ all ++ one ∷ [] → ShowEach rows all → Shows row one → ShowEach (rows ++ row ∷ []) new
+show_more rows row all new one pushed each shows = rw pushed (zip_push Shows rows all row one each shows)
 
 int_same : (m n : ℕ) → Int (pos m) ≡ Int (pos n) → m ≡ n
 int_same m n h = cc

@@ -81,7 +81,7 @@ fn load_pairs<S: Alter>(
     let Some(rows) = read_all(conn)? else {
         return Ok(None);
     };
-    pairs_of(alloc, &rows)
+    pairs_of(alloc, rows)
 }
 
 impl<S: Alter> Keeper for SqlKeeper<S> {

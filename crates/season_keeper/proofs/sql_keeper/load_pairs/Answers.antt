@@ -11,7 +11,7 @@ returns-clause-gave g c clean was =
     let new = (state g.S.Store c.read_all.new.conn).now in
     let read = rw c.in-Some.is at (c.in_ok-rows.ensures.read clean was) in
     both_ok c.pairs_of.result (λ pairs each rise. moved_keeps old new was (map_of pairs.items) read.0
-    (reading_holds (records_of read.0.store) (lines_of read.0.store) c.in-Some.rows.items pairs.items read.1 (rw c.deref.ensures.value at each) rise)) c.pairs_of.ensures.shown c.pairs_of.ensures.rise
+    (reading_holds (records_of read.0.store) (lines_of read.0.store) c.in-Some.rows.items pairs.items read.1 each rise)) c.pairs_of.ensures.shown c.pairs_of.ensures.rise
 
 pub returns-clause-kept : goal.returns-clause-kept
 returns-clause-kept g c clean open_ ready m found =
