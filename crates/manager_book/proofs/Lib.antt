@@ -7,3 +7,4 @@ pub mod Absent
 pub mod Changed
 pub mod Alike
 pub mod Restored
+pub mod Risen

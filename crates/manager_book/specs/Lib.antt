@@ -1,4 +1,5 @@
 pub mod Managers
 pub mod Calls
 pub mod Indexed
+pub mod Kept
 pub mod HistoryLaws

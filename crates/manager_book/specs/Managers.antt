@@ -9,6 +9,7 @@ use Rattle.rule_book.specs.declared.transfers.Sale.{Sale}
 use Rattle.rule_book.specs.Entries.{most_entries}
 use Rattle.rule_book.specs.Refusals.{first_broken, unless}
 use Rattle.season_ledger.specs.declared.row.Row.{Row}
+use Rattle.season_ledger.specs.Rows.{Rise}
 use Rattle.manager_book.specs.declared.manager.Manager.{Manager}
 
 -- by which rules the season is played, and the managers: entry 1 is the first
@@ -31,6 +32,10 @@ season_of book e = (manager_in book.managers e).season
 -- the transfers of an entry in the order of making, each with its gameweek: none where it was not issued
 abbrev pub sales_of : Managers → ℕ → List (ℕ × Sale)
 sales_of book e = (manager_in book.managers e).sales
+
+-- the rows of each manager rise by gameweek
+abbrev pub AreRisen : List Manager → Type 0
+AreRisen managers = (e : ℕ) → Rise (manager_in managers e).season
 
 -- the key and the name of an entry
 abbrev pub key_of : Managers → ℕ → Option (List ℕ)

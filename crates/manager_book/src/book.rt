@@ -15,7 +15,7 @@ ghost use Rattle.season_ledger.specs.Rows.{AllUpTo, put_chip, used_by, first_in,
 ghost use Rattle.season_ledger.specs.Stands.{StandsFor};
 ghost use Rattle.rule_book.specs.EntryCalls.{in_next, slot_of, picks_from};
 ghost use Rattle.manager_book.specs.Calls.{team_at, register_broken, transfer_broken, Moves, LinesUp, Registers, lineup_broken, play_broken, cancel_broken, with_gameweek};
-ghost use Rattle.manager_book.specs.Managers.{Managers, IsSameBut, season_of, sales_of, key_of, name_of, entry_with, issue_refusal};
+ghost use Rattle.manager_book.specs.Managers.{Managers, AreRisen, IsSameBut, season_of, sales_of, key_of, name_of, entry_with, issue_refusal};
 
 use crate::batch::transfer;
 use crate::chips::{cancel, play};
@@ -45,13 +45,13 @@ pub struct ManagerBook {
 
 impl Model for ManagerBook {
     ghost use Rattle.manager_book.specs.Managers.{Managers};
-    ghost use Rattle.manager_book.specs.Indexed.{IsIndexed};
+    ghost use Rattle.manager_book.specs.Kept.{IsKept};
 
     ghost Value = { Managers };
 
     ghost view = { λ b. record { profile = b.profile; managers = b.managers.items } };
 
-    ghost invariant = { λ b. IsIndexed b.numbers b.managers.items };
+    ghost invariant = { λ b. IsKept b.numbers b.managers.items };
 }
 
 fn copied(alloc: Global, bytes: &[u8]) -> Result<Vec<u8>, Memory>
@@ -302,7 +302,10 @@ impl ManagerBook {
             return Err(Refused::Rule(Rule::SeasonOver));
         };
         let manager = &mut self.managers[e.get() as usize - 1];
-        register(&mut manager.season, g, players, squad, captain, vice)
+        let done = register(&mut manager.season, g, players, squad, captain, vice);
+        // The law that the rows rise, for the prover.
+        manager.season.keeps_rows();
+        done
     }
 
     /// Makes a batch of 1 to 15 transfers. It answers how many transfers the gameweek had before, and the sales, which stand
@@ -335,7 +338,10 @@ impl ManagerBook {
             return Err(Refused::Rule(Rule::SeasonOver));
         };
         let manager = &mut self.managers[e.get() as usize - 1];
-        transfer(&mut manager.season, &mut manager.sales, g, players, swaps)
+        let done = transfer(&mut manager.season, &mut manager.sales, g, players, swaps);
+        // The law that the rows rise, for the prover.
+        manager.season.keeps_rows();
+        done
     }
 
     /// Puts an entry's fifteen into another order, with other armbands.
@@ -364,7 +370,10 @@ impl ManagerBook {
             return Err(Refused::Rule(Rule::SeasonOver));
         };
         let manager = &mut self.managers[e.get() as usize - 1];
-        line_up(&mut manager.season, g, order, captain, vice)
+        let done = line_up(&mut manager.season, g, order, captain, vice);
+        // The law that the rows rise, for the prover.
+        manager.season.keeps_rows();
+        done
     }
 
     /// Plays a chip. `split` is the last gameweek of the season's first half.
@@ -393,7 +402,10 @@ impl ManagerBook {
             return Err(Refused::Rule(Rule::SeasonOver));
         };
         let manager = &mut self.managers[e.get() as usize - 1];
-        play(&mut manager.season, g, split, chip)
+        let done = play(&mut manager.season, g, split, chip);
+        // The law that the rows rise, for the prover.
+        manager.season.keeps_rows();
+        done
     }
 
     /// Takes back the chip of the next gameweek, as if it had not been played.
@@ -414,7 +426,17 @@ impl ManagerBook {
             return Err(Rule::SeasonOver);
         };
         let manager = &mut self.managers[e.get() as usize - 1];
-        cancel(&mut manager.season, g)
+        let done = cancel(&mut manager.season, g);
+        // The law that the rows rise, for the prover.
+        manager.season.keeps_rows();
+        done
+    }
+
+    /// A law: the rows of each entry rise by gameweek.
+    pub fn keeps_rows(&self)
+        ensures { AreRisen self.now.managers }
+    {
+        let _known = self.managers.len();
     }
 
     // Adds an entry behind the others.
@@ -424,6 +446,8 @@ impl ManagerBook {
         ensures ok { OnOk result (self.new ≡ record { profile = self.old.profile; managers = self.old.managers ++ record { key = key; name = name; season = season; sales = sales } ∷ [] }) }
         ensures err { OnErr result (self.new ≡ self.old) }
     {
+        // The law that the rows rise, for the prover.
+        season.keeps_rows();
         let number = self.managers.len() as u32 + 1;
         let bytes = copied(self.alloc, key.bytes())?;
         let manager = Manager {

@@ -10,7 +10,7 @@ ghost use Rattle.rule_book.specs.History.Deed.{First, Swap, Lineup, Play, Cancel
 ghost use Rattle.rule_book.specs.HistoryRules.{FirstTold, IsHistory};
 ghost use Rattle.rule_book.specs.HistoryTeam.{TeamTold, TeamBalances, holdings};
 ghost use Rattle.rule_book.specs.HistoryTransfers.{FreeTold, cost_at, counted_through, swaps_in, used_before};
-ghost use Rattle.season_ledger.specs.Rows.{row_at, rows_of_records, chip_by, IsKept, IsFitTeam, FitsIn, AllUpTo, standing_at, team_in, begun, is_begun_by, put_row, put_chip, used_by, first_in, is_past, free_in, cost_by, counted_by};
+ghost use Rattle.season_ledger.specs.Rows.{row_at, rows_of_records, chip_by, IsKept, IsFitTeam, FitsIn, AllUpTo, Rise, standing_at, team_in, begun, is_begun_by, put_row, put_chip, used_by, first_in, is_past, free_in, cost_by, counted_by};
 ghost use Rattle.season_ledger.specs.Batches.{BatchOn, LineupOn, IsFirstTeam, CanPlay, CanCancel, players_of};
 ghost use Rattle.season_ledger.specs.Stands.{StandsFor, IsPlaced, RowsAlwaysTell};
 
@@ -186,6 +186,13 @@ impl Entry {
         ensures { IsTrue result ↔ AllUpTo g self.now }
     {
         are_up_to(self.rows.as_slice(), g.get())
+    }
+
+    /// A law: the gameweeks of the rows rise.
+    pub fn keeps_rows(&self)
+        ensures { Rise self.now }
+    {
+        let _known = self.rows.len();
     }
 
     // Writes the row of a gameweek.

@@ -4,8 +4,9 @@ use Rattle.rule_book.specs.declared.transfers.Sale.{Sale}
 use Rattle.season_ledger.specs.declared.row.Row.{Row}
 use Rattle.manager_book.specs.declared.manager.Manager.{Manager}
 use Rattle.manager_book.specs.Managers.{number_from}
-use Rattle.manager_book.specs.Indexed.{IsIndexed}
+use Rattle.manager_book.specs.Kept.{IsKept}
 use Rattle.manager_book.proofs.Keys.{by_items, indexed_add}
+use Rattle.manager_book.proofs.Risen.{risen_add}
 use Rattle.manager_book.proofs.book.ManagerBook.add.Goals as goal
 
 abbrev manager : List ℕ → List ℕ → List Row → List (ℕ × Sale) → Manager
@@ -21,5 +22,7 @@ invariant_of-self-else-is_err-2 c =
     let same : c.in_ok-bytes.bytes.items ≡ c.args.key = search rules in
     let count : c.len.result + 1 ≡ length c.self.inside.managers.items + 1 = search rules in
     let entries : c.insert.new.self.entries ≡ insert_entry by_items c.self.inside.numbers.entries c.in_ok-bytes.bytes (c.len.result + 1) = search rules in
-    subst (IsIndexed c.insert.new.self) (sym pushed)
-    (indexed_add c.self.inside.numbers c.insert.new.self c.self.inside.managers.items (manager c.args.key c.args.name c.args.season c.args.sales) c.in_ok-bytes.bytes (c.len.result + 1) c.self.invariant lt fresh same count entries)
+    subst (IsKept c.insert.new.self) (sym pushed) (record {
+      indexed = indexed_add c.self.inside.numbers c.insert.new.self c.self.inside.managers.items (manager c.args.key c.args.name c.args.season c.args.sales) c.in_ok-bytes.bytes (c.len.result + 1) c.self.invariant.indexed lt fresh same count entries;
+      risen = risen_add c.self.inside.managers.items (manager c.args.key c.args.name c.args.season c.args.sales) c.self.invariant.risen c.keeps_rows.ensures;
+    })
