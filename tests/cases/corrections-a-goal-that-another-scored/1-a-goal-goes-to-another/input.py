@@ -1,0 +1,27 @@
+# A goal of gameweek 1 is another's, once gameweek 2 is played; then what changes nothing, and a player who comes late.
+from corrections import ask_all, begin_four, line, lines_of
+from managers import OPERATOR, do, manager
+
+ELEVENS, ASKED = (*range(1, 12), 17, 18, 19), (6, 7, 8, 10, 18)
+begin_four()
+others = line(6, key_passes=1), line(8, key_passes=20), line(10, goals=1), line(18, assists=2), line(19, 59)
+do(OPERATOR, "/fixtures/1/sheet", lines=lines_of(ELEVENS, *others), finished=True)
+ask_all(1, (1, 2), ASKED)
+do(manager(4), "/transfers", swaps=[{"out": 9, "in": 6}, {"out": 18, "in": 10}])
+ask_all(2, (1, 2), ASKED)
+lines = lines_of(ELEVENS, line(10, goals=2), line(18, goals=1, assists=1))
+do(OPERATOR, "/fixtures/2/sheet", lines=lines, finished=False)
+ask_all(2, (1, 2), ASKED)
+do(OPERATOR, "/fixtures/1/line", **line(10))
+do(OPERATOR, "/fixtures/1/line", **line(6, goals=1, key_passes=1))
+ask_all(2, (1, 2), ASKED)
+do(OPERATOR, "/fixtures/1/line", **line(6, goals=1, key_passes=1))
+do(OPERATOR, "/fixtures/2/sheet", lines=lines, finished=False)
+do(OPERATOR, "/fixtures/1/finished", finished=True)
+ask_all(2, (1, 2), ASKED)
+do(OPERATOR, "/players", id=20, name="P20", position="M", club=6, price=50)
+ask_all(2, (1, 2), (*ASKED, 20))
+do(OPERATOR, "/fixtures/1/line", **line(20, key_passes=30))
+ask_all(2, (1, 2), (*ASKED, 20))
+do(OPERATOR, "/fixtures/1/drop", player=20)
+ask_all(2, (1, 2), (*ASKED, 20))
