@@ -59,10 +59,11 @@ impl Desk {
 }
 
 /// A desk, and the host that was opened over a keeper. They take memory.
-pub fn opened<K: Keeper>(
+pub fn opened<K: Keeper, L: Ledger>(
     alloc: Global,
     key: &Key,
     keeper: &mut K,
+    steps: &mut Steps<L>,
 ) -> Result<(Desk, HostWithScratch), OpenFault>
     ensures opened { MatchResult result (λ opened. Opens K.tells K.holds K.passes keeper.old keeper.new opened.1.host) (Withholds K.tells K.holds K.passes K.faults keeper.old keeper.new) }
     ensures operator { IfOk result (λ opened. opened.1.host.rows.operator ≡ key.now) }
@@ -76,7 +77,7 @@ pub fn opened<K: Keeper>(
         Ok(desk) => desk,
         Err(Memory) => return Err(OpenFault::Memory),
     };
-    match Host::open(alloc, keeper, key) {
+    match Host::open(alloc, keeper, key, steps) {
         Ok(host) => Ok((
             desk,
             HostWithScratch {
@@ -274,7 +275,7 @@ impl<K: Keeper, C: Clock, L: Ledger> Service<HostWithScratch, K, C, L> for Desk 
         match self.routes.find(message.method, message.target) {
             Found::Unknown => refusal(alloc, 404, unknown_text()),
             Found::Method => refusal(alloc, 405, method_text()),
-            Found::Route { route, ids } => match host.host.ready(keeper) {
+            Found::Route { route, ids } => match host.host.ready(keeper, steps) {
                 Ok(()) => answered(alloc, host, keeper, clock, steps, message, route, &ids),
                 Err(fault) => unready(alloc, fault),
             },

@@ -33,7 +33,7 @@ pub fn pipe<S: Source, W: Sink, C: Clock, K: Keeper, L: Ledger>(
     sessions_lift::<ByRows<K>>();
     sessions_lift::<ByStops<K>>();
     sessions_lift::<ByRecords<K>>();
-    match opened(alloc, key, keeper) {
+    match opened(alloc, key, keeper, steps) {
         Ok((desk, mut host)) => ended(session(
             alloc, &desk, &mut host, keeper, input, output, clock, steps,
         )),

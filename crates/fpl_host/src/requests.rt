@@ -37,7 +37,7 @@ pub fn report<W: Sink, C: Clock, K: Keeper, L: Ledger>(
     ensures write { result ≡ 3 → Rose (W.faults output.old) (W.faults output.new) }
     ensures keeper { result ≡ 4 → Rose (K.faults keeper.old) (K.faults keeper.new) }
 {
-    match Host::open(alloc, keeper, key) {
+    match Host::open(alloc, keeper, key, steps) {
         Ok(mut host) => reported(
             alloc,
             &mut host,
@@ -109,7 +109,7 @@ fn load_all<W: Sink, C: Clock, K: Keeper, L: Ledger>(
     ensures write { result ≡ 3 → Rose (W.faults output.old) (W.faults output.new) }
     ensures keeper { result ≡ 4 → Rose (K.faults keeper.old) (K.faults keeper.new) }
 {
-    match Host::open(alloc, keeper, key) {
+    match Host::open(alloc, keeper, key, steps) {
         Ok(mut host) => loaded(alloc, &mut host, commands, output, clock, keeper, steps),
         Err(fault) => unopened(alloc, fault, output),
     }
@@ -149,7 +149,7 @@ fn generate_as<W: Sink, K: Keeper, L: Ledger>(
     ensures write { result ≡ 3 → Rose (W.faults output.old) (W.faults output.new) }
     ensures keeper { result ≡ 4 → Rose (K.faults keeper.old) (K.faults keeper.new) }
 {
-    match Host::open(alloc, keeper, key) {
+    match Host::open(alloc, keeper, key, steps) {
         Ok(mut host) => generated(alloc, &mut host, seed, output, keeper, steps),
         Err(fault) => unopened(alloc, fault, output),
     }

@@ -35,7 +35,7 @@ pub fn serve<W: Sink, C: Clock, K: Keeper, D: Doors, L: Ledger>(
     ensures keeper { result ≡ 4 → Rose (K.faults keeper.old) (K.faults keeper.new) }
     ensures doors { result ≡ 8 → Rose (D.faults doors.old) (D.faults doors.new) }
 {
-    match opened(alloc, key, keeper) {
+    match opened(alloc, key, keeper, steps) {
         Ok((desk, mut host)) => serve_all(
             alloc,
             &desk,

@@ -8,3 +8,4 @@ pub mod ChangeFacts
 pub mod RemainsFacts
 pub mod NodeOrder
 pub mod KeyFacts
+pub mod HashFacts

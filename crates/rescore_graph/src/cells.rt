@@ -1,12 +1,12 @@
 ghost use Rattle.std.specs.Prelude.{◌≡◌, ◌+◌, [], OnOk, OnErr, IsSome, None};
 ghost use Rattle.std.specs.Option.{option_copied, option_map};
-ghost use Rattle.std.specs.BTreeMap.{get, keys};
 ghost use Rattle.std.specs.Map.{keys_of};
 ghost use Rattle.rescore_graph.specs.States.{look, values_in, is_dirty, Puts, planted, raise, stored};
 
 use fpl_base::{Memory, Steps};
 use std::alloc::Global;
-use std::collections::BTreeMap;
+use std::collections::HashMap;
+use std::hash::Hash;
 use std::marker::Model;
 use std::sync::ledger::Ledger;
 
@@ -21,16 +21,17 @@ pub struct Slot<V> {
     pub dirty: bool,
 }
 
-/// One cell for each live node, with its value, the count of its evaluations, and whether it is dirty.
+/// One cell for each live node, with its value, the count of its evaluations, and whether it is dirty. A contract sees the
+/// nodes with their cells as a list, whose order is left open.
 #[derive(Drop)]
-pub struct Cells<N: Copy + Ord, V: Drop> {
+pub struct Cells<N: Copy + Ord + Hash, V: Drop> {
     pub(crate) alloc: Global,
-    pub(crate) slots: BTreeMap<N, Slot<V>>,
+    pub(crate) slots: HashMap<N, Slot<V>>,
     // Each dirty node, and maybe nodes that no longer are. Settling empties it.
     pub(crate) pending: Vec<N>,
 }
 
-impl<N: Copy + Ord, V: Drop> Model for Cells<N, V> {
+impl<N: Copy + Ord + Hash, V: Drop> Model for Cells<N, V> {
     ghost use Rattle.std.specs.Prelude.{List};
     ghost use Rattle.rescore_graph.specs.declared.cells.Slot.{Slot};
     ghost use Rattle.rescore_graph.specs.Listed.{IsListed};
@@ -42,14 +43,14 @@ impl<N: Copy + Ord, V: Drop> Model for Cells<N, V> {
     ghost invariant = { λ c. IsListed N.cmp c.slots.entries c.pending.items };
 }
 
-impl<N: Copy + Ord, V: Drop> Cells<N, V> {
+impl<N: Copy + Ord + Hash, V: Drop> Cells<N, V> {
     /// No cells.
     pub fn new(alloc: Global) -> Self
         ensures { result ≡ [] }
     {
         Cells {
             alloc,
-            slots: BTreeMap::new(alloc),
+            slots: HashMap::new(alloc),
             pending: Vec::new(alloc),
         }
     }
@@ -61,12 +62,7 @@ impl<N: Copy + Ord, V: Drop> Cells<N, V> {
         ensures err { OnErr result (self.new ≡ self.old) }
     {
         self.pending.push(n)?;
-        let fresh = Slot {
-            value: None,
-            count: 0,
-            dirty: true,
-        };
-        self.slots.insert(n, fresh)?;
+        plant_slot(&mut self.slots, n)?;
         Ok(())
     }
 
@@ -75,7 +71,7 @@ impl<N: Copy + Ord, V: Drop> Cells<N, V> {
         requires { IsSome (look N.cmp self.old n) }
         ensures { Puts N.cmp (look N.cmp self.old) (look N.cmp self.new) n None }
     {
-        let _ = self.slots.remove(&n);
+        uproot_slot(&mut self.slots, n);
     }
 
     /// Makes a live node dirty, and keeps its value and its count.
@@ -97,7 +93,7 @@ impl<N: Copy + Ord, V: Drop> Cells<N, V> {
     pub fn evaluations(&self, n: N) -> Option<u64>
         ensures { result ≡ option_map (λ s. s.count) (look N.cmp self.now n) }
     {
-        match self.slots.get(&n) {
+        match slot_of(&self.slots, n) {
             Some(slot) => Some(slot.count),
             None => None,
         }
@@ -109,7 +105,7 @@ impl<N: Copy + Ord, V: Drop> Cells<N, V> {
         ensures cost { steps.new ≡ steps.old + 1 }
     {
         steps.tick();
-        match self.slots.get(&n) {
+        match slot_of(&self.slots, n) {
             Some(slot) => slot.value.as_ref(),
             None => None,
         }
@@ -118,7 +114,7 @@ impl<N: Copy + Ord, V: Drop> Cells<N, V> {
     pub(crate) fn is_dirty(&self, n: N) -> bool
         ensures { result ≡ is_dirty (look N.cmp self.now n) }
     {
-        match self.slots.get(&n) {
+        match slot_of(&self.slots, n) {
             Some(slot) => slot.dirty,
             None => false,
         }
@@ -134,20 +130,55 @@ impl<N: Copy + Ord, V: Drop> Cells<N, V> {
     }
 }
 
-fn raise_slot<N: Copy + Ord, V: Drop>(slots: &mut BTreeMap<N, Slot<V>>, n: N)
-    requires { IsSome (get N.cmp slots.old n) }
-    ensures puts { Puts N.cmp (get N.cmp slots.old) (get N.cmp slots.new) n (raise (get N.cmp slots.old n)) }
-    ensures keys { keys slots.new ≡ keys slots.old }
+// The cells stand in a map by hash, so that finding one takes about the same time however many there are. The map finds a
+// node by `==`; what these calls do is said by `cmp`, as the rules tell nodes apart.
+
+#[inline(always)]
+pub(crate) fn slot_of<N: Copy + Ord + Hash, V: Drop>(
+    slots: &HashMap<N, Slot<V>>,
+    n: N,
+) -> Option<&Slot<V>>
+    ensures { option_copied result ≡ look N.cmp slots.now.entries n }
+{
+    slots.get(&n)
+}
+
+fn plant_slot<N: Copy + Ord + Hash, V: Drop>(
+    slots: &mut HashMap<N, Slot<V>>,
+    n: N,
+) -> Result<(), Memory>
+    ensures ok { OnOk result (Puts N.cmp (look N.cmp slots.old.entries) (look N.cmp slots.new.entries) n planted) }
+    ensures err { OnErr result (slots.new.entries ≡ slots.old.entries) }
+{
+    let fresh = Slot {
+        value: None,
+        count: 0,
+        dirty: true,
+    };
+    slots.insert(n, fresh)?;
+    Ok(())
+}
+
+fn uproot_slot<N: Copy + Ord + Hash, V: Drop>(slots: &mut HashMap<N, Slot<V>>, n: N)
+    ensures { Puts N.cmp (look N.cmp slots.old.entries) (look N.cmp slots.new.entries) n None }
+{
+    let _ = slots.remove(&n);
+}
+
+fn raise_slot<N: Copy + Ord + Hash, V: Drop>(slots: &mut HashMap<N, Slot<V>>, n: N)
+    requires { IsSome (look N.cmp slots.old.entries n) }
+    ensures puts { Puts N.cmp (look N.cmp slots.old.entries) (look N.cmp slots.new.entries) n (raise (look N.cmp slots.old.entries n)) }
+    ensures keys { keys_of slots.new.entries ≡ keys_of slots.old.entries }
 {
     if let Some(slot) = slots.get_mut(&n) {
         slot.dirty = true;
     }
 }
 
-fn store_slot<N: Copy + Ord, V: Drop>(slots: &mut BTreeMap<N, Slot<V>>, n: N, value: V)
-    requires { IsSome (get N.cmp slots.old n) }
-    ensures puts { Puts N.cmp (get N.cmp slots.old) (get N.cmp slots.new) n (stored value (get N.cmp slots.old n)) }
-    ensures keys { keys slots.new ≡ keys slots.old }
+fn store_slot<N: Copy + Ord + Hash, V: Drop>(slots: &mut HashMap<N, Slot<V>>, n: N, value: V)
+    requires { IsSome (look N.cmp slots.old.entries n) }
+    ensures puts { Puts N.cmp (look N.cmp slots.old.entries) (look N.cmp slots.new.entries) n (stored value (look N.cmp slots.old.entries n)) }
+    ensures keys { keys_of slots.new.entries ≡ keys_of slots.old.entries }
 {
     if let Some(slot) = slots.get_mut(&n) {
         slot.count = slot.count.saturating_add(1);

@@ -1,7 +1,7 @@
 use crate::nodes::Nodes;
 
 /// A node of a `MaxBook`, named by its place among the leaves or among the tops.
-#[derive(Clone, Copy, Debug, PartialEq, Eq, PartialOrd, Ord)]
+#[derive(Clone, Copy, Debug, PartialEq, Eq, PartialOrd, Ord, Hash)]
 pub enum MaxNode {
     Leaf(u32),
     Top(u32),

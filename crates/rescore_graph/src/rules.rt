@@ -6,13 +6,14 @@ ghost use Rattle.rescore_graph.specs.States.{look, values_in};
 use crate::cells::Cells;
 use fpl_base::{Memory, Steps};
 use std::alloc::Global;
+use std::hash::Hash;
 use std::sync::ledger::Ledger;
 
 /// The rules by which nodes have values. Only live nodes have one. A node's value is its own function of the values of
 /// its inputs, which are live nodes of lower levels.
 pub trait Rules {
     /// Names a node.
-    type Node: Copy + Ord;
+    type Node: Copy + Ord + Hash;
 
     /// What is kept of a node.
     type Value: Drop;

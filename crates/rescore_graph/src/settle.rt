@@ -1,16 +1,18 @@
 ghost use Rattle.std.specs.Prelude.{◌≡◌, ◌≢◌, ◌≤◌, ◌+◌, ◌⊎◌, ◌↔◌, ℕ, true, [], Some, IsTrue, IsSome, IfSome, IfNone, IfOk, OnOk, OnErr};
 ghost use Rattle.std.specs.List.{sum_by};
+ghost use Rattle.std.specs.Option.{option_copied};
 ghost use Rattle.std.specs.Map.{keys_of};
 ghost use Rattle.rescore_graph.specs.Graph.{IsDependents, DependsOn};
 ghost use Rattle.rescore_graph.specs.States.{look, values_in, State, IsDirty, Raised};
 ghost use Rattle.rescore_graph.specs.Settling.{Sound, Evaluates, Settles, Remains};
 ghost use Rattle.rescore_graph.specs.Work.{IsWork, is_listed};
 
-use crate::cells::Cells;
+use crate::cells::{Cells, slot_of};
 use crate::nodes::Nodes;
 use crate::rules::Rules;
 use fpl_base::{Memory, Steps};
 use std::collections::BTreeSet;
+use std::hash::Hash;
 use std::sync::ledger::Ledger;
 
 /// What settling did.
@@ -20,7 +22,7 @@ pub struct Report<N: Copy> {
     pub evaluated: Nodes<N>,
 }
 
-impl<N: Copy + Ord, V: Drop> Cells<N, V> {
+impl<N: Copy + Ord + Hash, V: Drop> Cells<N, V> {
     /// Brings every live cell to its replay value, and evaluates only what depends on what changed. After want of
     /// memory some of it is done, what is left to do is dirty or depends on what is dirty, and a further call goes on.
     pub fn settle<R: Rules<Node = N, Value = V>, L: Ledger>(
@@ -113,23 +115,26 @@ impl<N: Copy + Ord, V: Drop> Cells<N, V> {
         ensures work { OnOk result (IsWork (R.graph rules.now) N.cmp (look N.cmp self.new) work.new.keys) }
         ensures keys { keys_of self.new ≡ keys_of self.old }
     {
-        if self.holds::<R>(n, value) {
-            return Ok(());
+        match self.value_at(n) {
+            // What depends on a node without a value has to be evaluated already.
+            None => return Ok(()),
+            Some(old) => {
+                if R::same(old, value) {
+                    return Ok(());
+                }
+            }
         }
         let dependents = rules.dependents(self.alloc, n)?;
         self.mark_all(rules, n, &dependents, work)
     }
 
-    // Whether a node holds this value.
-    fn holds<R: Rules<Node = N, Value = V>>(&self, n: N, value: &V) -> bool
-        ensures { IsTrue result ↔ (values_in (look N.cmp self.now) n ≡ Some value.now) }
+    // The value of a node, which is no read of an evaluation; `None` where it was not evaluated yet.
+    fn value_at(&self, n: N) -> Option<&V>
+        ensures { option_copied result ≡ values_in (look N.cmp self.now) n }
     {
-        match self.slots.get(&n) {
-            Some(slot) => match &slot.value {
-                Some(old) => R::same(old, value),
-                None => false,
-            },
-            None => false,
+        match slot_of(&self.slots, n) {
+            Some(slot) => slot.value.as_ref(),
+            None => None,
         }
     }
 

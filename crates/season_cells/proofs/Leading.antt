@@ -1,5 +1,5 @@
 -- What the plan of a command says is so.
-use Rattle.std.proofs.Common.{◌≡◌, ◌≢◌, ⊎_elim, ℕ, ◌==◌, if◌then◌else◌, arith, Bool, true, false, cond, List, Option, Some, None, is_some, refl, sym, ◌∙◌, ap, subst}
+use Rattle.std.proofs.Common.{◌≡◌, ◌≢◌, ⊎_elim, ℕ, ◌==◌, if◌then◌else◌, arith, Bool, true, false, cond, List, Option, Some, None, is_some, IsSomeAnd, refl, sym, ◌∙◌, ap, subst}
 use Rattle.std.proofs.lemmas.Bool.{and_parts, false≢true}
 use Rattle.std.proofs.lemmas.Bool.Decides.{nat_tests}
 use Rattle.std.proofs.lemmas.Option.{none-some}
@@ -9,17 +9,22 @@ use Rattle.rule_book.specs.declared.line.Line.{Line}
 use Rattle.rule_book.specs.declared.player.Player.{Player}
 use Rattle.rule_book.specs.declared.season.Fixture.{Fixture}
 use Rattle.rule_book.specs.Calendar.{IsCalendar, next_gameweek, stands_in}
+use Rattle.rule_book.specs.Entries.{entry_in}
+use Rattle.rule_book.specs.LeagueCalls.{new_league}
+use Rattle.rule_book.specs.Leagues.{LeagueFacts}
 use Rattle.rule_book.specs.MatchCalls.{drop_line, put_line, put_sheet, set_finished}
 use Rattle.rule_book.specs.MatchFacts.{Lines, MatchFacts, Sheet, by_player, is_finished, line_in, line_of, lines_of, sheet_of, with_line, with_sheet, without_line}
 use Rattle.rule_book.specs.Repeats.{first_repeat}
 use Rattle.rule_book.specs.Players.{player_of}
+use Rattle.classic_leagues.specs.Books.{Rise}
 use Rattle.match_facts.specs.Laws.{LinesAreAMap, LinesGo, SheetsAreAMap, SheetsHaveTheirLines}
 use Rattle.manager_book.specs.declared.manager.Manager.{Manager}
-use Rattle.manager_book.specs.Managers.{manager_in}
+use Rattle.manager_book.specs.Managers.{AreRisen, manager_in}
 use Rattle.rule_book.specs.EntryCalls.{in_next}
 use Rattle.season_book.specs.Book.{Facts, caller_number}
 use Rattle.season_book.specs.Commands.{changed_by, has_fixture, has_player, is_in_locked, part_of}
 use Rattle.season_book.specs.Doing.{IsGranted}
+use Rattle.season_book.specs.LeagueCommands.{league_refusal, leagues_after, leagues_there}
 use Rattle.season_book.specs.declared.command.Command.{Command}
 use Rattle.season_book.specs.declared.command.Command.TheVariants as command
 use Rattle.season_book.specs.declared.part.Part.{Part}
@@ -27,18 +32,19 @@ use Rattle.season_book.specs.declared.part.Part.TheVariants as part
 use Rattle.season_entries.specs.Deeds.{rows_refused_in}
 use Rattle.season_entries.specs.Earlier.{EarlierRowsTell}
 use Rattle.season_facts.proofs.KeptFacts.{among_lines, line_in_range, ranged_lines, sheet_parts}
-use Rattle.season_graph.specs.BookChanges.{AreOthers, AreSheetLines, ClubChanges, DeadlineMoves, FixtureComes, FixtureMoves, GoneChanges, LineIsDropped, LineIsPut, ManagersChange, MarkIsSet, PlayerComes, PriceChanges, SheetIsPut}
-use Rattle.season_graph.specs.Changes.{AreAlike, EntriesStay, DifferInLine, DifferInMark, DifferInPlace, DifferInSheet, SameIsAlike}
+use Rattle.season_graph.specs.BookChanges.{AreOthers, AreSheetLines, ClubChanges, DeadlineMoves, FixtureComes, FixtureMoves, GoneChanges, LeagueIsDrawn, LeagueIsJoined, LeagueIsMade, LineIsDropped, LineIsPut, ManagersChange, MarkIsSet, PlayerComes, PriceChanges, SheetIsPut}
+use Rattle.season_graph.specs.Changes.{AreAlike, EntriesStay, DifferInLeague, DifferInLine, DifferInMark, DifferInPlace, DifferInSheet, SameIsAlike}
 use Rattle.season_graph.specs.Touched.{is_other}
 use Rattle.season_nodes.specs.Season.{IsSeason, SeasonFacts}
 use Rattle.season_running.specs.Accepting.{IsGrantedIn}
 use Rattle.season_running.specs.Changed.{IsChangedIn, managers_with}
 use Rattle.season_running.specs.Standing.{Running}
-use Rattle.season_cells.specs.Kept.{AreRisen, season_seen}
+use Rattle.season_cells.specs.Kept.{season_seen}
 use Rattle.season_cells.specs.Leading.{LeadsTo, PlansLead}
-use Rattle.season_cells.specs.Plans.{IsLined, IsMarked, IsPlaced, IsPlanOf, IsSheet}
+use Rattle.season_cells.specs.Plans.{IsLeagued, IsLined, IsMarked, IsPlaced, IsPlanOf, IsSheet}
 use Rattle.season_cells.specs.declared.plan.Plan.{Plan}
 use Rattle.season_cells.specs.declared.plan.Plan.TheVariants as plan
+use Rattle.season_cells.proofs.Drawn.{can_be_drawn}
 use Rattle.season_cells.proofs.Places.{comes_from_nowhere, comes_there, moves_there}
 use Rattle.season_cells.proofs.Stays.{deed_stays, key_stays}
 
@@ -56,6 +62,9 @@ pub record AreLaws : Type 0 where
   pub club : ClubChanges
   pub gone : GoneChanges
   pub managers : ManagersChange
+  pub made : LeagueIsMade
+  pub joined : LeagueIsJoined
+  pub drawn : LeagueIsDrawn
   pub alike : SameIsAlike
   pub tell : EarlierRowsTell
   pub sheets : SheetsAreAMap
@@ -124,6 +133,7 @@ module _ (laws : AreLaws) where
   place_leads b d f from to (plan.Line k p) is_b is_d differ stood stands h = absurd h
   place_leads b d f from to (plan.Mark k) is_b is_d differ stood stands h = absurd h
   place_leads b d f from to (plan.Sheet k ps marked) is_b is_d differ stood stands h = absurd h
+  place_leads b d f from to (plan.League l) is_b is_d differ stood stands h = absurd h
 
   -- a line
   line_leads : (b d : SeasonFacts) (f p : ℕ) (old new : Option Line) (made : Plan) → IsSeason d → DifferInLine b d f p
@@ -140,6 +150,7 @@ module _ (laws : AreLaws) where
   line_leads b d f p old new (plan.Place k from to) is_d differ was is h = absurd h
   line_leads b d f p old new (plan.Mark k) is_d differ was is h = absurd h
   line_leads b d f p old new (plan.Sheet k ps marked) is_d differ was is h = absurd h
+  line_leads b d f p old new (plan.League l) is_d differ was is h = absurd h
 
   -- a mark
   mark_leads : (b d : SeasonFacts) (f : ℕ) (old new : Bool) (made : Plan) → IsSeason d → DifferInMark b d f
@@ -156,17 +167,29 @@ module _ (laws : AreLaws) where
   mark_leads b d f old new (plan.Place k from to) is_d differ was is h = absurd h
   mark_leads b d f old new (plan.Line k q) is_d differ was is h = absurd h
   mark_leads b d f old new (plan.Sheet k ps marked) is_d differ was is h = absurd h
+  mark_leads b d f old new (plan.League l) is_d differ was is h = absurd h
+
+  -- a league that is there
+  league_leads : (b d : SeasonFacts) (leagues : List LeagueFacts) (l : ℕ) (made : Plan) → IsSeason d × DifferInLeague b d l → is_some (entry_in leagues l) ≡ true
+      → IsLeagued leagues l made → LeadsTo b d made
+  league_leads b d leagues l plan.Nothing left there h = absurd (false≢true (sym (ap is_some h) ∙ there))
+  league_leads b d leagues l (plan.League k) left there h = record { season = left.0; differ = subst (λ n. DifferInLeague b d n) (sym h.0) left.1 }
+  league_leads b d leagues l (plan.Player q) left there h = absurd h
+  league_leads b d leagues l (plan.Place k from to) left there h = absurd h
+  league_leads b d leagues l (plan.Line k q) left there h = absurd h
+  league_leads b d leagues l (plan.Mark k) left there h = absurd h
+  league_leads b d leagues l (plan.Sheet k ps marked) left there h = absurd h
 
   nothing_leads : (b d : SeasonFacts) (made : Plan) → made ≡ plan.Nothing → IsSeason d × AreAlike b d → LeadsTo b d made
   nothing_leads b d made e h = subst (λ x. LeadsTo b d x) (sym e) (record { season = h.0; differ = h.1 })
 
   -- a command on the facts
-  module _ (f : Facts) (managers : List Manager) (now : ℕ) where
+  module _ (f : Facts) (managers : List Manager) (leagues : List LeagueFacts) (now : ℕ) where
     abbrev b : SeasonFacts
-    b = season_seen f managers
+    b = season_seen f managers leagues
 
     abbrev behind : Command → SeasonFacts
-    behind command = season_seen (changed_by f command) managers
+    behind command = season_seen (changed_by f command) managers leagues
 
     sheet_leads : (k : ℕ) (lines : Lines) (finished : Bool) (made : Plan) → IsSeason b → IsGranted f now (command.Sheet k lines finished)
         → IsSheet k (lines_of f.matches k) (is_finished f.matches k) lines finished made → LeadsTo b (behind (command.Sheet k lines finished)) made
@@ -175,6 +198,7 @@ module _ (laws : AreLaws) where
     sheet_leads k lines finished (plan.Place j from to) is granted h = absurd h
     sheet_leads k lines finished (plan.Line j q) is granted h = absurd h
     sheet_leads k lines finished (plan.Mark j) is granted h = absurd h
+    sheet_leads k lines finished (plan.League l) is granted h = absurd h
     sheet_leads k lines finished (plan.Sheet j ps marked) is granted h =
         let d = behind (command.Sheet k lines finished) in
         let parts = sheet_parts k (is_in_locked f k) lines granted.unbroken in
@@ -197,7 +221,7 @@ module _ (laws : AreLaws) where
           );
         }
 
-    pub facts_lead : (command : Command) (made : Plan) → part_of command ≡ part.Facts → IsSeason b → IsGranted f now command → IsPlanOf f command made
+    pub facts_lead : (command : Command) (made : Plan) → part_of command ≡ part.Facts → IsSeason b → IsGranted f now command → IsPlanOf f leagues command made
         → IsCalendar (changed_by f command).calendar → LeadsTo b (behind command) made
     facts_lead (command.Season profile deadlines split clubs) made e is granted h lawful = absurd (none-some _ (sym granted.begins_none))
     facts_lead (command.Deadline g t) made e is granted h lawful = nothing_leads b (behind (command.Deadline g t)) made h (laws.deadline b g t is lawful)
@@ -236,107 +260,166 @@ module _ (laws : AreLaws) where
     facts_lead (command.Draw league order) made e is granted h lawful = absurd cc
     facts_lead (command.Cup start slots coins) made e is granted h lawful = absurd cc
 
-  -- a manager's command, a key, and what changes neither facts nor managers
-  managers_lead : (f : Facts) (olds news : List Manager) (made : Plan) → made ≡ plan.Nothing → IsSeason (season_seen f olds) → EntriesStay (season_seen f olds) (season_seen f news)
-      → LeadsTo (season_seen f olds) (season_seen f news) made
-  managers_lead f olds news made e is stay =
-      nothing_leads (season_seen f olds) (season_seen f news) made e (laws.managers (season_seen f olds) (record { profile = f.profile; managers = news }) is stay)
+  -- a command on the leagues
+  module _ (f : Facts) (managers : List Manager) (leagues : List LeagueFacts) (e : ℕ) where
+    abbrev among : SeasonFacts
+    among = season_seen f managers leagues
 
-  same_stays : (f : Facts) (managers : List Manager) → EntriesStay (season_seen f managers) (season_seen f managers)
-  same_stays f managers = record { begun = λ e g w. refl; team = λ e g l. refl; cost = λ e g l. refl }
+    abbrev after : Command → SeasonFacts
+    after command = season_seen f managers (leagues_after leagues e command)
 
-  -- a command on no facts changes nothing that cells hang on
-  nothing_of : (f : Facts) (command : Command) (made : Plan) → (part_of command ≡ part.Facts → ⊥) → IsPlanOf f command made → made ≡ plan.Nothing
-  nothing_of f (command.Season profile deadlines split clubs) made other h = absurd (other refl)
-  nothing_of f (command.Deadline g t) made other h = absurd (other refl)
-  nothing_of f (command.Player id name position club price) made other h = absurd (other refl)
-  nothing_of f (command.Price p price) made other h = absurd (other refl)
-  nothing_of f (command.Club p club) made other h = absurd (other refl)
-  nothing_of f (command.Gone p gone) made other h = absurd (other refl)
-  nothing_of f (command.Fixture id home away g kickoff) made other h = absurd (other refl)
-  nothing_of f (command.Move k g kickoff) made other h = absurd (other refl)
-  nothing_of f (command.Sheet k lines finished) made other h = absurd (other refl)
-  nothing_of f (command.Line k p line) made other h = absurd (other refl)
-  nothing_of f (command.Drop k p) made other h = absurd (other refl)
-  nothing_of f (command.Finished k finished) made other h = absurd (other refl)
-  nothing_of f (command.Key key name) made other h = h
-  nothing_of f (command.Squad players captain vice) made other h = h
-  nothing_of f (command.Transfers swaps) made other h = h
-  nothing_of f (command.Lineup players captain vice) made other h = h
-  nothing_of f (command.Chip chip) made other h = h
-  nothing_of f command.CancelChip made other h = h
-  nothing_of f (command.League kind name code start) made other h = h
-  nothing_of f (command.Join league code) made other h = h
-  nothing_of f (command.Draw league order) made other h = h
-  nothing_of f (command.Cup start slots coins) made other h = h
+    -- the members of a league that is planned ascend
+    planned_rise : (l : ℕ) (made : Plan) → is_some (entry_in leagues l) ≡ true → IsLeagued leagues l made → (league : LeagueFacts) → entry_in leagues l ≡ Some league → Rise league.members
+    planned_rise l plan.Nothing there h league at = absurd (none-some league (sym h ∙ at))
+    planned_rise l (plan.League k) there h league at = subst (λ o. IsSomeAnd o (λ (x : LeagueFacts). Rise x.members)) at h.1
+    planned_rise l (plan.Player q) there h league at = absurd h
+    planned_rise l (plan.Place k from to) there h league at = absurd h
+    planned_rise l (plan.Line k q) there h league at = absurd h
+    planned_rise l (plan.Mark k) there h league at = absurd h
+    planned_rise l (plan.Sheet k ps marked) there h league at = absurd h
+
+    leagues_lead : (command : Command) (made : Plan) → part_of command ≡ part.Leagues → IsSeason among → leagues_there f (λ number. true) leagues command ≡ true
+        → league_refusal f true leagues e command ≡ None → IsPlanOf f leagues command made → LeadsTo among (after command) made
+    leagues_lead (command.Season profile deadlines split clubs) made i is there unbroken h = absurd cc
+    leagues_lead (command.Deadline g t) made i is there unbroken h = absurd cc
+    leagues_lead (command.Player id name position club price) made i is there unbroken h = absurd cc
+    leagues_lead (command.Price p price) made i is there unbroken h = absurd cc
+    leagues_lead (command.Club p club) made i is there unbroken h = absurd cc
+    leagues_lead (command.Gone p gone) made i is there unbroken h = absurd cc
+    leagues_lead (command.Fixture id home away g kickoff) made i is there unbroken h = absurd cc
+    leagues_lead (command.Move k g kickoff) made i is there unbroken h = absurd cc
+    leagues_lead (command.Sheet k lines finished) made i is there unbroken h = absurd cc
+    leagues_lead (command.Line k p line) made i is there unbroken h = absurd cc
+    leagues_lead (command.Drop k p) made i is there unbroken h = absurd cc
+    leagues_lead (command.Finished k finished) made i is there unbroken h = absurd cc
+    leagues_lead (command.Key key name) made i is there unbroken h = absurd cc
+    leagues_lead (command.Squad players captain vice) made i is there unbroken h = absurd cc
+    leagues_lead (command.Transfers swaps) made i is there unbroken h = absurd cc
+    leagues_lead (command.Lineup players captain vice) made i is there unbroken h = absurd cc
+    leagues_lead (command.Chip chip) made i is there unbroken h = absurd cc
+    leagues_lead command.CancelChip made i is there unbroken h = absurd cc
+    leagues_lead (command.League kind name code start) made i is there unbroken h =
+        let left = laws.made among (new_league kind name code start e) is refl in
+        subst (λ p. LeadsTo among (after (command.League kind name code start)) p) (sym h) (record { season = left.0; differ = left.1 })
+    leagues_lead (command.Join l code) made i is there unbroken h = league_leads among (after (command.Join l code)) leagues l made (laws.joined among l e is) there h
+    leagues_lead (command.Draw l order) made i is there unbroken h =
+        let known = (and_parts (is_some (entry_in leagues l)) _ there).0 in
+        league_leads among (after (command.Draw l order)) leagues l made
+        (laws.drawn among l order is (λ league at. can_be_drawn leagues l order f.calendar.locked league at (planned_rise l made known h league at) unbroken)) known h
+    leagues_lead (command.Cup start slots coins) made i is there unbroken h = absurd cc
+
+  -- a manager's command, a key, and what changes neither facts, managers nor leagues
+  managers_lead : (f : Facts) (leagues : List LeagueFacts) (olds news : List Manager) (made : Plan) → made ≡ plan.Nothing → IsSeason (season_seen f olds leagues)
+      → EntriesStay (season_seen f olds leagues) (season_seen f news leagues) → LeadsTo (season_seen f olds leagues) (season_seen f news leagues) made
+  managers_lead f leagues olds news made e is stay =
+      nothing_leads (season_seen f olds leagues) (season_seen f news leagues) made e (laws.managers (season_seen f olds leagues) (record { profile = f.profile; managers = news }) is stay)
+
+  same_stays : (f : Facts) (managers : List Manager) (leagues : List LeagueFacts) → EntriesStay (season_seen f managers leagues) (season_seen f managers leagues)
+  same_stays f managers leagues = record { begun = λ e g w. refl; team = λ e g l. refl; cost = λ e g l. refl }
+
+  -- a command on no facts and no leagues changes nothing that cells hang on
+  nothing_of : (f : Facts) (leagues : List LeagueFacts) (command : Command) (made : Plan) → (part_of command ≡ part.Facts → ⊥) → (part_of command ≡ part.Leagues → ⊥)
+      → IsPlanOf f leagues command made → made ≡ plan.Nothing
+  nothing_of f leagues (command.Season profile deadlines split clubs) made other another h = absurd (other refl)
+  nothing_of f leagues (command.Deadline g t) made other another h = absurd (other refl)
+  nothing_of f leagues (command.Player id name position club price) made other another h = absurd (other refl)
+  nothing_of f leagues (command.Price p price) made other another h = absurd (other refl)
+  nothing_of f leagues (command.Club p club) made other another h = absurd (other refl)
+  nothing_of f leagues (command.Gone p gone) made other another h = absurd (other refl)
+  nothing_of f leagues (command.Fixture id home away g kickoff) made other another h = absurd (other refl)
+  nothing_of f leagues (command.Move k g kickoff) made other another h = absurd (other refl)
+  nothing_of f leagues (command.Sheet k lines finished) made other another h = absurd (other refl)
+  nothing_of f leagues (command.Line k p line) made other another h = absurd (other refl)
+  nothing_of f leagues (command.Drop k p) made other another h = absurd (other refl)
+  nothing_of f leagues (command.Finished k finished) made other another h = absurd (other refl)
+  nothing_of f leagues (command.Key key name) made other another h = h
+  nothing_of f leagues (command.Squad players captain vice) made other another h = h
+  nothing_of f leagues (command.Transfers swaps) made other another h = h
+  nothing_of f leagues (command.Lineup players captain vice) made other another h = h
+  nothing_of f leagues (command.Chip chip) made other another h = h
+  nothing_of f leagues command.CancelChip made other another h = h
+  nothing_of f leagues (command.League kind name code start) made other another h = absurd (another refl)
+  nothing_of f leagues (command.Join l code) made other another h = absurd (another refl)
+  nothing_of f leagues (command.Draw l order) made other another h = absurd (another refl)
+  nothing_of f leagues (command.Cup start slots coins) made other another h = h
 
   -- a key adds a manager who did nothing, and no other command adds one
-  with_stays : (f : Facts) (managers : List Manager) (command : Command) → EntriesStay (season_seen f managers) (season_seen f (managers_with managers command))
-  with_stays f managers (command.Season profile deadlines split clubs) = same_stays f managers
-  with_stays f managers (command.Deadline g t) = same_stays f managers
-  with_stays f managers (command.Player id name position club price) = same_stays f managers
-  with_stays f managers (command.Price p price) = same_stays f managers
-  with_stays f managers (command.Club p club) = same_stays f managers
-  with_stays f managers (command.Gone p gone) = same_stays f managers
-  with_stays f managers (command.Fixture id home away g kickoff) = same_stays f managers
-  with_stays f managers (command.Move k g kickoff) = same_stays f managers
-  with_stays f managers (command.Sheet k lines finished) = same_stays f managers
-  with_stays f managers (command.Line k p line) = same_stays f managers
-  with_stays f managers (command.Drop k p) = same_stays f managers
-  with_stays f managers (command.Finished k finished) = same_stays f managers
-  with_stays f managers (command.Key key name) = key_stays f managers key name
-  with_stays f managers (command.Squad players captain vice) = same_stays f managers
-  with_stays f managers (command.Transfers swaps) = same_stays f managers
-  with_stays f managers (command.Lineup players captain vice) = same_stays f managers
-  with_stays f managers (command.Chip chip) = same_stays f managers
-  with_stays f managers command.CancelChip = same_stays f managers
-  with_stays f managers (command.League kind name code start) = same_stays f managers
-  with_stays f managers (command.Join league code) = same_stays f managers
-  with_stays f managers (command.Draw league order) = same_stays f managers
-  with_stays f managers (command.Cup start slots coins) = same_stays f managers
+  with_stays : (f : Facts) (managers : List Manager) (leagues : List LeagueFacts) (command : Command) → EntriesStay (season_seen f managers leagues) (season_seen f (managers_with managers command) leagues)
+  with_stays f managers leagues (command.Season profile deadlines split clubs) = same_stays f managers leagues
+  with_stays f managers leagues (command.Deadline g t) = same_stays f managers leagues
+  with_stays f managers leagues (command.Player id name position club price) = same_stays f managers leagues
+  with_stays f managers leagues (command.Price p price) = same_stays f managers leagues
+  with_stays f managers leagues (command.Club p club) = same_stays f managers leagues
+  with_stays f managers leagues (command.Gone p gone) = same_stays f managers leagues
+  with_stays f managers leagues (command.Fixture id home away g kickoff) = same_stays f managers leagues
+  with_stays f managers leagues (command.Move k g kickoff) = same_stays f managers leagues
+  with_stays f managers leagues (command.Sheet k lines finished) = same_stays f managers leagues
+  with_stays f managers leagues (command.Line k p line) = same_stays f managers leagues
+  with_stays f managers leagues (command.Drop k p) = same_stays f managers leagues
+  with_stays f managers leagues (command.Finished k finished) = same_stays f managers leagues
+  with_stays f managers leagues (command.Key key name) = key_stays f leagues managers key name
+  with_stays f managers leagues (command.Squad players captain vice) = same_stays f managers leagues
+  with_stays f managers leagues (command.Transfers swaps) = same_stays f managers leagues
+  with_stays f managers leagues (command.Lineup players captain vice) = same_stays f managers leagues
+  with_stays f managers leagues (command.Chip chip) = same_stays f managers leagues
+  with_stays f managers leagues command.CancelChip = same_stays f managers leagues
+  with_stays f managers leagues (command.League kind name code start) = same_stays f managers leagues
+  with_stays f managers leagues (command.Join league code) = same_stays f managers leagues
+  with_stays f managers leagues (command.Draw league order) = same_stays f managers leagues
+  with_stays f managers leagues (command.Cup start slots coins) = same_stays f managers leagues
 
   next_there : (o : Option ℕ) (judged : ℕ → Option Rule) → in_next o judged ≡ None → (n : ℕ) × (o ≡ Some n)
   next_there None judged e = absurd (none-some _ (sym e))
   next_there (Some n) judged e = (n, refl)
 
   -- a command of each part
-  module _ (caller : Caller) (now : ℕ) (command : Command) (old new : Running) (made : Plan) (is : IsSeason (season_seen old.facts old.managers)) (planned : IsPlanOf old.facts command made)
+  module _ (caller : Caller) (now : ℕ) (command : Command) (old new : Running) (made : Plan) (is : IsSeason (season_seen old.facts old.managers old.leagues)) (planned : IsPlanOf old.facts old.leagues command made)
       (lawful : IsCalendar new.facts.calendar) (up_old : AreRisen old.managers) (up_new : AreRisen new.managers) where
     abbrev Goal : Type 0
-    Goal = LeadsTo (season_seen old.facts old.managers) (season_seen new.facts new.managers) made
+    Goal = LeadsTo (season_seen old.facts old.managers old.leagues) (season_seen new.facts new.managers new.leagues) made
 
     in_part : (p : Part) → part_of command ≡ p → IsGrantedIn p old (caller_number caller) now command → IsChangedIn p (caller_number caller) command old new → Goal
     in_part part.Facts e granted changed =
-        subst (λ (r : Running). LeadsTo (season_seen old.facts old.managers) (season_seen r.facts r.managers) made) (sym changed)
-        (facts_lead old.facts old.managers now command made e is granted planned (subst (λ (r : Running). IsCalendar r.facts.calendar) changed lawful))
+        subst (λ (r : Running). LeadsTo (season_seen old.facts old.managers old.leagues) (season_seen r.facts r.managers r.leagues) made) (sym changed)
+        (facts_lead old.facts old.managers old.leagues now command made e is granted planned (subst (λ (r : Running). IsCalendar r.facts.calendar) changed lawful))
     in_part part.Entries e granted changed =
-        subst (λ (r : Running). LeadsTo (season_seen old.facts old.managers) (season_seen r.facts r.managers) made) (sym changed)
-        (managers_lead old.facts old.managers (managers_with old.managers command) made (nothing_of old.facts command made (λ i. entries_apart (sym e ∙ i)) planned) is (with_stays old.facts old.managers command))
+        subst (λ (r : Running). LeadsTo (season_seen old.facts old.managers old.leagues) (season_seen r.facts r.managers r.leagues) made) (sym changed)
+        (managers_lead old.facts old.leagues old.managers (managers_with old.managers command) made
+        (nothing_of old.facts old.leagues command made (λ i. entries_apart (sym e ∙ i)) (λ i. leagues_apart (sym e ∙ i)) planned) is (with_stays old.facts old.managers old.leagues command))
       where
         entries_apart : part.Entries ≡ part.Facts → ⊥
         entries_apart i = cc
+
+        leagues_apart : part.Entries ≡ part.Leagues → ⊥
+        leagues_apart i = cc
     in_part part.Deeds e granted changed =
         let next = next_there (next_gameweek old.facts.calendar) (rows_refused_in old.facts (manager_in old.managers (caller_number caller)).season command) granted.2.unbroken in
-        let stay = deed_stays laws.tell old.facts next.0 (caller_number caller) old.managers new.managers next.1 (changed.others old.facts.profile) (changed.earlier old.facts.profile) up_old up_new in
-        subst (λ f. LeadsTo (season_seen old.facts old.managers) (season_seen f new.managers) made) (sym changed.facts)
-        (managers_lead old.facts old.managers new.managers made (nothing_of old.facts command made (λ i. deeds_apart (sym e ∙ i)) planned) is stay)
+        let stay = deed_stays laws.tell old.facts old.leagues next.0 (caller_number caller) old.managers new.managers next.1 (changed.others old.facts.profile) (changed.earlier old.facts.profile) up_old up_new in
+        subst (λ f. LeadsTo (season_seen old.facts old.managers old.leagues) (season_seen f new.managers new.leagues) made) (sym changed.facts)
+        (subst (λ ls. LeadsTo (season_seen old.facts old.managers old.leagues) (season_seen old.facts new.managers ls) made) (sym changed.leagues)
+        (managers_lead old.facts old.leagues old.managers new.managers made
+        (nothing_of old.facts old.leagues command made (λ i. deeds_apart (sym e ∙ i)) (λ i. leagues_apart (sym e ∙ i)) planned) is stay))
       where
         deeds_apart : part.Deeds ≡ part.Facts → ⊥
         deeds_apart i = cc
-    in_part part.Leagues e granted changed =
-        subst (λ f. LeadsTo (season_seen old.facts old.managers) (season_seen f new.managers) made) (sym changed.facts)
-        (subst (λ ms. LeadsTo (season_seen old.facts old.managers) (season_seen old.facts ms) made) (sym changed.managers)
-        (managers_lead old.facts old.managers old.managers made (nothing_of old.facts command made (λ i. leagues_apart (sym e ∙ i)) planned) is (same_stays old.facts old.managers)))
-      where
-        leagues_apart : part.Leagues ≡ part.Facts → ⊥
+
+        leagues_apart : part.Deeds ≡ part.Leagues → ⊥
         leagues_apart i = cc
+    in_part part.Leagues e granted changed =
+        subst (λ (r : Running). LeadsTo (season_seen old.facts old.managers old.leagues) (season_seen r.facts r.managers r.leagues) made) (sym changed)
+        (leagues_lead old.facts old.managers old.leagues (caller_number caller) command made e is granted.there granted.unbroken planned)
     in_part part.Cups e granted changed =
-        subst (λ f. LeadsTo (season_seen old.facts old.managers) (season_seen f new.managers) made) (sym changed.facts)
-        (subst (λ ms. LeadsTo (season_seen old.facts old.managers) (season_seen old.facts ms) made) (sym changed.managers)
-        (managers_lead old.facts old.managers old.managers made (nothing_of old.facts command made (λ i. cups_apart (sym e ∙ i)) planned) is (same_stays old.facts old.managers)))
+        subst (λ f. LeadsTo (season_seen old.facts old.managers old.leagues) (season_seen f new.managers new.leagues) made) (sym changed.facts)
+        (subst (λ ms. LeadsTo (season_seen old.facts old.managers old.leagues) (season_seen old.facts ms new.leagues) made) (sym changed.managers)
+        (subst (λ ls. LeadsTo (season_seen old.facts old.managers old.leagues) (season_seen old.facts old.managers ls) made) (sym changed.leagues)
+        (managers_lead old.facts old.leagues old.managers old.managers made
+        (nothing_of old.facts old.leagues command made (λ i. cups_apart (sym e ∙ i)) (λ i. leagues_apart (sym e ∙ i)) planned) is (same_stays old.facts old.managers old.leagues))))
       where
         cups_apart : part.Cups ≡ part.Facts → ⊥
         cups_apart i = cc
+
+        leagues_apart : part.Cups ≡ part.Leagues → ⊥
+        leagues_apart i = cc
 
   pub plans_lead : PlansLead
   plans_lead caller now command old new made is granted planned changed lawful up_old up_new =

@@ -1,4 +1,5 @@
 pub mod Corrected
+pub mod Drawn
 pub mod Following
 pub mod Found
 pub mod Leading

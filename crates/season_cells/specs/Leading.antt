@@ -4,13 +4,14 @@ use Rattle.fpl_base.specs.declared.kinds.Caller.{Caller}
 use Rattle.rule_book.specs.Calendar.{IsCalendar, stands_in}
 use Rattle.rule_book.specs.MatchFacts.{is_finished, line_of}
 use Rattle.rescore_graph.specs.Graph.{Among}
+use Rattle.manager_book.specs.Managers.{AreRisen}
 use Rattle.season_book.specs.declared.command.Command.{Command}
-use Rattle.season_graph.specs.Changes.{AreAlike, DifferInLine, DifferInMark, DifferInPlace, DifferInPlayer, DifferInSheet}
+use Rattle.season_graph.specs.Changes.{AreAlike, DifferInLeague, DifferInLine, DifferInMark, DifferInPlace, DifferInPlayer, DifferInSheet}
 use Rattle.season_nodes.specs.Season.{IsSeason, SeasonFacts}
 use Rattle.season_running.specs.Accepting.{IsGrantedTo}
 use Rattle.season_running.specs.Changed.{IsChangedBy}
 use Rattle.season_running.specs.Standing.{Running}
-use Rattle.season_cells.specs.Kept.{AreRisen, season_seen}
+use Rattle.season_cells.specs.Kept.{season_seen}
 use Rattle.season_cells.specs.Plans.{IsPlanOf}
 use Rattle.season_cells.specs.declared.plan.Plan.{Plan}
 use Rattle.season_cells.specs.declared.plan.Plan.TheVariants as plan
@@ -27,6 +28,7 @@ module _ (b d : SeasonFacts) where
       DifferInSheet b d f players.items marked
       × ((p : ℕ) → Among players.items p → line_of b.matches f p ≢ line_of d.matches f p)
       × (marked ≡ true → is_finished b.matches f ≢ is_finished d.matches f)
+  DifferAs (plan.League l) = DifferInLeague b d l
 
   -- and they are those of a season
   pub record LeadsTo (plan : Plan) : Type 0 where
@@ -36,6 +38,6 @@ module _ (b d : SeasonFacts) where
 -- behind a command stands a season, which differs as its plan says
 abbrev pub PlansLead : Type 0
 PlansLead = (caller : Caller) (now : ℕ) (command : Command) (old new : Running) (plan : Plan)
-    → IsSeason (season_seen old.facts old.managers) → IsGrantedTo old caller now command → IsPlanOf old.facts command plan
+    → IsSeason (season_seen old.facts old.managers old.leagues) → IsGrantedTo old caller now command → IsPlanOf old.facts old.leagues command plan
     → IsChangedBy caller command old new → IsCalendar new.facts.calendar → AreRisen old.managers → AreRisen new.managers
-    → LeadsTo (season_seen old.facts old.managers) (season_seen new.facts new.managers) plan
+    → LeadsTo (season_seen old.facts old.managers old.leagues) (season_seen new.facts new.managers new.leagues) plan

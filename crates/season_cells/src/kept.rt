@@ -1,4 +1,4 @@
-// The cells of a season and its managers.
+// The cells of a season, its managers and its leagues.
 ghost use Rattle.std.specs.Prelude.{◌≡◌, ℕ, IfOk, OnOk};
 ghost use Rattle.rule_book.specs.MatchFacts.{lines_of, players_in};
 ghost use Rattle.season_graph.specs.Changes.{DifferInLocks};
@@ -7,24 +7,28 @@ ghost use Rattle.season_nodes.specs.Held.{held};
 ghost use Rattle.season_nodes.specs.IndexFacts.{IsIndex, holders_in};
 ghost use Rattle.season_nodes.specs.Season.{IsSeason, Rising, SeasonFacts};
 ghost use Rattle.season_cells.specs.Correcting.{AreRaised, IsCheap, IsCorrected};
-ghost use Rattle.season_cells.specs.Kept.{AreCellsOf, books_seen};
+ghost use Rattle.season_views.specs.Cells.{books_seen};
+ghost use Rattle.season_cells.specs.Kept.{AreCellsOf};
 ghost use Rattle.season_cells.specs.Leading.{DifferAs, LeadsTo};
 
 use crate::plan::Plan;
+use classic_leagues::Leagues;
 use fpl_base::{Memory, Steps};
 use manager_book::ManagerBook;
 use match_facts::MatchFacts;
 use season_facts::Season;
 use season_graph::{
     Books, Index, SeasonCells, SeasonRules, books_alike, evaluate_all, fact_changed, fixture_moved,
-    gameweeks_locked, index_stays, mark_changed, player_added, settle_season, sheet_changed,
+    gameweeks_locked, index_stays, league_changed, mark_changed, player_added, settle_season,
+    sheet_changed,
 };
+use season_nodes::orders_are_of_members;
 use std::alloc::Global;
 use std::marker::Model;
 use std::sync::ledger::Ledger;
 
-/// The cells of a season and its managers, with who holds whom in the locked gameweeks. After want of memory in a call that changes
-/// them they are those of no season, and have to be made anew.
+/// The cells of a season, its managers and its leagues, with who holds whom in the locked gameweeks. After want of memory
+/// in a call that changes them they are those of no season, and have to be made anew.
 #[derive(Drop)]
 pub struct KeptCells {
     cells: SeasonCells,
@@ -39,9 +43,9 @@ impl Model for KeptCells {
     ghost view = { λ k. record { cells = k.cells; index = k.index } };
 }
 
-// The books of a season and its managers, lent.
-fn books_of<'a>(season: &'a Season, managers: &'a ManagerBook) -> Books<'a>
-    ensures { facts_of result ≡ books_seen season.now managers.now }
+// The books of a season, its managers and its leagues, lent.
+fn books_of<'a>(season: &'a Season, managers: &'a ManagerBook, leagues: &'a Leagues) -> Books<'a>
+    ensures { facts_of result ≡ books_seen season.now managers.now leagues.now }
 {
     Books {
         profile: season.profile(),
@@ -49,6 +53,7 @@ fn books_of<'a>(season: &'a Season, managers: &'a ManagerBook) -> Books<'a>
         players: season.players(),
         matches: season.matches(),
         managers,
+        leagues,
     }
 }
 
@@ -63,20 +68,29 @@ fn rising(matches: &MatchFacts)
 }
 
 impl KeptCells {
-    /// The cells of a season and its managers, made of them alone.
+    /// The cells of a season, its managers and its leagues, made of them alone.
     pub fn anew<L: Ledger>(
         alloc: Global,
         season: &Season,
         managers: &ManagerBook,
+        leagues: &Leagues,
         steps: &mut Steps<L>,
     ) -> Result<Self, Memory>
-        ensures { IfOk result (λ kept. AreCellsOf (books_seen season.now managers.now) kept) }
+        ensures { IfOk result (λ kept. AreCellsOf (books_seen season.now managers.now leagues.now) kept) }
     {
         // The laws by which the facts are those of a season, for the prover.
         season.keeps_facts();
         rising(season.matches());
-        let (cells, index) = evaluate_all(alloc, &books_of(season, managers), steps)?;
+        orders_are_of_members(leagues);
+        let (cells, index) = evaluate_all(alloc, &books_of(season, managers, leagues), steps)?;
         Ok(KeptCells { cells, index })
+    }
+
+    /// The cells themselves.
+    pub fn cells(&self) -> &SeasonCells
+        ensures { result.now ≡ self.now.cells }
+    {
+        &self.cells
     }
 
     /// Follows a command that changed what its plan says, and evaluates what hangs on that.
@@ -85,19 +99,20 @@ impl KeptCells {
         plan: &Plan,
         season: &Season,
         managers: &ManagerBook,
+        leagues: &Leagues,
         steps: &mut Steps<L>,
     ) -> Result<(), Memory>
         ghost before: { SeasonFacts }
         requires cells { AreCellsOf before self.old }
-        requires leads { LeadsTo before (books_seen season.now managers.now) plan.now }
-        ensures cells { OnOk result (AreCellsOf (books_seen season.now managers.now) self.new) }
-        ensures corrected { OnOk result (IsCorrected before (books_seen season.now managers.now) self.old.cells self.new.cells) }
-        ensures cost { OnOk result (IsCheap before (books_seen season.now managers.now) steps.old steps.new) }
+        requires leads { LeadsTo before (books_seen season.now managers.now leagues.now) plan.now }
+        ensures cells { OnOk result (AreCellsOf (books_seen season.now managers.now leagues.now) self.new) }
+        ensures corrected { OnOk result (IsCorrected before (books_seen season.now managers.now leagues.now) self.old.cells self.new.cells) }
+        ensures cost { OnOk result (IsCheap before (books_seen season.now managers.now leagues.now) steps.old steps.new) }
     {
         // The law that the index stays right where no gameweek is locked, for the prover.
         index_stays();
         let rules = SeasonRules {
-            books: books_of(season, managers),
+            books: books_of(season, managers, leagues),
             index: &self.index,
         };
         mark(&mut self.cells, &rules, plan)?;
@@ -111,15 +126,16 @@ impl KeptCells {
         first: u8,
         season: &Season,
         managers: &ManagerBook,
+        leagues: &Leagues,
         steps: &mut Steps<L>,
     ) -> Result<(), Memory>
         ghost before: { SeasonFacts }
         requires cells { AreCellsOf before self.old }
-        requires season { IsSeason (books_seen season.now managers.now) }
-        requires locks { DifferInLocks before (books_seen season.now managers.now) first }
-        ensures cells { OnOk result (AreCellsOf (books_seen season.now managers.now) self.new) }
+        requires season { IsSeason (books_seen season.now managers.now leagues.now) }
+        requires locks { DifferInLocks before (books_seen season.now managers.now leagues.now) first }
+        ensures cells { OnOk result (AreCellsOf (books_seen season.now managers.now leagues.now) self.new) }
     {
-        let books = books_of(season, managers);
+        let books = books_of(season, managers, leagues);
         gameweeks_locked(&mut self.index, &mut self.cells, &books, first)?;
         let rules = SeasonRules {
             books,
@@ -151,5 +167,6 @@ fn mark(cells: &mut SeasonCells, rules: &SeasonRules, plan: &Plan) -> Result<(),
             players,
             marked,
         } => sheet_changed(cells, books, *fixture, players, *marked),
+        Plan::League(league) => league_changed(cells, books, *league),
     }
 }

@@ -4,7 +4,8 @@ ghost use Rattle.season_cells.specs.Leading.{PlansLead};
 use match_facts::facts_are_maps;
 use season_entries::earlier_rows_tell;
 use season_graph::{
-    calendar_changes, managers_change, matches_change, players_change, same_is_alike,
+    calendar_changes, leagues_change, managers_change, matches_change, players_change,
+    same_is_alike,
 };
 
 /// A law: what the plan of a command says is so. Behind the command stands a season, which differs from the one before as
@@ -18,6 +19,7 @@ pub fn plans_lead()
     calendar_changes();
     players_change();
     managers_change();
+    leagues_change();
     same_is_alike();
     earlier_rows_tell();
 }

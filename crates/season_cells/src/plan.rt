@@ -1,13 +1,15 @@
 // What a command changes that cells hang on.
-ghost use Rattle.std.specs.Prelude.{◌≡◌, ◌↔◌, IfOk, IfSome, IsTrue, is_some, true};
+ghost use Rattle.std.specs.Prelude.{◌≡◌, ◌≤◌, ◌↔◌, ◌+◌, length, IfOk, IfSome, IsTrue, is_some, true};
 ghost use Rattle.rule_book.specs.Calendar.{stands_in};
 ghost use Rattle.rule_book.specs.MatchFacts.{is_finished, line_of};
 ghost use Rattle.season_book.specs.Commands.{are_there, has_fixture, part_of};
 ghost use Rattle.season_book.specs.declared.part.Part.TheVariants as part;
-ghost use Rattle.season_cells.specs.Plans.{IsLined, IsMarked, IsPlaced, IsPlanOf};
+ghost use Rattle.season_cells.specs.declared.plan.Plan.TheVariants as planning;
+ghost use Rattle.season_cells.specs.Plans.{IsLeagued, IsLined, IsMarked, IsPlaced, IsPlanOf, lines_named};
 
 use crate::sheets::sheet_plan;
-use fpl_base::{FixtureId, Gw, Memory, PlayerId, Steps};
+use classic_leagues::Leagues;
+use fpl_base::{FixtureId, Gw, LeagueId, Memory, PlayerId, Steps};
 use rule_book::Line;
 use season_book::Command;
 use season_facts::Season;
@@ -40,18 +42,22 @@ pub enum Plan {
         players: Vec<PlayerId>,
         marked: bool,
     },
+    /// A league: it comes, is joined, or is drawn.
+    League(LeagueId),
 }
 
-/// What a command on a season changes. It takes memory for a sheet alone. Each line of the fixture that it looks at is a
-/// counted read.
+/// What a command on a season and its leagues changes. It takes memory for a sheet alone. Each line of the fixture that it
+/// looks at is a counted read.
 pub fn planned<L: Ledger>(
     alloc: Global,
     season: &Season,
+    leagues: &Leagues,
     command: &Command,
     steps: &mut Steps<L>,
 ) -> Result<Plan, Memory>
     requires there { part_of command.now ≡ part.Facts → are_there season.now command.now ≡ true }
-    ensures { IfOk result (λ plan. IsPlanOf season.now command.now plan) }
+    ensures plan { IfOk result (λ plan. IsPlanOf season.now leagues.now command.now plan) }
+    ensures counted { steps.new ≤ steps.old + lines_named season.now command.now }
 {
     match command {
         Command::Player { id, .. } => Ok(Plan::Player(*id)),
@@ -76,6 +82,9 @@ pub fn planned<L: Ledger>(
         } => Ok(lined(season, *fixture, *player, &Some(*line), steps)),
         Command::Drop { fixture, player } => Ok(lined(season, *fixture, *player, &None, steps)),
         Command::Finished { fixture, finished } => Ok(marked(season, *fixture, *finished)),
+        Command::League { .. } => Ok(founded(leagues)),
+        Command::Join { league, .. } => Ok(leagued(leagues, *league)),
+        Command::Draw { league, .. } => Ok(leagued(leagues, *league)),
         Command::Season { .. }
         | Command::Deadline { .. }
         | Command::Price { .. }
@@ -87,9 +96,6 @@ pub fn planned<L: Ledger>(
         | Command::Lineup { .. }
         | Command::Chip { .. }
         | Command::CancelChip
-        | Command::League { .. }
-        | Command::Join { .. }
-        | Command::Draw { .. }
         | Command::Cup { .. } => Ok(Plan::Nothing),
     }
 }
@@ -102,6 +108,33 @@ pub(crate) fn named(season: &Season, number: u32) -> Option<FixtureId>
     match season.fixture(number) {
         Some(fixture) => Some(fixture.id),
         None => None,
+    }
+}
+
+// A league more.
+fn founded(leagues: &Leagues) -> Plan
+    ensures { result ≡ planning.League (length leagues.now + 1) }
+{
+    match LeagueId::new(leagues.count() + 1) {
+        Some(league) => Plan::League(league),
+        None => unreachable!(),
+    }
+}
+
+// The league of a number is another, if it is there.
+fn leagued(leagues: &Leagues, number: u32) -> Plan
+    ensures { IsLeagued leagues.now number result }
+{
+    let Some(league) = LeagueId::new(number) else {
+        return Plan::Nothing;
+    };
+    match leagues.get(league) {
+        Some(there) => {
+            // That its members ascend, for the prover.
+            let _members = there.members();
+            Plan::League(league)
+        }
+        None => Plan::Nothing,
     }
 }
 
@@ -139,7 +172,8 @@ fn lined<L: Ledger>(
     steps: &mut Steps<L>,
 ) -> Plan
     requires { has_fixture season.now number ≡ true }
-    ensures { IsLined number player (line_of season.now.matches number player) line.now result }
+    ensures lined { IsLined number player (line_of season.now.matches number player) line.now result }
+    ensures counted { steps.new ≡ steps.old + 1 }
 {
     match named(season, number) {
         Some(fixture) => {
@@ -161,7 +195,8 @@ pub(crate) fn has_line<L: Ledger>(
     line: &Option<Line>,
     steps: &mut Steps<L>,
 ) -> bool
-    ensures { IsTrue result ↔ (line_of season.now.matches fixture player ≡ line.now) }
+    ensures same { IsTrue result ↔ (line_of season.now.matches fixture player ≡ line.now) }
+    ensures counted { steps.new ≡ steps.old + 1 }
 {
     match (season.line(fixture, player, steps), line) {
         (Some(one), Some(other)) => one == other,

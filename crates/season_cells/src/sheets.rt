@@ -1,5 +1,5 @@
 // What a sheet changes: the lines that are others, and the mark.
-ghost use Rattle.std.specs.Prelude.{◌≡◌, ◌↔◌, IfOk, IsTrue};
+ghost use Rattle.std.specs.Prelude.{◌≡◌, ◌≤◌, ◌↔◌, ◌+◌, IfOk, IsTrue, length};
 ghost use Rattle.rule_book.specs.MatchFacts.{is_finished, line_in, line_of, lines_of};
 ghost use Rattle.season_cells.specs.Plans.{AreOthersIn, IsSheet};
 
@@ -19,8 +19,9 @@ pub(crate) fn sheet_plan<L: Ledger>(
     finished: bool,
     steps: &mut Steps<L>,
 ) -> Result<Plan, Memory>
-    ensures { IfOk result
+    ensures plan { IfOk result
         (λ plan. IsSheet fixture (lines_of season.now.matches fixture) (is_finished season.now.matches fixture) lines.now finished plan) }
+    ensures counted { steps.new ≤ steps.old + length (lines_of season.now.matches fixture) }
 {
     let players = others(alloc, season, fixture, lines, steps)?;
     Ok(Plan::Sheet {
@@ -38,8 +39,9 @@ fn others<L: Ledger>(
     lines: &[(PlayerId, Line)],
     steps: &mut Steps<L>,
 ) -> Result<Vec<PlayerId>, Memory>
-    ensures { IfOk result
+    ensures others { IfOk result
         (λ players. AreOthersIn (lines_of season.now.matches fixture) lines.now players.items) }
+    ensures counted { steps.new ≤ steps.old + length (lines_of season.now.matches fixture) }
 {
     let mut found = Vec::new(alloc);
     for player in season.matches().players_of(fixture) {

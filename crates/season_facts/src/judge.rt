@@ -1,5 +1,5 @@
 // What refuses a command on a season.
-ghost use Rattle.std.specs.Prelude.{◌≡◌, ℕ, List};
+ghost use Rattle.std.specs.Prelude.{◌≡◌, ◌≤◌, ◌+◌, ℕ, List};
 ghost use Rattle.fpl_base.specs.declared.kinds.Position.{Position};
 ghost use Rattle.season_book.specs.Doing.{IsWeighed};
 ghost use Rattle.season_book.specs.declared.command.Command.TheVariants as command;
@@ -14,14 +14,15 @@ use std::sync::ledger::Ledger;
 
 impl Season {
     /// The answer that refuses a command at a moment; `Ok` where nothing does. It takes no memory. The line that a
-    /// command takes away is one counted read.
+    /// command takes away is one counted read; nothing else is.
     pub fn judge<L: Ledger>(
         &self,
         now: Moment,
         command: &Command,
         steps: &mut Steps<L>,
     ) -> Result<(), Answer>
-        ensures { IsWeighed self.now now command.now result }
+        ensures weighed { IsWeighed self.now now command.now result }
+        ensures counted { steps.new ≤ steps.old + 1 }
     {
         match command {
             Command::Season { .. } => Err(Answer::Rule(Rule::SeasonThere)),
@@ -238,7 +239,8 @@ impl Season {
         player: PlayerId,
         steps: &mut Steps<L>,
     ) -> Result<(), Answer>
-        ensures { IsWeighed self.now now (command.Drop number player) result }
+        ensures weighed { IsWeighed self.now now (command.Drop number player) result }
+        ensures counted { steps.new ≤ steps.old + 1 }
     {
         let Some(fixture) = self.fixture_there(number) else {
             return Err(Answer::Unknown);

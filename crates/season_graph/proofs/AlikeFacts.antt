@@ -19,7 +19,8 @@ use Rattle.season_nodes.specs.Reading.{filter_local}
 use Rattle.season_nodes.proofs.RisingFacts.{players_same}
 use Rattle.season_graph.proofs.ChangedFacts.{change_exact, change_sound, some_lines}
 use Rattle.season_graph.proofs.RefreshedFacts.{refreshed_nothing}
-use Rattle.season_graph.proofs.TeamFacts.{team_kept}
+use Rattle.season_graph.proofs.RoundFacts.{average_stays, match_stays, row_stays}
+use Rattle.season_graph.proofs.TeamFacts.{team_kept, total_kept}
 
 abbrev place : Option Player → Option Position
 place o = option_map (λ x. x.position) o
@@ -48,6 +49,10 @@ module _ (b d : SeasonFacts) (c : AreAlike b d) where
       λ l. filter_local (has_line b p) (has_line d p) (standing b.calendar g) (λ f a. ap is_some (c.lines f p)) ∙ ap (filter (has_line d p)) (c.stand g),
     )
     alike_kept (node.TeamGw e g) = inl (team_kept b d c.entries e g (ap (nat_le g) c.locked) (λ i. list_all (λ f. c.marks f i) (c.stand g i)) (λ q a. player_there q))
+    alike_kept (node.Total e s) = inl (total_kept b d c.entries c.locked c.leagues e s)
+    alike_kept (node.Average l g) = inl (average_stays b d c.entries c.locked c.leagues l g)
+    alike_kept (node.Match l g i) = inl (match_stays b d c.entries c.locked c.leagues l g i)
+    alike_kept (node.HeadRow l e) = inl (row_stays b d c.entries c.locked c.leagues l e)
 
     pub alike_follows : (s : State Node Value) → Follows b d s s
     alike_follows s sound = change_sound b d is_b is_d [] alike_kept s s sound (refreshed_nothing (is_live d) s)

@@ -1,5 +1,5 @@
 -- What one change of the facts touches, and that it leaves everything else as it was.
-use Rattle.std.proofs.Common.{◌≡◌, ◌≢◌, ℕ, ◌==◌, Bool, true, false, not, ◌&&◌, cond, if◌then◌else◌, nat_le, ◌⊎◌, inl, inr, ⊎_elim, ◌↔◌, List, [], ◌∷◌, Option, Some, None, is_some, length, map, nat_lt, refl, sym, ◌∙◌, ap, ap₂, subst, arith}
+use Rattle.std.proofs.Common.{◌≡◌, ◌≢◌, ℕ, ◌-◌, ◌==◌, Bool, true, false, not, ◌&&◌, cond, if◌then◌else◌, nat_le, ◌⊎◌, inl, inr, ⊎_elim, ◌↔◌, List, [], ◌∷◌, Option, Some, None, is_some, length, map, nat_lt, refl, sym, ◌∙◌, ap, ap₂, subst, arith}
 use Rattle.std.specs.Bool.{beq}
 use Rattle.std.specs.Cmp.{booleans_Decides}
 use Rattle.std.specs.List.{filter, flat_map, list_any}
@@ -10,6 +10,8 @@ use Rattle.std.proofs.lemmas.Option.{same_Some}
 use Rattle.rule_book.specs.ById.{at_id}
 use Rattle.rule_book.specs.declared.team.Team.{Team}
 use Rattle.rule_book.specs.Calendar.{has_ended, standing, stands_in}
+use Rattle.rule_book.specs.HeadToHead.{head_score, total_of}
+use Rattle.rule_book.specs.LeagueRows.{place_of}
 use Rattle.rule_book.specs.MatchFacts.{line_of, lines_of}
 use Rattle.rule_book.specs.PlayerFigures.{position_in}
 use Rattle.rule_book.specs.Players.{player_of}
@@ -26,13 +28,15 @@ use Rattle.season_nodes.specs.declared.nodes.Value.{Value}
 use Rattle.season_nodes.specs.declared.nodes.Value.TheVariants as value
 use Rattle.season_nodes.specs.Reading.{filter_local, from_filter, map_local, to_filter, to_map}
 use Rattle.season_graph.specs.Refreshed.{Refreshed}
-use Rattle.season_nodes.specs.Season.{SeasonFacts, IsSeason, fielded_in, fifteen_of, figures_held, figures_of_fifteen, has_line, is_there, no_figures, players_of, fixtures_of, is_live, season_graph, worth_of, no_worth, worth_in, bonuses_in, with_bonus, took_part, gathered}
-use Rattle.season_nodes.specs.SeasonLaws.{season_lawful}
+use Rattle.season_nodes.specs.Season.{SeasonFacts, IsSeason, fielded_in, fifteen_of, figures_held, figures_of_fifteen, has_line, is_there, net_held, no_figures, scores_held, seen_from, players_of, fixtures_of, is_live, season_graph, worth_of, no_worth, worth_in, bonuses_in, with_bonus, took_part, gathered}
+use Rattle.season_nodes.specs.Rounds.{lower, met}
+use Rattle.season_nodes.specs.SeasonLaws.{match_alive, season_lawful}
 use Rattle.season_graph.specs.Touched.{is_other, gameweek_beside, line_nodes}
 use Rattle.season_nodes.proofs.DependentFacts.{stands_there, there_stands}
 use Rattle.season_nodes.proofs.Lists.{listed_test}
 use Rattle.season_graph.proofs.RefreshedFacts.{refreshed_listed, refreshed_sound, refreshed_exact}
-use Rattle.season_graph.proofs.TeamFacts.{team_kept}
+use Rattle.season_graph.proofs.RoundFacts.{average_alike, average_reads, average_stays, match_alike, match_reads, match_stays, row_stays}
+use Rattle.season_graph.proofs.TeamFacts.{team_kept, total_kept}
 use Rattle.season_nodes.proofs.RisingFacts.{players_same}
 
 clash : true ≡ false → ⊥
@@ -59,7 +63,7 @@ not_beq true false = beq_other true false (beq true false) refl (λ e. cc)
 not_beq false true = beq_other false true (beq false true) refl (λ e. cc)
 not_beq false false = beq_same false
 
-chosen_case : (b had has was here : Bool) → had ≡ was → has ≡ here → not (beq had has) ≡ b → b ≡ is_other was here
+pub chosen_case : (b had has was here : Bool) → had ≡ was → has ≡ here → not (beq had has) ≡ b → b ≡ is_other was here
 chosen_case b had has was here e d k = sym k ∙ not_beq had has ∙ ap₂ is_other e d
 
 -- the nodes of a line, by whether it was there
@@ -149,6 +153,44 @@ module _ (b d : SeasonFacts) where
         cell = refl;
         inputs = λ m a. subst (λ ps. Among (map (λ p. node.PlayerGw p g) ps) m) (sym same.3) a;
         own = λ v. sym (λ i. value.TeamGw (score_of (same.0 i) (figures_alike v e g same.0 same.3 i) (same.2 i) (same.1 i)));
+        values = λ m a. refl;
+      }
+  kept_untouched s (node.Total e from) k l = record {
+    live = k.0 ∙ l;
+    cell = refl;
+    inputs = λ m a. subst (λ gs. Among (map (node.TeamGw e) gs) m) (sym (k.1 l)) a;
+    own = λ v. ap (λ gs. value.Total (total_of (map (λ g. net_held (v (node.TeamGw e g))) gs))) (sym (k.1 l));
+    values = λ m a. refl;
+  }
+  kept_untouched s (node.Average l g) k alive =
+      let same = k.1 alive in record {
+        live = k.0 ∙ alive;
+        cell = refl;
+        inputs = average_reads b d l same.0 g same.1;
+        own = λ v. ap value.Average (sym (average_alike b d l same.0 g same.1 v));
+        values = λ m a. refl;
+      }
+  kept_untouched s (node.Match l g i) k alive =
+      let same = k.1 alive in
+      let within = (match_alive d l g i alive).1 in record {
+        live = k.0 ∙ alive;
+        cell = refl;
+        inputs = λ m a. subst (λ ns. Among ns m) (sym (match_reads b d l same.0 g same.2 same.1 i within)) a;
+        own = λ v. ap value.Match (sym (match_alike b d l same.0 g same.2 same.1 i within v));
+        values = λ m a. refl;
+      }
+  kept_untouched s (node.HeadRow l e) k alive =
+      let same = k.1 alive in
+      let order = sym same.0 in
+      let start = sym same.1 in
+      let weeks = sym same.2 in record {
+        live = k.0 ∙ alive;
+        cell = refl;
+        inputs = λ m a. subst (λ ns. Among ns m)
+            (λ x. option_map_or (λ i. map (λ g. node.Match l g (lower (length (order x)) (g - start x) i)) (weeks x)) (place_of (order x) e) []) a;
+        own = λ v. λ x. value.HeadRow (head_score (option_map_or
+            (λ i. map (λ g. seen_from (nat_lt i (met (length (order x)) (g - start x) i)) (scores_held (v (node.Match l g (lower (length (order x)) (g - start x) i))))) (weeks x))
+            (place_of (order x) e) []));
         values = λ m a. refl;
       }
 
@@ -248,6 +290,10 @@ module _ (b d : SeasonFacts) (is : IsSeason b) (is_d : IsSeason d) (f p : ℕ) (
       (same_or_not q p))
       (bool_case (has_line b p f) (has_line d p f))
   line_listed (node.TeamGw e g) = inl (team_kept b d c.entries e g (λ i. nat_le g (c.calendar i).locked) (λ i. has_ended (c.calendar i) (λ k. c.marks k i) g) (λ q a i. is_some (player_of (c.players i) q)))
+  line_listed (node.Total e from) = inl (total_kept b d c.entries (ap (λ x. x.locked) c.calendar) c.leagues e from)
+  line_listed (node.Average l g) = inl (average_stays b d c.entries (ap (λ x. x.locked) c.calendar) c.leagues l g)
+  line_listed (node.Match l g i) = inl (match_stays b d c.entries (ap (λ x. x.locked) c.calendar) c.leagues l g i)
+  line_listed (node.HeadRow l e) = inl (row_stays b d c.entries (ap (λ x. x.locked) c.calendar) c.leagues l e)
 
   listed_same : players_of b f ≡ players_of d f → has_line b p f ≡ has_line d p f
   listed_same e = sym (listed_test (lines_of b.matches f) p) ∙ ap (list_any (λ q. q == p)) e ∙ listed_test (lines_of d.matches f) p

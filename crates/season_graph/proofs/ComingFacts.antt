@@ -23,7 +23,8 @@ use Rattle.season_nodes.specs.SeasonLaws.{first_true, second_true}
 use Rattle.season_graph.specs.Touched.{coming_nodes, holding_nodes, player_nodes}
 use Rattle.season_graph.proofs.ChangedFacts.{among_or_not, at_node, change_exact, change_sound, same_or_not}
 use Rattle.season_graph.proofs.GameweekFacts.{from_gameweeks, from_numbered, gameweek_among, numbered_among}
-use Rattle.season_graph.proofs.TeamFacts.{team_alive, team_dead, team_kept}
+use Rattle.season_graph.proofs.RoundFacts.{average_stays, match_stays, row_stays}
+use Rattle.season_graph.proofs.TeamFacts.{team_alive, team_dead, team_kept, total_kept}
 
 clash : true ≡ false → ⊥
 clash e = cc
@@ -96,6 +97,10 @@ module _ (b d : SeasonFacts) (is_b : IsSeason b) (p : ℕ) (c : DifferInPlayer b
       (λ q a. ap is_some (c.others q (λ i. n (subst (λ x. Among (fifteen_of d e g) x) i a))))))
       (among_or_not (fifteen_of d e g) p))
       (false_or_true (is_live d (node.TeamGw e g)))
+  coming_listed (node.Total e s) = inl (total_kept b d c.entries (ap (λ x. x.locked) c.calendar) c.leagues e s)
+  coming_listed (node.Average l g) = inl (average_stays b d c.entries (ap (λ x. x.locked) c.calendar) c.leagues l g)
+  coming_listed (node.Match l g i) = inl (match_stays b d c.entries (ap (λ x. x.locked) c.calendar) c.leagues l g i)
+  coming_listed (node.HeadRow l e) = inl (row_stays b d c.entries (ap (λ x. x.locked) c.calendar) c.leagues l e)
 
   -- a team that holds him has him now, and did not
   team_touched : (n : Node) → Among theirs n → is_live d n ≡ true → IsTouched b d n

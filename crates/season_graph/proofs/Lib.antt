@@ -4,12 +4,16 @@ pub mod ComingFacts
 pub mod EndingFacts
 pub mod GameweekFacts
 pub mod IndexingFacts
+pub mod LeagueChanges
+pub mod LeagueFacts
 pub mod LockFacts
 pub mod MarkFacts
 pub mod MatchChanges
+pub mod OtherFacts
 pub mod PlaceChanges
 pub mod PlaceFacts
 pub mod RefreshedFacts
+pub mod RoundFacts
 pub mod SameFacts
 pub mod SheetFacts
 pub mod TeamFacts

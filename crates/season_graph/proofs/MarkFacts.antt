@@ -17,6 +17,8 @@ use Rattle.season_nodes.specs.Season.{SeasonFacts, IsSeason, has_line, is_live}
 use Rattle.season_graph.specs.Touched.{mark_nodes}
 use Rattle.season_graph.proofs.ChangedFacts.{change_exact, change_sound, same_or_not, some_lines}
 use Rattle.season_graph.proofs.EndingFacts.{ending_listed, ending_touched}
+use Rattle.season_graph.proofs.RoundFacts.{average_stays, match_stays, row_stays}
+use Rattle.season_graph.proofs.TeamFacts.{total_kept}
 use Rattle.season_nodes.proofs.RisingFacts.{players_same}
 
 module _ (b d : SeasonFacts) (is_b : IsSeason b) (is_d : IsSeason d) (f : ℕ) (c : DifferInMark b d f) where
@@ -31,6 +33,10 @@ module _ (b d : SeasonFacts) (is_b : IsSeason b) (is_d : IsSeason d) (f : ℕ) (
   mark_listed (node.Bonus k) = ⊎_elim (λ i. inr (inl (ap node.Bonus (sym i)))) (λ n. let same = players_same b d is_b is_d k (λ q. ap is_some (c.lines k q)) in inl (some_lines b d k same, λ l. (same, c.marks k n))) (same_or_not k f)
   mark_listed (node.PlayerGw q g) = inl (mark_gameweek q g)
   mark_listed (node.TeamGw e g) = ⊎_elim inl (λ a. inr (inr a)) (ending_listed b d is_d f c.calendar c.players c.marks c.entries e g)
+  mark_listed (node.Total e s) = inl (total_kept b d c.entries (ap (λ x. x.locked) c.calendar) c.leagues e s)
+  mark_listed (node.Average l g) = inl (average_stays b d c.entries (ap (λ x. x.locked) c.calendar) c.leagues l g)
+  mark_listed (node.Match l g i) = inl (match_stays b d c.entries (ap (λ x. x.locked) c.calendar) c.leagues l g i)
+  mark_listed (node.HeadRow l e) = inl (row_stays b d c.entries (ap (λ x. x.locked) c.calendar) c.leagues l e)
 
   pub mark_touched : is_finished b.matches f ≢ is_finished d.matches f → (n : Node) → Among (mark_nodes d f) n → is_live d n ≡ true → IsTouched b d n
   mark_touched differs n (inl e) l = (l, subst (λ x. ¬ IsKept b d x) e (λ k. differs (k.1 (subst (λ x. is_live d x ≡ true) (sym e) l)).1))

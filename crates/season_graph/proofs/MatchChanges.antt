@@ -108,6 +108,7 @@ module _ (maps : SheetsAreAMap) (b : SeasonFacts) (f : ℕ) (sheet : Sheet) wher
         (λ i. there p (ap is_some (sym (lines_here p)) ∙ subst (λ x. has_line after p x ≡ true) i h))
         (λ n. is.there k p (ap is_some (lines_away k p n) ∙ h))
         (same_or_not k f);
+    orders = is.orders;
   }
 
 -- the lines of a fixture but one player's stay
@@ -129,6 +130,7 @@ module _ (maps : SheetsAreAMap) (b : SeasonFacts) (is : IsSeason b) (f p : ℕ) 
         (sym (lines_here maps b f one_sheet q ∙ others q (⊎_elim (λ n. absurd (n e)) (λ n. n) o))))
         (λ n. lines_away maps b f one_sheet k q n)
         (same_or_not k f);
+    leagues = refl;
     entries = record { begun = λ e g w. refl; team = λ e g l. refl; cost = λ e g l. refl };
   }
 
@@ -175,6 +177,7 @@ mark_is_set sheets b f finished is =
             (λ e. subst (λ x. line_of b.matches x q ≡ line_of (after sheets b f sheet).matches x q) (sym e) (sym (lines_here sheets b f sheet q)))
             (lines_away sheets b f sheet k q)
             (same_or_not k f);
+        leagues = refl;
         entries = record { begun = λ e g w. refl; team = λ e g l. refl; cost = λ e g l. refl };
       },
     )
@@ -197,6 +200,7 @@ sheet_is_put sheets own b f lines finished ps marked is are others =
             (others.lines_stay q (⊎_elim (λ n. absurd (n e)) (λ n. n) o) ∙ sym (at q) ∙ sym (lines_here sheets b f sheet q)))
             (λ n. lines_away sheets b f sheet k q n)
             (same_or_not k f);
+        leagues = refl;
         entries = record { begun = λ e g w. refl; team = λ e g l. refl; cost = λ e g l. refl };
       },
     )

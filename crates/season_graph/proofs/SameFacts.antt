@@ -22,6 +22,7 @@ line_alike b d f p c same = record {
       (both_or_other k q f p);
   marks = c.marks;
   positions = λ q. ap (λ ps. option_map (λ x. x.position) (player_of ps q)) c.players;
+  leagues = c.leagues;
   entries = c.entries;
 }
 
@@ -33,6 +34,7 @@ mark_alike b d f c same = record {
   lines = c.lines;
   marks = λ k. ⊎_elim (λ e. subst (λ x. is_finished b.matches x ≡ is_finished d.matches x) (sym e) same) (λ n. c.marks k n) (same_or_not k f);
   positions = λ q. ap (λ ps. option_map (λ x. x.position) (player_of ps q)) c.players;
+  leagues = c.leagues;
   entries = c.entries;
 }
 
@@ -51,6 +53,7 @@ place_alike b d f is_b is_d c same =
       lines = λ k q. ap (λ m. line_of m k q) c.matches;
       marks = λ k. ap (λ m. is_finished m k) c.matches;
       positions = λ q. ap (λ ps. option_map (λ x. x.position) (player_of ps q)) c.players;
+      leagues = c.leagues;
       entries = c.entries;
     }
 

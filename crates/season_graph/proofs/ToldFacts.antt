@@ -1,8 +1,8 @@
 -- Each node's own function of the values that the rule book tells gives the value that the rule book tells.
-use Rattle.std.proofs.Common.{◌≡◌, ℕ, ◌+◌, ◌<◌, ◌==◌, ℤ, pos, ◌+ℤ◌, Bool, true, false, ◌||◌, cond, if◌then◌else◌, nat_le, inl, inr, List, [], ◌∷◌, ◌++◌, Option, Some, None, is_some, map, refl, sym, ◌∙◌, ap, ap₂, subst, arith, add_assoc, zero-add}
-use Rattle.std.specs.List.{filter, flat_map, fold, list_any, sum_by}
+use Rattle.std.proofs.Common.{◌≡◌, ℕ, zero, suc, ◌+◌, ◌-◌, ◌<◌, ◌≤◌, ◌==◌, max, ℤ, pos, ◌+ℤ◌, Bool, true, false, ◌&&◌, ◌||◌, cond, if◌then◌else◌, nat_le, inl, inr, ⊎_elim, List, [], ◌∷◌, ◌++◌, Option, Some, None, is_some, map, refl, sym, ◌∙◌, ap, ap₂, subst, arith, add_assoc, zero-add}
+use Rattle.std.specs.List.{filter, flat_map, fold, list_any, range_with_len, slice_index, sum_by}
 use Rattle.std.specs.Option.{option_map_or, unwrap_or}
-use Rattle.std.proofs.lemmas.Bool.Decides.{nat_tests}
+use Rattle.std.proofs.lemmas.Bool.Decides.{leb_tells, nat_tests}
 use Rattle.std.proofs.lemmas.List.Sums.{sum_by-cons}
 use Rattle.std.proofs.lemmas.Option.{same_Some}
 use Rattle.rule_book.specs.declared.line.Appearance.{Appearance}
@@ -15,15 +15,68 @@ use Rattle.rule_book.specs.Calendar.{standing as standing_in}
 use Rattle.rule_book.specs.Figures.{figure}
 use Rattle.rule_book.specs.MatchFacts.{Lines, is_finished, line_in, line_of, lines_of, players_in}
 use Rattle.rule_book.specs.PlayerFigures.{appearance, bonus_at, line_beside, played_with, points_at, position_in}
+use Rattle.rule_book.specs.Entries.{entry_in}
+use Rattle.rule_book.specs.HeadToHead.{head_score, total_of}
+use Rattle.rule_book.specs.LeagueRows.{matches_of, place_of, points_against}
+use Rattle.rule_book.specs.Leagues.{LeagueFacts}
 use Rattle.rule_book.specs.ScoreOfTeam.{score_of}
+use Rattle.rule_book.specs.Totals.{gameweeks, total_from}
+use Rattle.rule_book.specs.declared.pairing.Opponent.{Opponent}
+use Rattle.rule_book.specs.declared.pairing.Opponent.TheVariants.{Place, Average}
 use Rattle.rescore_graph.specs.Graph.{Among}
 use Rattle.season_nodes.specs.declared.nodes.LineWorth.{LineWorth}
 use Rattle.season_nodes.specs.declared.nodes.Node.{Node}
 use Rattle.season_nodes.specs.declared.nodes.Node.TheVariants as node
+use Rattle.season_nodes.specs.declared.nodes.Value.{Value}
 use Rattle.season_nodes.specs.declared.nodes.Value.TheVariants as value
-use Rattle.season_nodes.specs.Season.{SeasonFacts, Rising, bonuses_in, ended, fixtures_of, gathered, has_line, is_there, no_figures, no_worth, own_value, took_part, with_bonus, with_worth, worth_in, worth_of}
-use Rattle.season_graph.specs.Told.{told, gameweek_figures}
+use Rattle.season_nodes.specs.Rounds.{order_in}
+use Rattle.season_nodes.specs.RowsTold.{HoldTheirOwn}
+use Rattle.season_graph.specs.Lines.{IsLineTold}
+use Rattle.season_nodes.specs.Season.{IsSeason, SeasonFacts, Rising, bonuses_in, ended, fixtures_of, gathered, has_line, head_by, is_there, is_live, matches_by, no_figures, no_worth, opponent_in, own_value, points_by, took_part, with_bonus, with_worth, worth_in, worth_of}
+use Rattle.season_nodes.specs.SeasonLaws.{first_true, total_alive}
+use Rattle.season_graph.specs.Told.{told, gameweek_figures, gameweek_score, head_told, net_told}
 use Rattle.season_nodes.proofs.DependentFacts.{below_or_above, same_test}
+use Rattle.season_nodes.proofs.RowFacts.{rows_are_told}
+
+within : (h n : ℕ) → h ≤ n → nat_le h n ≡ true
+within h n e = ⊎_elim (λ a. a.0) (λ a. let x : n < h = a.1 in absurd (omega arith)) (leb_tells h n)
+
+beyond : (h n : ℕ) → n < h → nat_le h n ≡ false
+beyond h n e = ⊎_elim (λ a. let x : h ≤ n = a.1 in absurd (omega arith)) (λ a. a.0) (leb_tells h n)
+
+-- the numbers of a range from one on
+from_first : (f a n : ℕ) → filter (nat_le f) (range_with_len a n) ≡ range_with_len (max a f) ((a + n) - max a f)
+from_first f a zero = let none : (a + 0) - max a f ≡ 0 = omega arith in ap (range_with_len (max a f)) (sym none)
+from_first f a (suc n) = ⊎_elim
+    (λ x.
+    let low : f ≤ a = x.1 in
+    let here : max a f ≡ a = omega arith in
+    let next : max (a + 1) f ≡ a + 1 = omega arith in
+    let whole : (a + suc n) - a ≡ suc n = omega arith in
+    let rest : (a + 1 + n) - (a + 1) ≡ n = omega arith in
+    ap (λ t. cond t (a ∷ filter (nat_le f) (range_with_len (a + 1) n)) (filter (nat_le f) (range_with_len (a + 1) n))) (within f a low)
+    ∙ ap (λ ks. a ∷ ks) (from_first f (a + 1) n ∙ ap (λ m. range_with_len m ((a + 1 + n) - m)) next ∙ ap (range_with_len (a + 1)) rest)
+    ∙ sym (ap (λ m. range_with_len m ((a + suc n) - m)) here ∙ ap (range_with_len a) whole))
+    (λ x.
+    let high : a < f = x.1 in
+    let here : max (a + 1) f ≡ max a f = omega arith in
+    let same : a + 1 + n ≡ a + suc n = omega arith in
+    ap (λ t. cond t (a ∷ filter (nat_le f) (range_with_len (a + 1) n)) (filter (nat_le f) (range_with_len (a + 1) n))) (beyond f a high)
+    ∙ from_first f (a + 1) n ∙ ap (λ m. range_with_len m ((a + 1 + n) - m)) here ∙ ap (λ k. range_with_len (max a f) (k - max a f)) same)
+    (leb_tells f a)
+
+nobody : (xs : List ℕ) → filter (λ g. false) xs ≡ []
+nobody [] = refl
+nobody (x ∷ xs) = nobody xs
+
+-- the total of an entry that was issued is the sum over the locked gameweeks in which it has begun
+counted_total : (net : ℕ → ℤ) (s locked : ℕ) (issued : Bool) (first : Option ℕ) → issued ≡ true
+    → total_from net s first locked ≡ total_of (map net (filter (λ g. issued && option_map_or (λ f. nat_le f g) first false) (gameweeks s locked)))
+counted_total net s locked false first e = absurd (cc)
+counted_total net s locked true None e = ap (λ gs. total_of (map net gs)) (sym (nobody (gameweeks s locked)))
+counted_total net s locked true (Some f) e =
+    let same : (s + ((locked + 1) - s)) - max s f ≡ (locked + 1) - max s f = omega arith in
+    ap (λ gs. total_of (map net gs)) (sym (from_first f s ((locked + 1) - s) ∙ ap (range_with_len (max s f)) same))
 
 -- no player has two lines
 abbrev Distinct : Lines → Type 0
@@ -258,12 +311,66 @@ module _ (b : SeasonFacts) where
       (sym (in_none p (λ f. lineless (has_line b p f) (λ y. false_true (sym absent ∙ there f p y))) (standing_in b.calendar g)))
       ∙ gameweek_told p distinct g)
 
+  -- what is told of the points of an opponent is what the Average and the members are told
+  abbrev told_by : Node → Option Value
+  told_by m = Some (told b m)
+
+  against : (l g : ℕ) (o : Opponent) → points_against (net_told b) (order_in b.leagues l) g o ≡ points_by b told_by l g o
+  against l g (Place j) = refl
+  against l g Average = refl
+
+  -- each Average and each match is told its own value
+  own_rounds : HoldTheirOwn b told_by
+  own_rounds = record {
+    averages = λ l g live. refl;
+    matches = λ l g i live. ap (λ points. Some (value.Match (net_told b (slice_index (order_in b.leagues l) i) g, points))) (against l g (opponent_in b l g i));
+  }
+
+  league_case : (l e : ℕ) (o : Option LeagueFacts) → entry_in b.leagues l ≡ o
+      → option_map_or (λ league. head_score (matches_of (net_told b) b.calendar.locked league e)) o (head_score []) ≡ head_by b told_by l e
+  league_case l e None at =
+      ap (λ o. head_score (option_map_or (matches_by b told_by l) (place_of (option_map_or (λ (league : LeagueFacts). league.order) o []) e) [])) (sym at)
+  league_case l e (Some league) at = sym (ap (λ row. row.1) (rows_are_told b told_by own_rounds l e league at))
+
+  head_is_told : (l e : ℕ) → head_told b l e ≡ head_by b told_by l e
+  head_is_told l e = league_case l e (entry_in b.leagues l) refl
+
+  no_place : (o : Option ℕ) (make : ℕ → List (ℤ × ℤ)) → is_some o ≡ false → option_map_or make o [] ≡ []
+  no_place None make e = refl
+  no_place (Some i) make e = absurd (false_true (sym e))
+
+  rowless : (t : Bool) (l e : ℕ) → is_some (place_of (order_in b.leagues l) e) ≡ t → (if t then head_told b l e else head_score []) ≡ head_told b l e
+  rowless true l e is = refl
+  rowless false l e is = sym (head_is_told l e ∙ ap head_score (no_place (place_of (order_in b.leagues l) e) (matches_by b told_by l) is))
+
+  -- who has no row has nothing of his matches
+  pub head_always : (l e : ℕ) → (if is_live b (node.HeadRow l e) then head_told b l e else head_score []) ≡ head_told b l e
+  head_always l e = rowless (is_some (place_of (order_in b.leagues l) e)) l e refl
+
   -- the value that the rule book tells of a node is its own function of those that it tells of its inputs
-  pub own_told : ((f : ℕ) → Distinct (lines_of b.matches f)) → ((f p : ℕ) → has_line b p f ≡ true → is_there b p ≡ true) → (n : Node) → Some (told b n) ≡ Some (own_value b n (λ m. Some (told b m)))
-  own_told distinct there (node.Line f p) = refl
-  own_told distinct there (node.Bonus f) = ap (λ table. Some (value.Bonus (if is_finished b.matches f then with_bonus table else [])))
+  pub own_told : ((f : ℕ) → Distinct (lines_of b.matches f)) → ((f p : ℕ) → has_line b p f ≡ true → is_there b p ≡ true) → (n : Node) → is_live b n ≡ true → Some (told b n) ≡ Some (own_value b n (λ m. Some (told b m)))
+  own_told distinct there (node.Line f p) l = refl
+  own_told distinct there (node.Bonus f) l = ap (λ table. Some (value.Bonus (if is_finished b.matches f then with_bonus table else [])))
       (sym (took_part_is (λ p. worth_in (Some (told b (node.Line f p)))) (lines_of b.matches f)
       (λ row a. ap (λ o. option_map_or (worth_of b.profile (position_in b.players row.0)) o no_worth) (row_found (lines_of b.matches f) row (distinct f) a))))
-  own_told distinct there (node.PlayerGw p g) = ap (λ figures. Some (value.PlayerGw figures)) (sym (gameweek_told p distinct g))
-  own_told distinct there (node.TeamGw e g) = ap (λ figures. Some (value.TeamGw (score_of (b.team e g) figures (ended b g) (b.cost e g))))
+  own_told distinct there (node.PlayerGw p g) l = ap (λ figures. Some (value.PlayerGw figures)) (sym (gameweek_told p distinct g))
+  own_told distinct there (node.TeamGw e g) l = ap (λ figures. Some (value.TeamGw (score_of (b.team e g) figures (ended b g) (b.cost e g))))
       (sym (λ i. map (λ pick. figures_told distinct there pick.player g i) (b.team e g).picks))
+  own_told distinct there (node.Total e s) l = ap (λ points. Some (value.Total points))
+      (counted_total (λ g. (gameweek_score b e g).net) s b.calendar.locked (nat_le 1 e && nat_le e b.entries) (b.first e)
+      (first_true (nat_le 1 e && nat_le e b.entries) (option_map_or (λ first. nat_le first b.calendar.locked) (b.first e) false) (total_alive b e s l).0))
+  own_told distinct there (node.Average k g) l = refl
+  own_told distinct there (node.Match k g i) l =
+      ap (λ points. Some (value.Match (net_told b (slice_index (order_in b.leagues k) i) g, points))) (against k g (opponent_in b k g i))
+  own_told distinct there (node.HeadRow k e) l = ap (λ score. Some (value.HeadRow score)) (head_is_told k e)
+
+  -- a line of a season
+  pub line_told : IsSeason b → (f : ℕ) (row : ℕ × Line) → Among (lines_of b.matches f) row → IsLineTold b f row
+  line_told season f row a =
+      let distinct = ascending_distinct (lines_of b.matches f) (season.ascending f) in
+      let found = row_found (lines_of b.matches f) row distinct a in
+      record {
+        found = found;
+        worth = ap (λ o. option_map_or (worth_of b.profile (position_in b.players row.0)) o no_worth) found;
+        bonus = bonus_told f row.0 row.1 distinct found;
+      }

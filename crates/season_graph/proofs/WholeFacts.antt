@@ -1,5 +1,5 @@
 -- Cells in which each live node was planted and nothing else are sound.
-use Rattle.std.proofs.Common.{◌≡◌, ℕ, ◌<◌, ◌≤◌, Bool, true, false, ◌&&◌, ◌==◌, cond, nat_le, nat_lt, ◌⊎◌, inl, inr, ⊎_elim, List, [], ◌∷◌, Option, Some, None, is_some, length, refl, sym, ◌∙◌, ap, arith}
+use Rattle.std.proofs.Common.{◌≡◌, ℕ, ◌<◌, ◌≤◌, Bool, true, false, ◌&&◌, ◌==◌, cond, nat_le, nat_lt, ◌⊎◌, inl, inr, ⊎_elim, List, [], ◌∷◌, ◌++◌, Option, Some, None, is_some, length, refl, sym, ◌∙◌, ap, arith}
 use Rattle.std.specs.Map.{keys_of}
 use Rattle.std.specs.Option.{unwrap_or}
 use Rattle.std.proofs.lemmas.Bool.Decides.{nat_tests}
@@ -15,10 +15,13 @@ use Rattle.season_nodes.specs.declared.nodes.Node.TheVariants as node
 use Rattle.season_nodes.specs.declared.nodes.Value.{Value}
 use Rattle.season_nodes.specs.Reading.{among_left, among_right, to_flat, to_map}
 use Rattle.season_graph.specs.Refreshed.{refreshed, Refreshed}
+use Rattle.season_nodes.specs.Rounds.{order_in}
 use Rattle.season_nodes.specs.Season.{SeasonFacts, is_live, players_of, season_graph}
-use Rattle.season_nodes.specs.SeasonLaws.{first_true, has_listed, has_some, second_true}
-use Rattle.season_graph.specs.Touched.{all_nodes, fixture_nodes, fixtures_nodes, locked_nodes}
-use Rattle.season_graph.proofs.LockFacts.{locked_among, locked_team}
+use Rattle.season_nodes.specs.SeasonLaws.{first_true, has_listed, has_some, second_true, total_alive}
+use Rattle.season_graph.specs.Touched.{all_nodes, fixture_nodes, fixtures_nodes, head_nodes, heads_nodes, locked_scores}
+use Rattle.season_graph.proofs.GameweekFacts.{numbered_among}
+use Rattle.season_graph.proofs.LockFacts.{locked_among, locked_team, locked_total}
+use Rattle.season_graph.proofs.RoundFacts.{average_drawn, average_head, match_drawn, match_head, numbered_league, row_drawn, row_head}
 use Rattle.season_graph.proofs.TeamFacts.{team_alive}
 
 clash : true ≡ false → ⊥
@@ -43,21 +46,38 @@ with_lines (row ∷ rows) f e = ⊎_elim
 from_1 : (g : ℕ) → nat_le 1 g ≡ true → 0 < g
 from_1 g e = grind (arith, nat_tests)
 
+above_0 : (s n : ℕ) → 1 ≤ s → s ≤ n → 0 < n
+above_0 s n low high = omega arith
+
 from_0 : (n : ℕ) → 0 ≤ n
 from_0 n = omega arith
 
 module _ (b : SeasonFacts) where
   in_fixture : (f : ℕ) (n : Node) → nat_lt 0 (length (lines_of b.matches f)) ≡ true → Among (fixture_nodes b f) n → Among (all_nodes b) n
-  in_fixture f n e a = among_left (fixtures_nodes b) (locked_nodes b 0) n (to_flat (fixture_nodes b) (keys_of b.matches) f n (with_lines b.matches f e) a)
+  in_fixture f n e a =
+      among_left (fixtures_nodes b ++ locked_scores b 0) (heads_nodes b) n
+      (among_left (fixtures_nodes b) (locked_scores b 0) n (to_flat (fixture_nodes b) (keys_of b.matches) f n (with_lines b.matches f e) a))
+
+  in_scores : (n : Node) → Among (locked_scores b 0) n → Among (all_nodes b) n
+  in_scores n a = among_left (fixtures_nodes b ++ locked_scores b 0) (heads_nodes b) n (among_right (fixtures_nodes b) (locked_scores b 0) n a)
+
+  in_league : (l : ℕ) (n : Node) → 0 < length (order_in b.leagues l) → Among (head_nodes b l) n → Among (all_nodes b) n
+  in_league l n some a =
+      let number = numbered_league b l some in
+      among_right (fixtures_nodes b ++ locked_scores b 0) (heads_nodes b) n (numbered_among (head_nodes b) (length b.leagues) l n number.0 number.1 a)
 
   -- each live node is one of the season
   pub live_among : (n : Node) → is_live b n ≡ true → Among (all_nodes b) n
   live_among (node.Line f p) l = in_fixture f (node.Line f p) (has_some (lines_of b.matches f) p l) (inr (to_map (node.Line f) (players_of b f) p (has_listed (lines_of b.matches f) p l)))
   live_among (node.Bonus f) l = in_fixture f (node.Bonus f) l (inl refl)
-  live_among (node.PlayerGw p g) l = among_right (fixtures_nodes b) (locked_nodes b 0) (node.PlayerGw p g)
+  live_among (node.PlayerGw p g) l = in_scores (node.PlayerGw p g)
       (locked_among b 0 p g (from_0 b.calendar.locked)
       (from_1 g (first_true (nat_le 1 g) (nat_le g b.calendar.locked) (second_true (is_some (player_of b.players p)) (nat_le 1 g && nat_le g b.calendar.locked) l))) l)
-  live_among (node.TeamGw e g) l = among_right (fixtures_nodes b) (locked_nodes b 0) (node.TeamGw e g) (locked_team b 0 e g (from_0 b.calendar.locked) (from_1 g (team_alive b e g l).2) l)
+  live_among (node.TeamGw e g) l = in_scores (node.TeamGw e g) (locked_team b 0 e g (from_0 b.calendar.locked) (from_1 g (team_alive b e g l).2) l)
+  live_among (node.Total e s) l = let alive = total_alive b e s l in in_scores (node.Total e s) (locked_total b 0 e s (above_0 s b.calendar.locked alive.2 alive.3) l)
+  live_among (node.Average l g) live = in_league l (node.Average l g) (average_drawn b l g live) (average_head b l g live)
+  live_among (node.Match l g i) live = in_league l (node.Match l g i) (match_drawn b l g i live) (match_head b l g i live)
+  live_among (node.HeadRow l e) live = in_league l (node.HeadRow l e) (row_drawn b l e live) (row_head b l e live)
 
 -- a cell that was planted where its node is live
 planted_some : (l : Bool) (o : Option (Slot Value)) → o ≡ refreshed l None → is_some o ≡ l

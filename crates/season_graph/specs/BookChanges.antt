@@ -1,23 +1,27 @@
 -- What the calls that change the books do to the facts: each leaves a season, which differs from the one before as the
 -- cells can follow it. And when an index stays right.
-use Rattle.std.specs.Prelude.{◌≡◌, ℕ, Bool, true, false, List, [], Option, Some, None, is_some}
+use Rattle.std.specs.Prelude.{◌≡◌, ℕ, ◌+◌, Bool, true, false, List, [], ◌∷◌, ◌++◌, length, Option, Some, None, is_some}
 use Rattle.rule_book.specs.declared.line.Line.{Line}
 use Rattle.rule_book.specs.declared.player.Player.{Player}
 use Rattle.rule_book.specs.declared.season.Fixture.{Fixture}
 use Rattle.rule_book.specs.Calendar.{CalendarFacts, IsCalendar, after_pass, with_deadline, with_fixture, with_move}
+use Rattle.rule_book.specs.Entries.{changed_in, entry_in}
 use Rattle.rule_book.specs.Figures.{IsLine}
+use Rattle.rule_book.specs.LeagueCalls.{with_member, with_order}
+use Rattle.rule_book.specs.Leagues.{LeagueFacts}
 use Rattle.rule_book.specs.MatchCalls.{drop_line, put_line, put_sheet, set_finished}
 use Rattle.rule_book.specs.MatchFacts.{Lines, MatchFacts, is_finished, line_in, line_of, players_in}
 use Rattle.rule_book.specs.Players.{player_of, with_club, with_gone, with_player, with_price}
 use Rattle.rule_book.specs.Repeats.{first_repeat}
 use Rattle.manager_book.specs.Managers.{Managers}
 use Rattle.rescore_graph.specs.Graph.{Among}
-use Rattle.season_graph.specs.Changes.{AreAlike, DifferInLine, DifferInLocks, DifferInMark, DifferInPlace, DifferInPlayer, DifferInSheet, EntriesStay}
+use Rattle.season_graph.specs.Changes.{AreAlike, DifferInLeague, DifferInLine, DifferInLocks, DifferInMark, DifferInPlace, DifferInPlayer, DifferInSheet, EntriesStay}
 use Rattle.season_nodes.specs.BookFacts.{facts_with}
 use Rattle.season_nodes.specs.IndexFacts.{IsIndex}
-use Rattle.season_nodes.specs.Season.{SeasonFacts, IsSeason}
+use Rattle.season_nodes.specs.Season.{SeasonFacts, AreOrders, IsOrder, IsSeason}
 
--- the facts with other lines and marks, with another calendar, with other players, with another book of managers
+-- the facts with other lines and marks, with another calendar, with other players, with another book of managers, with
+-- other leagues
 abbrev pub with_matches : SeasonFacts → MatchFacts → SeasonFacts
 with_matches b matches = record b { matches = matches }
 
@@ -28,11 +32,14 @@ abbrev pub with_players : SeasonFacts → List Player → SeasonFacts
 with_players b players = record b { players = players }
 
 abbrev pub with_managers : SeasonFacts → Managers → SeasonFacts
-with_managers b managers = facts_with b.profile b.calendar b.players b.matches managers
+with_managers b managers = facts_with b.profile b.calendar b.players b.matches managers b.leagues
+
+abbrev pub with_leagues : SeasonFacts → List LeagueFacts → SeasonFacts
+with_leagues b leagues = record b { leagues = leagues }
 
 -- a season begins with no facts of its matches
 abbrev pub SeasonBegins : Type 0
-SeasonBegins = (b : SeasonFacts) → IsCalendar b.calendar → b.matches ≡ [] → IsSeason b
+SeasonBegins = (b : SeasonFacts) → IsCalendar b.calendar → b.matches ≡ [] → AreOrders b.leagues → IsSeason b
 
 -- a line is put in: it is in its ranges, and the player is there
 abbrev pub LineIsPut : Type 0
@@ -103,6 +110,25 @@ GoneChanges = (b : SeasonFacts) (p : ℕ) (gone : Bool) → IsSeason b → let d
 abbrev pub ManagersChange : Type 0
 ManagersChange = (b : SeasonFacts) (managers : Managers) → IsSeason b
     → let d = with_managers b managers in EntriesStay b d → IsSeason d × AreAlike b d
+
+-- a league can be drawn in an order: it was not drawn, and the order is one of its members
+pub record CanBeDrawn (order : List ℕ) (league : LeagueFacts) : Type 0 where
+  pub open_still : league.order ≡ []
+  pub drawn : IsOrder (with_order order league)
+
+-- a league is made, which is not drawn; is joined; or is drawn
+abbrev pub LeagueIsMade : Type 0
+LeagueIsMade = (b : SeasonFacts) (league : LeagueFacts) → IsSeason b → league.order ≡ []
+    → let d = with_leagues b (b.leagues ++ league ∷ []) in IsSeason d × DifferInLeague b d (length b.leagues + 1)
+
+abbrev pub LeagueIsJoined : Type 0
+LeagueIsJoined = (b : SeasonFacts) (l e : ℕ) → IsSeason b
+    → let d = with_leagues b (changed_in (with_member e) b.leagues l) in IsSeason d × DifferInLeague b d l
+
+abbrev pub LeagueIsDrawn : Type 0
+LeagueIsDrawn = (b : SeasonFacts) (l : ℕ) (order : List ℕ) → IsSeason b
+    → ((league : LeagueFacts) → entry_in b.leagues l ≡ Some league → CanBeDrawn order league)
+    → let d = with_leagues b (changed_in (with_order order) b.leagues l) in IsSeason d × DifferInLeague b d l
 
 -- an index stays right where no gameweek is locked and the entries are as they were in those that are
 abbrev pub IndexStays : Type 0

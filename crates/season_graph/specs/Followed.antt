@@ -11,18 +11,22 @@ use Rattle.season_nodes.specs.declared.books.Books.{Books}
 use Rattle.season_nodes.specs.declared.nodes.Node.{Node}
 use Rattle.season_nodes.specs.declared.nodes.Node.TheVariants as node
 use Rattle.season_nodes.specs.BookFacts.{facts_of}
-use Rattle.season_graph.specs.Changes.{AreAlike, DifferInLine, DifferInLocks, DifferInMark, DifferInPlace, DifferInPlayer, DifferInSheet, Follows, MarksTouched}
+use Rattle.season_graph.specs.Changes.{AreAlike, DifferInLeague, DifferInLine, DifferInLocks, DifferInMark, DifferInPlace, DifferInPlayer, DifferInSheet, Follows, MarksTouched}
 use Rattle.season_graph.specs.Evaluated.{IsEvaluated}
 use Rattle.season_nodes.specs.Held.{SeasonRows, held}
 use Rattle.season_nodes.specs.IndexFacts.{IsIndex}
 use Rattle.season_nodes.specs.NodeOrder.{node_cmp}
 use Rattle.season_graph.specs.Refreshed.{Refreshed, refreshed}
 use Rattle.season_nodes.specs.Season.{SeasonFacts, IsSeason, is_live, season_graph}
-use Rattle.season_graph.specs.Touched.{coming_nodes, entry_nodes, line_nodes, lines_nodes, locked_entries, locked_nodes, locked_players, mark_nodes, moved_nodes, player_nodes, presence_nodes, sheet_nodes}
+use Rattle.season_graph.specs.Touched.{chosen_of, coming_nodes, entry_nodes, league_nodes, line_nodes, lines_nodes, locked_entries, locked_leagues, locked_nodes, locked_players, locked_scores, locked_totals, mark_nodes, moved_nodes, others_of, player_nodes, presence_nodes, sheet_nodes}
 
 -- whether a player's line in a fixture has a cell
 abbrev pub had_line : SeasonRows → ℕ → ℕ → Bool
 had_line cells f p = is_some (held cells (node.Line f p))
+
+-- whether a node has one
+abbrev pub had_cell : SeasonRows → Node → Bool
+had_cell cells n = is_some (held cells n)
 
 -- they are those of some facts, and evaluated
 abbrev pub AreEvaluated : SeasonFacts → SeasonRows → Type 0
@@ -145,6 +149,15 @@ module _ (b : Books) where
   abbrev pub EntriesRefreshed : ℕ → SeasonRows → SeasonRows → Type 0
   EntriesRefreshed first old new = Refreshes (locked_entries (facts_of b) first) old new
 
+  abbrev pub TotalsRefreshed : ℕ → SeasonRows → SeasonRows → Type 0
+  TotalsRefreshed first old new = Refreshes (locked_totals (facts_of b) first) old new
+
+  abbrev pub ScoresRefreshed : ℕ → SeasonRows → SeasonRows → Type 0
+  ScoresRefreshed first old new = Refreshes (locked_scores (facts_of b) first) old new
+
+  abbrev pub LeaguesRefreshed : ℕ → SeasonRows → SeasonRows → Type 0
+  LeaguesRefreshed first old new = Refreshes (locked_leagues (facts_of b) first) old new
+
   abbrev pub LocksRefreshed : ℕ → SeasonRows → SeasonRows → Type 0
   LocksRefreshed first old new = Refreshes (locked_nodes (facts_of b) first) old new
 
@@ -153,6 +166,24 @@ module _ (b : Books) where
 
   abbrev pub LocksMarked : ℕ → SeasonRows → SeasonRows → Type 0
   LocksMarked first old new = MarksFrom (λ before. DifferInLocks before (facts_of b) first) old new
+
+  -- of these nodes those that come or go were brought up to date
+  abbrev pub OthersRefreshed : List Node → SeasonRows → SeasonRows → Type 0
+  OthersRefreshed ns old new = Refreshes (others_of (facts_of b) (had_cell old) ns) old new
+
+  -- all of these nodes were, or those that come or go
+  abbrev pub ChosenRefreshed : Bool → List Node → SeasonRows → SeasonRows → Type 0
+  ChosenRefreshed all ns old new = Refreshes (chosen_of (facts_of b) all (had_cell old) ns) old new
+
+  -- a league that is made, joined or drawn
+  abbrev pub LeagueRefreshed : ℕ → SeasonRows → SeasonRows → Type 0
+  LeagueRefreshed l old new = Refreshes (league_nodes (facts_of b) (had_cell old) l) old new
+
+  abbrev pub LeagueFollowed : ℕ → SeasonRows → SeasonRows → Type 0
+  LeagueFollowed l old new = FollowsFrom (λ before. DifferInLeague before (facts_of b) l) old new
+
+  abbrev pub LeagueMarked : ℕ → SeasonRows → SeasonRows → Type 0
+  LeagueMarked l old new = MarksFrom (λ before. DifferInLeague before (facts_of b) l) old new
 
   -- nothing that a node hangs on: the cells follow as they are
   abbrev pub AlikeFollowed : SeasonRows → Type 0

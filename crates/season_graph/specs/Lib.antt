@@ -3,6 +3,7 @@ pub mod Changes
 pub mod Evaluated
 pub mod Followed
 pub mod Indexed
+pub mod Lines
 pub mod Refreshed
 pub mod Told
 pub mod Touched

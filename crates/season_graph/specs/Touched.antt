@@ -1,14 +1,18 @@
 -- Which nodes a change of the facts touches.
-use Rattle.std.specs.Prelude.{ℕ, zero, suc, ◌+◌, ◌-◌, ◌==◌, ◌&&◌, ◌||◌, Bool, true, false, not, if◌then◌else◌, List, [], ◌∷◌, ◌++◌, Option, map}
-use Rattle.std.specs.List.{flat_map, list_all}
+use Rattle.std.specs.Prelude.{ℕ, zero, suc, ◌+◌, ◌-◌, ◌==◌, ◌&&◌, ◌||◌, max, nat_le, nat_lt, Bool, true, false, not, if◌then◌else◌, List, [], ◌∷◌, ◌++◌, Option, length, map}
+use Rattle.std.specs.List.{filter, flat_map, list_all, range_with_len}
 use Rattle.std.specs.Map.{keys_of}
-use Rattle.std.specs.Option.{option_map_or}
+use Rattle.std.specs.Option.{option_map, option_map_or}
 use Rattle.rule_book.specs.Calendar.{is_locked, standing, stands_in}
+use Rattle.rule_book.specs.Entries.{entry_in}
+use Rattle.rule_book.specs.Leagues.{LeagueFacts}
 use Rattle.rule_book.specs.MatchFacts.{is_finished}
+use Rattle.rule_book.specs.Totals.{gameweeks}
 use Rattle.season_nodes.specs.declared.nodes.Node.{Node}
 use Rattle.season_nodes.specs.declared.nodes.Node.TheVariants as node
-use Rattle.season_nodes.specs.Dependents.{gameweek_dependents}
-use Rattle.season_nodes.specs.Season.{SeasonFacts, has_line, players_of}
+use Rattle.season_nodes.specs.Dependents.{average_if, gameweek_dependents}
+use Rattle.season_nodes.specs.Rounds.{order_in, start_in}
+use Rattle.season_nodes.specs.Season.{SeasonFacts, classic_start, has_line, is_live, players_of, starts_of}
 
 -- whether two answers differ
 abbrev pub is_other : Bool → Bool → Bool
@@ -40,17 +44,66 @@ numbered_nodes each (suc n) = numbered_nodes each n ++ each (n + 1)
 abbrev pub holding_nodes : (ℕ → ℕ → List ℕ) → ℕ → ℕ → List Node
 holding_nodes holders p n = numbered_nodes (λ g. gameweek_dependents (holders p g) g) n
 
+-- the members of the league of a number
+abbrev pub members_in : List LeagueFacts → ℕ → List ℕ
+members_in leagues l = option_map_or (λ league. league.members) (entry_in leagues l) []
+
+-- the first gameweek of the league of a number, if it is there
+abbrev pub league_start : List LeagueFacts → ℕ → Option ℕ
+league_start leagues l = option_map (λ league. league.start) (entry_in leagues l)
+
 module _ (b : SeasonFacts) where
-  -- the gameweeks behind the first ones, up to the last that is locked: of the players, of the entries, and of both
+  -- the gameweeks behind the first ones, up to the last that is locked: of the players, and of the entries
   abbrev pub locked_players : ℕ → List Node
   locked_players first = flat_map (λ player. player_nodes player.id first (b.calendar.locked - first)) b.players
 
   abbrev pub locked_entries : ℕ → List Node
   locked_entries first = numbered_nodes (λ e. entry_nodes e first (b.calendar.locked - first)) b.entries
 
-  -- the nodes that become live when the gameweeks behind the first ones are locked
+  -- the totals of an entry
+  abbrev pub total_nodes : ℕ → List Node
+  total_nodes e = map (node.Total e) (starts_of b e)
+
+  -- where gameweeks behind the first ones are locked, the totals of each entry
+  abbrev pub locked_totals : ℕ → List Node
+  locked_totals first = if nat_lt first b.calendar.locked then numbered_nodes total_nodes b.entries else []
+
+  -- these of the players and the entries
+  abbrev pub locked_scores : ℕ → List Node
+  locked_scores first = (locked_players first ++ locked_entries first) ++ locked_totals first
+
+  -- what a league has in a gameweek: the Average, if it plays, and the matches, by each place of the order
+  abbrev pub round_nodes : ℕ → ℕ → List Node
+  round_nodes l g = average_if b l g ++ map (node.Match l g) (range_with_len 0 (length (order_in b.leagues l)))
+
+  -- what it has in the locked gameweeks from one on
+  abbrev pub rounds_since : ℕ → ℕ → List Node
+  rounds_since l from = flat_map (round_nodes l) (gameweeks from b.calendar.locked)
+
+  -- the rows of those in its order
+  abbrev pub row_nodes : ℕ → List Node
+  row_nodes l = map (node.HeadRow l) (order_in b.leagues l)
+
+  -- what a league has in the gameweeks behind the first ones, from its start on; and its rows, if it has started
+  abbrev pub locked_rounds : ℕ → ℕ → List Node
+  locked_rounds first l =
+      rounds_since l (max (start_in b.leagues l) (first + 1))
+      ++ (if nat_le (start_in b.leagues l) b.calendar.locked then row_nodes l else [])
+
+  -- where gameweeks behind the first ones are locked, the same of each league
+  abbrev pub locked_leagues : ℕ → List Node
+  locked_leagues first = if nat_lt first b.calendar.locked then numbered_nodes (locked_rounds first) (length b.leagues) else []
+
+  -- the nodes that are touched when the gameweeks behind the first ones are locked
   abbrev pub locked_nodes : ℕ → List Node
-  locked_nodes first = locked_players first ++ locked_entries first
+  locked_nodes first = locked_scores first ++ locked_leagues first
+
+  -- all that a league has from its start on: its rounds, and its rows
+  abbrev pub head_since : ℕ → ℕ → List Node
+  head_since l start = rounds_since l start ++ row_nodes l
+
+  abbrev pub head_nodes : ℕ → List Node
+  head_nodes l = option_map_or (head_since l) (league_start b.leagues l) []
 
   -- the nodes that a new player touches, where it is told who holds him: his locked gameweeks, and the gameweeks of the
   -- entries that hold him in them
@@ -106,6 +159,26 @@ module _ (b : SeasonFacts) where
   abbrev pub moved_nodes : ℕ → Option ℕ → Option ℕ → List Node
   moved_nodes f from to = moved_players f from to ++ moved_endings f from to
 
+  -- those of some nodes that come or go, where it is told which were there
+  abbrev pub others_of : (Node → Bool) → List Node → List Node
+  others_of was ns = filter (λ n. is_other (was n) (is_live b n)) ns
+
+  -- all of some nodes; or, where it is not all, those that come or go
+  abbrev pub chosen_of : Bool → (Node → Bool) → List Node → List Node
+  chosen_of all was ns = if all then ns else others_of was ns
+
+  -- the totals of the members of a league from a gameweek on, where that is locked
+  abbrev pub members_since : ℕ → ℕ → List Node
+  members_since l s = if nat_le s b.calendar.locked then map (λ e. node.Total e s) (members_in b.leagues l) else []
+
+  -- the same from the first gameweek of a classic league on; of another none
+  abbrev pub member_nodes : ℕ → List Node
+  member_nodes l = option_map_or (members_since l) (classic_start b.leagues l) []
+
+  -- the nodes that a change of a league touches: of the totals of its members, its rounds and its rows those that come or go
+  abbrev pub league_nodes : (Node → Bool) → ℕ → List Node
+  league_nodes was l = others_of was (member_nodes l ++ head_nodes l)
+
   -- the nodes of a fixture: its bonus, and its lines
   abbrev pub fixture_nodes : ℕ → List Node
   fixture_nodes f = node.Bonus f ∷ map (node.Line f) (players_of b f)
@@ -114,6 +187,10 @@ module _ (b : SeasonFacts) where
   abbrev pub fixtures_nodes : List Node
   fixtures_nodes = flat_map fixture_nodes (keys_of b.matches)
 
+  -- what all leagues have from their starts on
+  abbrev pub heads_nodes : List Node
+  heads_nodes = numbered_nodes head_nodes (length b.leagues)
+
   -- all nodes that can be live
   abbrev pub all_nodes : List Node
-  all_nodes = fixtures_nodes ++ locked_nodes 0
+  all_nodes = (fixtures_nodes ++ locked_scores 0) ++ heads_nodes

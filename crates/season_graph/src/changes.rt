@@ -1,6 +1,6 @@
 // What changes of the books do to the cells.
 ghost use Rattle.std.specs.Prelude.{[], OnOk, if◌then◌else◌};
-ghost use Rattle.season_graph.specs.Followed.{Refreshes, PresenceRefreshed, LineRefreshed, LineFollowed, LineMarked, LinesRefreshed, SheetRefreshed, SheetFollowed, SheetMarked, MarkRefreshed, MarkFollowed, MarkMarked, MoveRefreshed, MoveFollowed, MoveMarked, PlayerRefreshed, PlayerFollowed, PlayerMarked, LocksRefreshed, LocksFollowed, LocksMarked};
+ghost use Rattle.season_graph.specs.Followed.{Refreshes, PresenceRefreshed, LineRefreshed, LineFollowed, LineMarked, LinesRefreshed, SheetRefreshed, SheetFollowed, SheetMarked, MarkRefreshed, MarkFollowed, MarkMarked, MoveRefreshed, MoveFollowed, MoveMarked, PlayerRefreshed, PlayerFollowed, PlayerMarked, LocksRefreshed, LocksFollowed, LocksMarked, LeagueRefreshed, LeagueFollowed, LeagueMarked};
 ghost use Rattle.season_graph.specs.Indexed.{IndexFollowed, IndexKept};
 ghost use Rattle.season_graph.specs.Touched.{gameweek_beside, mark_nodes, moved_players};
 ghost use Rattle.season_nodes.specs.BookFacts.{facts_of};
@@ -11,7 +11,9 @@ use crate::holding::refresh_holding;
 use crate::indexing::index_gameweeks;
 use crate::locks::{refresh_gameweeks, refresh_locked};
 use crate::refreshing::{refresh_bonus, refresh_line, refresh_one};
-use fpl_base::{FixtureId, Gw, Memory, PlayerId};
+use crate::rounds::refresh_head;
+use crate::totals::refresh_league_totals;
+use fpl_base::{FixtureId, Gw, LeagueId, Memory, PlayerId};
 use season_nodes::{Books, Index, Node};
 use season_rules::SeasonCells;
 
@@ -104,8 +106,10 @@ pub fn player_added(
     Ok(())
 }
 
-/// Gameweeks were locked. `first` is how many were locked before. The index has then also who holds whom in these
-/// gameweeks. After want of memory the cells and the index have to be made anew.
+/// Gameweeks were locked. `first` is how many were locked before. Each total then counts more gameweeks, each head-to-head
+/// league that was drawn and has started has its matches in them, and its Average where that plays, and counts them in
+/// its rows. The index has also who holds whom in these gameweeks. After want of memory the cells and the index have to
+/// be made anew.
 pub fn gameweeks_locked(
     index: &mut Index,
     cells: &mut SeasonCells,
@@ -120,6 +124,23 @@ pub fn gameweeks_locked(
 {
     index_gameweeks(index, books, first)?;
     refresh_locked(cells, books, first)?;
+    Ok(())
+}
+
+/// A league was made, joined or drawn. Who is in a classic one has a total from its first gameweek on, once that is
+/// locked. Who is in the order of a drawn one has a row, and from its start on it has matches. Want of memory is as for
+/// one line.
+pub fn league_changed(
+    cells: &mut SeasonCells,
+    books: &Books,
+    league: LeagueId,
+) -> Result<(), Memory>
+    ensures nodes { OnOk result (LeagueRefreshed books.now league cells.old cells.new) }
+    ensures sound { OnOk result (LeagueFollowed books.now league cells.old cells.new) }
+    ensures exact { OnOk result (LeagueMarked books.now league cells.old cells.new) }
+{
+    refresh_league_totals(cells, books, league)?;
+    refresh_head(cells, books, league, false)?;
     Ok(())
 }
 

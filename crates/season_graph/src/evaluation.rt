@@ -9,8 +9,9 @@ ghost use Rattle.season_graph.specs.Touched.{all_nodes, fixture_nodes, fixtures_
 
 use crate::indexing::index_gameweeks;
 use crate::laws::replay_is_told;
-use crate::locks::refresh_locked;
+use crate::locks::refresh_scores;
 use crate::refreshing::{refresh_bonus, refresh_line};
+use crate::rounds::refresh_heads;
 use fpl_base::{FixtureId, Memory, Steps};
 use rescore_graph::{Cells, Report};
 use season_nodes::{Books, Index, Node};
@@ -82,6 +83,7 @@ fn cells_of<L: Ledger>(
             players: books.players,
             matches: books.matches,
             managers: books.managers,
+            leagues: books.leagues,
         },
         index,
     };
@@ -97,7 +99,8 @@ fn refresh_all(cells: &mut SeasonCells, books: &Books) -> Result<(), Memory>
         (Refreshes books.now (all_nodes (facts_of books.now)) cells.old cells.new) }
 {
     refresh_fixtures(cells, books)?;
-    refresh_locked(cells, books, 0)?;
+    refresh_scores(cells, books, 0)?;
+    refresh_heads(cells, books)?;
     Ok(())
 }
 

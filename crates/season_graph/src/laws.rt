@@ -1,8 +1,9 @@
 ghost use Rattle.rescore_graph.specs.Graph.{replay};
-ghost use Rattle.season_graph.specs.BookChanges.{SeasonBegins, LineIsPut, LineIsDropped, MarkIsSet, SheetIsPut, FixtureMoves, FixtureComes, MomentPasses, PlayerComes, DeadlineMoves, PriceChanges, ClubChanges, GoneChanges, ManagersChange, IndexStays};
+ghost use Rattle.season_graph.specs.BookChanges.{SeasonBegins, LineIsPut, LineIsDropped, MarkIsSet, SheetIsPut, FixtureMoves, FixtureComes, MomentPasses, PlayerComes, DeadlineMoves, PriceChanges, ClubChanges, GoneChanges, ManagersChange, LeagueIsMade, LeagueIsJoined, LeagueIsDrawn, IndexStays};
 ghost use Rattle.season_nodes.specs.BookFacts.{facts_of};
 ghost use Rattle.season_graph.specs.Changes.{SameIsAlike};
 ghost use Rattle.season_graph.specs.Followed.{AlikeFollowed, AlikeMarked};
+ghost use Rattle.season_graph.specs.Lines.{LinesAreTold};
 ghost use Rattle.season_nodes.specs.IndexFacts.{IsIndex, holders_in};
 ghost use Rattle.season_nodes.specs.Season.{IsSeason, season_graph};
 ghost use Rattle.season_graph.specs.Told.{IsTold};
@@ -13,7 +14,9 @@ use season_nodes::Books;
 use season_rules::{SeasonCells, SeasonRules};
 
 /// A law: the replay value of each live node is what the rule book tells straight from the facts. It is a line's worth,
-/// the bonus of a fixture, what a player did in a gameweek, or what an entry's team scored there.
+/// the bonus of a fixture, what a player did in a gameweek, what an entry's team scored there, or what an entry has over
+/// the locked gameweeks from one on; the points of the Average of a head-to-head league, what the two of a match scored,
+/// or what a member has of its matches.
 pub fn replay_is_told(rules: &SeasonRules)
     requires season { IsSeason (facts_of rules.now.books) }
     requires index { IsIndex (facts_of rules.now.books) (holders_in rules.now.index.now) }
@@ -22,7 +25,14 @@ pub fn replay_is_told(rules: &SeasonRules)
     replay_is_one(rules);
 }
 
-/// A law: a lawful calendar, any players, no facts of the matches, and any entries are a season.
+/// A law: in a season each line of a fixture is worth what is told of its node, and has the bonus that is told of the
+/// fixture's.
+pub fn lines_are_told()
+    ensures { LinesAreTold }
+{}
+
+/// A law: a lawful calendar, any players, no facts of the matches, any entries, and leagues of which each is drawn in an
+/// order of its members are a season.
 pub fn season_begins()
     ensures { SeasonBegins }
 {}
@@ -60,6 +70,14 @@ pub fn players_change()
 /// a node hangs on.
 pub fn managers_change()
     ensures { ManagersChange }
+{}
+
+/// A law: what the calls of the leagues leave is a season, which differs in the league that they name. A league is made
+/// without an order, and keeps the one in which it was drawn.
+pub fn leagues_change()
+    ensures made { LeagueIsMade }
+    ensures joined { LeagueIsJoined }
+    ensures drawn { LeagueIsDrawn }
 {}
 
 /// A law: an index stays right where no gameweek is locked and the entries are as they were in those that are.

@@ -1,5 +1,6 @@
 //! The values of a season as cells, which follow each change of the books: what each player's line in a fixture is worth,
-//! the bonus of each fixture, what each player did in each locked gameweek, and what each entry's team scored there. For
+//! the bonus of each fixture, what each player did in each locked gameweek, what each entry's team scored there, and what
+//! each entry has over them; and the Average, the matches and the rows of each head-to-head league that was drawn. For
 //! each change there is a call that brings up to date exactly the nodes that it touches.
 #![tactic(auto)]
 
@@ -10,17 +11,24 @@ mod holding;
 mod indexing;
 mod laws;
 mod locks;
+mod reading;
 mod refreshing;
+mod rounds;
 #[cfg(test)]
 mod tests;
+mod totals;
 
 pub use changes::{
-    fact_changed, fixture_moved, gameweeks_locked, mark_changed, player_added, sheet_changed,
+    fact_changed, fixture_moved, gameweeks_locked, league_changed, mark_changed, player_added,
+    sheet_changed,
 };
 pub use evaluation::{evaluate_all, settle_season};
 pub use laws::{
-    books_alike, calendar_changes, index_stays, managers_change, matches_change, players_change,
-    replay_is_told, same_is_alike, season_begins,
+    books_alike, calendar_changes, index_stays, leagues_change, lines_are_told, managers_change,
+    matches_change, players_change, replay_is_told, same_is_alike, season_begins,
 };
-pub use season_nodes::{Bonuses, Books, GameweekFigures, Index, LineWorth, Node, Value, is_same};
+pub use reading::{bonuses_held, gameweek_held, head_held, line_held, score_held, total_held};
+pub use season_nodes::{
+    Bonuses, Books, GameweekFigures, GameweekScore, Index, LineWorth, Node, Value, is_same,
+};
 pub use season_rules::{SeasonCells, SeasonRules};

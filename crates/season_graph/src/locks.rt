@@ -1,14 +1,16 @@
 // What locks of gameweeks do to the cells.
 ghost use Rattle.std.specs.Prelude.{◌<◌, ◌+◌, [], ◌∷◌, OnOk, IfSome, slice_get};
-ghost use Rattle.season_graph.specs.Followed.{EntriesRefreshed, EntryRefreshed, GameweeksRefreshed, LocksRefreshed, PlayersRefreshed, Refreshes};
+ghost use Rattle.season_graph.specs.Followed.{EntriesRefreshed, EntryRefreshed, GameweeksRefreshed, LocksRefreshed, PlayersRefreshed, Refreshes, ScoresRefreshed, TotalsRefreshed};
 ghost use Rattle.season_nodes.specs.declared.nodes.Node.{Node};
 
 use crate::refreshing::refresh_one;
+use crate::rounds::refresh_leagues_if;
+use crate::totals::refresh_totals;
 use fpl_base::{EntryId, Gw, Memory, PlayerId};
 use season_nodes::{Books, Node};
 use season_rules::SeasonCells;
 
-// Brings the locked gameweeks of each player and of each entry up to date, behind the first ones.
+// Brings up to date what locks of the gameweeks behind the first ones touch.
 pub(crate) fn refresh_locked(
     cells: &mut SeasonCells,
     books: &Books,
@@ -16,8 +18,32 @@ pub(crate) fn refresh_locked(
 ) -> Result<(), Memory>
     ensures { OnOk result (LocksRefreshed books.now first cells.old cells.new) }
 {
+    refresh_scores(cells, books, first)?;
+    refresh_leagues_if(cells, books, first)?;
+    Ok(())
+}
+
+// Brings the locked gameweeks of each player and of each entry up to date, behind the first ones, and the totals.
+pub(crate) fn refresh_scores(
+    cells: &mut SeasonCells,
+    books: &Books,
+    first: u8,
+) -> Result<(), Memory>
+    ensures { OnOk result (ScoresRefreshed books.now first cells.old cells.new) }
+{
     refresh_players(cells, books, first)?;
     refresh_entries(cells, books, first)?;
+    refresh_totals_if(cells, books, first)?;
+    Ok(())
+}
+
+// Brings the totals of each entry up to date, if gameweeks behind the first ones are locked.
+fn refresh_totals_if(cells: &mut SeasonCells, books: &Books, first: u8) -> Result<(), Memory>
+    ensures { OnOk result (TotalsRefreshed books.now first cells.old cells.new) }
+{
+    if first < books.calendar.locked() {
+        refresh_totals(cells, books)?;
+    }
     Ok(())
 }
 

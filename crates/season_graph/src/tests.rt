@@ -12,6 +12,7 @@ use crate::{
     Books, Index, Node, SeasonCells, SeasonRules, Value, evaluate_all, fact_changed, index_stays,
     matches_change, season_begins, settle_season,
 };
+use classic_leagues::Leagues;
 use fpl_base::{
     ClubId, FixtureId, Gw, Moment, Name, PlayerId, Position, Profile, Refused, Steps, Tenths,
 };
@@ -99,6 +100,7 @@ fn put_line<'a, L: Ledger>(
     calendar: &'a Calendar,
     players: &'a Players,
     managers: &'a ManagerBook,
+    leagues: &'a Leagues,
     matches: &'a mut MatchFacts,
     index: &'a Index,
     cells: &mut SeasonCells,
@@ -106,14 +108,14 @@ fn put_line<'a, L: Ledger>(
     line: &Line,
     steps: &mut Steps<L>,
 ) -> Result<usize, Fail>
-    requires season { IsSeason (facts_with profile.A calendar.now players.now matches.old managers.now) }
-    requires index { IsIndex (facts_with profile.A calendar.now players.now matches.old managers.now) (holders_in index.now) }
-    requires sound { AreSound (facts_with profile.A calendar.now players.now matches.old managers.now) cells.old }
+    requires season { IsSeason (facts_with profile.A calendar.now players.now matches.old managers.now leagues.now) }
+    requires index { IsIndex (facts_with profile.A calendar.now players.now matches.old managers.now leagues.now) (holders_in index.now) }
+    requires sound { AreSound (facts_with profile.A calendar.now players.now matches.old managers.now leagues.now) cells.old }
     requires ranges { IsLine line.now }
     requires there { is_some (player_of players.now player) ≡ true }
-    ensures season { OnOk result (IsSeason (facts_with profile.A calendar.now players.now matches.new managers.now)) }
-    ensures index { OnOk result (IsIndex (facts_with profile.A calendar.now players.now matches.new managers.now) (holders_in index.now)) }
-    ensures sound { OnOk result (AreSound (facts_with profile.A calendar.now players.now matches.new managers.now) cells.new) }
+    ensures season { OnOk result (IsSeason (facts_with profile.A calendar.now players.now matches.new managers.now leagues.now)) }
+    ensures index { OnOk result (IsIndex (facts_with profile.A calendar.now players.now matches.new managers.now leagues.now) (holders_in index.now)) }
+    ensures sound { OnOk result (AreSound (facts_with profile.A calendar.now players.now matches.new managers.now leagues.now) cells.new) }
 {
     let fixture = fixture()?;
     taken(matches.put_line(fixture, true, player, line))?;
@@ -126,6 +128,7 @@ fn put_line<'a, L: Ledger>(
             players,
             matches: &*matches,
             managers,
+            leagues,
         },
         index,
     };
@@ -146,19 +149,22 @@ fn points_of<L: Ledger>(
     }
 }
 
-// The cells and the index of a season without lines.
+// The cells and the index of a season without lines and leagues.
+#[tactic(auto, using(crate::proofs::TestFacts::no_orders))]
 fn begin<'a, L: Ledger>(
     alloc: Global,
     calendar: &'a Calendar,
     players: &'a Players,
     matches: &'a MatchFacts,
     managers: &'a ManagerBook,
+    leagues: &'a Leagues,
     steps: &mut Steps<L>,
 ) -> Result<(SeasonCells, Index), Fail>
-    requires { matches.now ≡ [] }
-    ensures season { OnOk result (IsSeason (facts_with profile.A calendar.now players.now matches.now managers.now)) }
-    ensures sound { IfOk result (λ made. AreSound (facts_with profile.A calendar.now players.now matches.now managers.now) made.0) }
-    ensures index { IfOk result (λ made. IsIndex (facts_with profile.A calendar.now players.now matches.now managers.now) (holders_in made.1)) }
+    requires matches { matches.now ≡ [] }
+    requires leagues { leagues.now ≡ [] }
+    ensures season { OnOk result (IsSeason (facts_with profile.A calendar.now players.now matches.now managers.now leagues.now)) }
+    ensures sound { IfOk result (λ made. AreSound (facts_with profile.A calendar.now players.now matches.now managers.now leagues.now) made.0) }
+    ensures index { IfOk result (λ made. IsIndex (facts_with profile.A calendar.now players.now matches.now managers.now leagues.now) (holders_in made.1)) }
 {
     let _locked = calendar.locked();
     season_begins();
@@ -168,6 +174,7 @@ fn begin<'a, L: Ledger>(
         players,
         matches,
         managers,
+        leagues,
     };
     Ok(evaluate_all(alloc, &books, steps)?)
 }
@@ -188,7 +195,10 @@ fn corrects<L: Ledger>(rt: &impl Abort, alloc: Global, blank: Blank) -> Result<(
     let players = players(alloc)?;
     let mut matches = MatchFacts::new(alloc);
     let managers = ManagerBook::new(alloc, Profile::A);
-    let (mut cells, index) = begin(alloc, &calendar, &players, &matches, &managers, &mut steps)?;
+    let leagues = Leagues::new(alloc);
+    let (mut cells, index) = begin(
+        alloc, &calendar, &players, &matches, &managers, &leagues, &mut steps,
+    )?;
     assert_eq!(rt; points_of(&cells, 1, &mut steps)?, 0);
     let player = id(1)?;
     let line = line(1, 0, 0);
@@ -197,6 +207,7 @@ fn corrects<L: Ledger>(rt: &impl Abort, alloc: Global, blank: Blank) -> Result<(
             &calendar,
             &players,
             &managers,
+            &leagues,
             &mut matches,
             &index,
             &mut cells,

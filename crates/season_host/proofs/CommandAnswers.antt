@@ -1,5 +1,5 @@
 -- What a house answers to a command that is no repeat and has the next number.
-use Rattle.std.proofs.Common.{◌≡◌, ℕ, None, Ok, Err, Result, IfOk, inl, inr, refl, subst, sym}
+use Rattle.std.proofs.Common.{◌≡◌, ◌∙◌, ℕ, [], None, Ok, Err, Result, IfOk, inl, inr, refl, subst, sym}
 use Rattle.fpl_base.specs.declared.kinds.Caller.{Caller}
 use Rattle.season_book.specs.Book.{Book, last_number}
 use Rattle.season_book.specs.Doing.{IsOutLate}
@@ -13,7 +13,8 @@ use Rattle.season_running.specs.Accepting.{IsAccepted}
 use Rattle.season_running.specs.Standing.{HostRows, StandsIn}
 use Rattle.season_running.proofs.AnswerFacts.{done_answer, late_refused}
 use Rattle.season_host.proofs.Refused.{refused_answer}
-use Rattle.season_host.specs.Accepted.{MayEndIn, answer_from, made_in, slots_from}
+use Rattle.season_host.specs.Accepted.{MayEndIn, answer_from, change_from, made_in, slots_from}
+use Rattle.season_host.specs.declared.change.Change.TheVariants as change
 use Rattle.season_host.specs.declared.accepting.Done.{Done}
 
 module _ (old new : HostRows) (caller : Caller) (now number : ℕ) (command : Command) (book : Book) (stands : StandsIn old book)
@@ -41,3 +42,13 @@ module _ (old new : HostRows) (caller : Caller) (now number : ℕ) (command : Co
       → IsOutLate old.operator book caller now (request.Command number command) (answer_from number done)
   late_by (Ok done) is = tt
   late_by (Err reply) is = late_refused old.operator book caller now number command fresh none reply (is.1 book stands)
+
+-- where no slot was touched, nothing was done
+pub rests_by : (old : HostRows) (caller : Caller) (command : Command) (book : Book) → StandsIn old book → (done : Result Done Answer)
+    → IfOk done (λ d. (b : Book) → StandsIn old b → d.slots.items ≡ touched b caller command)
+    → slots_from done ≡ [] → change_from done ≡ change.Nothing
+rests_by old caller command book stands (Ok done) touches none = absurd (some_slot (sym (touches book stands) ∙ none))
+  where
+    some_slot : touched book caller command ≡ [] → ⊥
+    some_slot e = cc
+rests_by old caller command book stands (Err reply) touches none = refl

@@ -2,6 +2,7 @@
 use Rattle.std.specs.Prelude.{◌≡◌, ◌⊎◌, ◌==◌, ℕ, Bool, false, not, List, [], Option, None, Some, Result, Ok, Err, IfSome}
 use Rattle.std.specs.List.{AllByRecursion}
 use Rattle.fpl_base.specs.declared.kinds.Caller.{Caller}
+use Rattle.fpl_base.specs.declared.memory.Memory.{Memory}
 use Rattle.rule_book.specs.Calendar.{after_pass}
 use Rattle.season_book.specs.Book.{Book, Facts, Last, last_number}
 use Rattle.season_book.specs.Doing.{IsRefused, MayAnswerIn}
@@ -18,8 +19,11 @@ use Rattle.season_records.specs.Touched.{touched}
 use Rattle.season_rows.specs.RowsTold.{told_by}
 use Rattle.season_running.specs.Accepting.{IsNew, kept_last}
 use Rattle.season_running.specs.Standing.{HostRows}
+use Rattle.season_cells.specs.declared.plan.Plan.{Plan}
 use Rattle.season_host.specs.declared.accepting.Begun.{Begun}
 use Rattle.season_host.specs.declared.accepting.Done.{Done}
+use Rattle.season_host.specs.declared.change.Change.{Change}
+use Rattle.season_host.specs.declared.change.Change.TheVariants as change
 
 -- whether a moment locks gameweeks that were open
 abbrev pub locks_more : Option Facts → ℕ → Bool
@@ -43,6 +47,16 @@ answer_from number (Err reply) = reply
 abbrev pub slots_from : Result Done Answer → List Slot
 slots_from (Ok done) = done.slots.items
 slots_from (Err reply) = []
+
+-- what it changed that cells hang on
+abbrev pub change_from : Result Done Answer → Change
+change_from (Ok done) = done.change
+change_from (Err reply) = change.Nothing
+
+-- what was made, without the plan of what it changed
+abbrev pub made_of : Result (Made × Plan) Memory → Result Made Memory
+made_of (Ok done) = Ok done.0
+made_of (Err memory) = Err memory
 
 -- a command began a new season and was kept, or it was refused, or memory ran out
 abbrev pub IsBegunAndKept : Caller → ℕ → ℕ → Command → List (ℕ × Last) → List (ℕ × Last) → Result Begun Answer → Type 0

@@ -1,26 +1,32 @@
 // A command that is judged and done in memory, with the slots of the records that it may have changed.
-ghost use Rattle.std.specs.Prelude.{◌≡◌, ℕ, IfErr, IfOk};
+ghost use Rattle.std.specs.Prelude.{◌≡◌, ◌≢◌, ◌≤◌, ◌+◌, ℕ, IfErr, IfOk, OnOk};
 ghost use Rattle.season_book.specs.Book.{Book};
 ghost use Rattle.season_book.specs.Commands.{IsCommand};
 ghost use Rattle.season_book.specs.Doing.{IsStoreless};
+ghost use Rattle.season_book.specs.declared.answer.Answer.TheVariants as answer_of;
 ghost use Rattle.season_records.specs.Touched.{touched};
-ghost use Rattle.season_running.specs.Accepting.{IsTaken};
+ghost use Rattle.season_running.specs.Accepting.{IsGrantedTo, IsTaken, IsTakenOrOut};
 ghost use Rattle.season_running.specs.Standing.{Plays};
-ghost use Rattle.season_host.specs.Accepted.{IsBegunAndKept, made_in};
+ghost use Rattle.season_cells.specs.Plans.{IsPlanOf, lines_named};
+ghost use Rattle.season_host.specs.Accepted.{IsBegunAndKept, made_in, made_of};
+ghost use Rattle.season_host.specs.Cells.{IsChangeOf, LeadsFrom};
 
+use crate::change::Change;
 use fpl_base::{Caller, Key, Memory, Moment, Steps};
 use record_codec::Slot;
 use season_batches::{touched, touched_first};
 use season_book::{Answer, Command, Made};
+use season_cells::{Plan, planned, plans_lead};
 use season_running::{Lasts, RunningSeason, begun, change, keep};
 use std::alloc::Global;
 use std::sync::ledger::Ledger;
 
-/// What a command made, and the slots of the records that it may have changed.
+/// What a command made, the slots of the records that it may have changed, and what it changed that cells hang on.
 #[derive(Drop)]
 pub struct Done {
     pub made: Made,
     pub slots: Vec<Slot>,
+    pub change: Change,
 }
 
 /// A season that a command began, and the slots of its records.
@@ -30,7 +36,8 @@ pub struct Begun {
     pub slots: Vec<Slot>,
 }
 
-// Does a command on a running season, where nothing refuses it. It is judged before memory is asked for.
+// Does a command on a running season, where nothing refuses it. It is judged before memory is asked for. The line that it
+// takes away, and those with which it is compared, are counted reads.
 pub fn accept<L: Ledger>(
     alloc: Global,
     running: &mut RunningSeason,
@@ -45,18 +52,74 @@ pub fn accept<L: Ledger>(
     requires { IsCommand command.now }
     ensures taken { IsTaken operator.now caller.now now number command.now running.old running.new lasts.old lasts.new (made_in result) }
     ensures touched { IfOk result (λ done. (book : Book) → Plays running.old book → done.slots.items ≡ touched book caller.now command.now) }
+    ensures change { IfOk result (λ done. IsChangeOf running.old running.new done.change) }
     ensures storeless { IfErr result IsStoreless }
+    ensures counted { steps.new ≤ steps.old + lines_named running.old.facts command.now + 1 }
+    ensures refused { IfErr result (λ reply. reply ≢ answer_of.Memory → steps.new ≤ steps.old + 1) }
 {
     match running.judge(operator, caller, now, command, steps) {
         Ok(()) => match touched(alloc, running, caller, command) {
-            Ok(slots) => match change(running, lasts, caller, now, number, command) {
-                Ok(made) => Ok(Done { made, slots }),
+            Ok(slots) => match change_as(
+                alloc, running, lasts, caller, now, number, command, steps,
+            ) {
+                Ok((made, plan)) => Ok(Done {
+                    made,
+                    slots,
+                    change: Change::Plan(plan),
+                }),
                 Err(Memory) => Err(Answer::Memory),
             },
             Err(Memory) => Err(Answer::Memory),
         },
         Err(refused) => Err(refused),
     }
+}
+
+// Does a command that nothing refuses, and tells what it made and what it changed that cells hang on.
+fn change_as<L: Ledger>(
+    alloc: Global,
+    running: &mut RunningSeason,
+    lasts: &mut Lasts,
+    caller: &Caller,
+    now: Moment,
+    number: u64,
+    command: &Command,
+    steps: &mut Steps<L>,
+) -> Result<(Made, Plan), Memory>
+    requires read { IsCommand command.now }
+    requires granted { IsGrantedTo running.old caller.now now command.now }
+    ensures taken { IsTakenOrOut caller.now now number command.now running.old running.new lasts.old lasts.new (made_of result) }
+    ensures leads { IfOk result (λ done. LeadsFrom running.old running.new done.1) }
+    ensures counted { steps.new ≤ steps.old + lines_named running.old.facts command.now }
+{
+    let plan = planned(alloc, running.season(), running.leagues(), command, steps)?;
+    let made = change_by(running, lasts, caller, now, number, command, &plan)?;
+    Ok((made, plan))
+}
+
+// Does a command of which the plan says what it changes.
+fn change_by(
+    running: &mut RunningSeason,
+    lasts: &mut Lasts,
+    caller: &Caller,
+    now: Moment,
+    number: u64,
+    command: &Command,
+    plan: &Plan,
+) -> Result<Made, Memory>
+    requires read { IsCommand command.now }
+    requires granted { IsGrantedTo running.old caller.now now command.now }
+    requires plan { IsPlanOf running.old.facts running.old.leagues command.now plan.now }
+    ensures taken { IsTakenOrOut caller.now now number command.now running.old running.new lasts.old lasts.new result }
+    ensures leads { OnOk result (LeadsFrom running.old running.new plan.now) }
+{
+    // The laws by which a season stands behind it, for the prover: of before, and of what is left.
+    plans_lead();
+    running.keeps_rows();
+    let made = change(running, lasts, caller, now, number, command)?;
+    running.keeps_rows();
+    running.season().keeps_facts();
+    Ok(made)
 }
 
 // The season that a command begins, which is kept as its caller's last one.

@@ -1,25 +1,34 @@
 // What a host keeps in memory, and its answers by that alone.
-ghost use Rattle.std.specs.Prelude.{◌≡◌, ◌≤◌, [], Some, IfErr, IfOk, OnOk};
+ghost use Rattle.std.specs.Prelude.{◌≡◌, ◌≢◌, ◌≤◌, ◌+◌, [], Some, IfErr, IfOk, OnOk};
+ghost use Rattle.std.specs.Option.{option_map_or};
 ghost use Rattle.rule_book.specs.Refusals.{IsJudged};
 ghost use Rattle.season_book.specs.Book.{Book};
 ghost use Rattle.season_book.specs.Commands.{IsCommand};
 ghost use Rattle.season_book.specs.Doing.{IsOutLate, IsShown, IsStoreless};
 ghost use Rattle.season_book.specs.Hosts.{owner_of};
 ghost use Rattle.season_book.specs.Verdict.{fact_shown, number_refusal, view_answer};
+ghost use Rattle.season_book.specs.declared.answer.Answer.TheVariants as answer_of;
 ghost use Rattle.season_book.specs.declared.request.Request.TheVariants as request_of;
 ghost use Rattle.season_records.specs.Touched.{batch, touched};
 ghost use Rattle.season_rows.specs.RowsTold.{told_by};
 ghost use Rattle.season_running.specs.Accepting.{IsAccepted};
 ghost use Rattle.season_running.specs.EntryLaws.{IsOrderlyHost};
 ghost use Rattle.season_running.specs.Standing.{Follows, StandsIn, host_rows, keys_in, number_at, passed};
-ghost use Rattle.season_host.specs.Accepted.{MayEndIn, TellItemsBy, answer_from, locks_more, made_in, slots_from};
+ghost use Rattle.season_host.specs.Accepted.{MayEndIn, TellItemsBy, answer_from, change_from, locks_more, made_in, slots_from};
+ghost use Rattle.season_views.specs.Cells.{AreKeptOf};
+ghost use Rattle.season_views.specs.Reads.{reads_allowed};
+ghost use Rattle.season_host.specs.Cells.{AreCellsOfHost, IsChange, lines_in, running_in};
+ghost use Rattle.season_host.specs.declared.change.Change.TheVariants as change_of;
 
 use crate::accepting::{Done, accept, begin};
+use crate::change::Change;
 use fpl_base::{Caller, Key, Memory, Moment, Op, Rule, Steps};
 use record_codec::Slot;
 use season_batches::batch_of;
 use season_book::{Answer, Command, Made, View};
+use season_cells::KeptCells;
 use season_facts::Season;
+use season_graph::SeasonCells;
 use season_running::{Lasts, RunningSeason};
 use season_views::show;
 use std::alloc::Global;
@@ -44,26 +53,28 @@ impl Model for House {
     ghost view = { λ h. host_rows h.operator h.running h.lasts };
 }
 
-/// An answer to a command, and the slots of the records that it may have changed.
+/// An answer to a command, the slots of the records that it may have changed, and what it changed that cells hang on.
 #[derive(Drop)]
 pub struct Answered {
     pub answer: Answer,
     pub slots: Vec<Slot>,
+    pub change: Change,
 }
 
 // An answer that changes nothing.
 fn unchanged(alloc: Global, answer: Answer) -> Answered
-    ensures { (result.answer ≡ answer) × (result.slots.items ≡ []) }
+    ensures { (result.answer ≡ answer) × (result.slots.items ≡ []) × (result.change ≡ change_of.Nothing) }
 {
     Answered {
         answer,
         slots: Vec::new(alloc),
+        change: Change::Nothing,
     }
 }
 
 // The answer to a command of a number that was done, or refused.
 fn answer_to(alloc: Global, number: u64, done: Result<Done, Answer>) -> Answered
-    ensures { (result.answer ≡ answer_from number done) × (result.slots.items ≡ slots_from done) }
+    ensures { (result.answer ≡ answer_from number done) × (result.slots.items ≡ slots_from done) × (result.change ≡ change_from done) }
 {
     match done {
         Ok(done) => Answered {
@@ -72,6 +83,7 @@ fn answer_to(alloc: Global, number: u64, done: Result<Done, Answer>) -> Answered
                 made: done.made,
             },
             slots: done.slots,
+            change: done.change,
         },
         Err(refused) => unchanged(alloc, refused),
     }
@@ -96,6 +108,23 @@ impl House {
     {
         self.running = running;
         self.lasts = lasts;
+    }
+
+    /// The season that runs; none before one was begun.
+    pub(crate) fn running(&self) -> &Option<RunningSeason>
+        ensures { self.now ≡ host_rows self.now.operator result.now self.now.lasts }
+    {
+        &self.running
+    }
+
+    /// How many gameweeks are locked; 0 where no season runs.
+    pub(crate) fn locked(&self) -> u8
+        ensures { result ≡ option_map_or (λ facts. facts.calendar.locked) self.now.facts 0 }
+    {
+        match &self.running {
+            Some(running) => running.season().calendar().locked(),
+            None => 0,
+        }
     }
 
     /// Whose key these bytes are; `None` where nobody has it, and so where they are no key. It takes no memory.
@@ -150,30 +179,37 @@ impl House {
         batch_of(self.alloc, &self.running, &self.lasts, slots)
     }
 
-    /// The answer to a view.
+    /// The answer to a view. Each row of an entry and each cell that it reads is a counted read.
     pub fn answer_view<L: Ledger>(
         &self,
+        cells: &Option<KeptCells>,
         caller: &Caller,
         view: View,
         steps: &mut Steps<L>,
     ) -> Answer
+        requires { AreCellsOfHost self.now cells.now }
         ensures shown { (book : Book) → StandsIn self.now book → IsShown (view_answer book caller.now view) result }
         ensures storeless { IsStoreless result }
+        ensures cost { (book : Book) → StandsIn self.now book → steps.new ≤ steps.old + reads_allowed (view_answer book caller.now view) }
     {
         let Some(running) = &self.running else {
             return Answer::Rule(Rule::NoSeason);
         };
+        let Some(kept) = cells else { unreachable!() };
+        let cells = kept.cells();
         match view {
-            View::Me => running.my_entry(caller, self.lasts.number(caller), steps),
+            View::Me => running.my_entry(cells, caller, self.lasts.number(caller), steps),
             View::EntryGameweek { entry, gameweek } => {
-                running.entry_gameweek(entry, gameweek, steps)
+                running.entry_gameweek(cells, entry, gameweek, steps)
             }
-            View::League { league } => running.league(self.alloc, league, steps),
-            View::Cup { cup } => running.cup(self.alloc, cup, steps),
+            View::League { league } => running.league(self.alloc, cells, league, steps),
+            View::Cup { cup } => running.cup(self.alloc, cells, cup, steps),
             View::Season
             | View::Player { .. }
             | View::PlayerGameweek { .. }
-            | View::Fixture { .. } => answer_shown(self.alloc, running.season(), view, steps),
+            | View::Fixture { .. } => {
+                answer_shown(self.alloc, running.season(), cells, view, steps)
+            }
         }
     }
 
@@ -191,8 +227,12 @@ impl House {
         requires command { IsCommand command.now }
         ensures answered { Follows self.old self.new (λ book after. MayEndIn self.old.operator book caller.now now number command.now result.answer result.slots.items after) }
         ensures late { (book : Book) → StandsIn self.old book → IsOutLate self.old.operator book caller.now now (request_of.Command number command.now) result.answer }
+        ensures change { IsChange self.old self.new result.change }
+        ensures nothing { (book : Book) → StandsIn self.old book → result.slots.items ≡ [] → result.change ≡ change_of.Nothing }
         ensures operator { self.new.operator ≡ self.old.operator }
         ensures storeless { IsStoreless result.answer }
+        ensures counted { steps.new ≤ steps.old + lines_in (running_in self.old) command.now + 1 }
+        ensures refused { result.change ≡ change_of.Nothing → result.answer ≢ answer_of.Memory → steps.new ≤ steps.old + 1 }
     {
         match self.lasts.repeated(caller, number, command) {
             Some(made) => unchanged(self.alloc, Answer::Done { number, made }),
@@ -218,8 +258,12 @@ impl House {
         requires { IsCommand command.now }
         ensures accepted { IsAccepted self.old self.new caller.now now number command.now (made_in result) }
         ensures touched { IfOk result (λ done. (book : Book) → StandsIn self.old book → done.slots.items ≡ touched book caller.now command.now) }
+        ensures change { IfOk result (λ done. IsChange self.old self.new done.change) }
         ensures operator { self.new.operator ≡ self.old.operator }
         ensures storeless { IfErr result IsStoreless }
+        ensures counted { steps.new ≤ steps.old + lines_in (running_in self.old) command.now + 1 }
+        ensures acts { IfOk result (λ done. done.change ≢ change_of.Nothing) }
+        ensures refused { IfErr result (λ reply. reply ≢ answer_of.Memory → steps.new ≤ steps.old + 1) }
     {
         match &mut self.running {
             Some(running) => accept(
@@ -239,6 +283,7 @@ impl House {
                     Ok(Done {
                         made: Made::Nothing,
                         slots: begun.slots,
+                        change: Change::Season,
                     })
                 }
                 Err(refused) => Err(refused),
@@ -251,12 +296,15 @@ impl House {
 fn answer_shown<L: Ledger>(
     alloc: Global,
     season: &Season,
+    cells: &SeasonCells,
     view: View,
     steps: &mut Steps<L>,
 ) -> Answer
-    ensures { IsShown (fact_shown (Some season.now) view) result }
+    requires { AreKeptOf season.now cells.now }
+    ensures shown { IsShown (fact_shown (Some season.now) view) result }
+    ensures cost { steps.new ≤ steps.old + reads_allowed (fact_shown (Some season.now) view) }
 {
-    match show(alloc, season, view, steps) {
+    match show(alloc, season, cells, view, steps) {
         Ok(Some(shown)) => Answer::Shown(shown),
         Ok(None) => Answer::Unknown,
         Err(Memory) => Answer::Memory,

@@ -6,8 +6,8 @@ use Rattle.fpl_base.specs.declared.kinds.Caller.{Caller}
 use Rattle.fpl_base.specs.declared.outside.KeeperFault.{KeeperFault}
 use Rattle.record_codec.specs.declared.slot.Slot.{Slot}
 use Rattle.season_book.specs.Book.{Book, caller_number, last_number}
-use Rattle.season_book.specs.Doing.{MayAnswerIn}
-use Rattle.season_book.specs.Verdict.{Failures, IsVerdictIn, MayAnswer, Outcome, Verdict, accepted, number_refusal, pass, ruled}
+use Rattle.season_book.specs.Doing.{IsGrantedIn}
+use Rattle.season_book.specs.Verdict.{IsVerdictIn, Outcome, accepted, number_refusal, pass, ruled}
 use Rattle.season_book.specs.declared.answer.Answer.{Answer}
 use Rattle.season_book.specs.declared.answer.Answer.TheVariants as answer
 use Rattle.season_book.specs.declared.command.Command.{Command}
@@ -24,9 +24,9 @@ use Rattle.season_records.specs.Touched.{touched}
 use Rattle.season_rows.specs.Laws.{RowsTellRecords}
 use Rattle.season_running.specs.EntryLaws.{IsOrderlyHost}
 use Rattle.season_running.specs.Standing.{Follows, HostRows, StandsIn}
-use Rattle.season_keeping.specs.Answering.{Commits, EndsCommit, Fails, LeadsOn, MayEnd, StandsOn, StopsCommit, StopsEnding, StopsLeave, WouldAct, answer_of_fault}
+use Rattle.season_keeping.specs.Answering.{Commits, EndsCommit, LeadsOn, StopsEnding, WouldAct}
 use Rattle.season_keeping.specs.Housed.{Backs, Housed}
-use Rattle.season_keeping.proofs.Ending.{acts_of, end_of_fault, end_of_may, leads_map, may_of_end, verdict_of}
+use Rattle.season_keeping.proofs.Ending.{acts_of, granted_of, leads_map, verdict_of}
 use Rattle.season_keeping.proofs.Leading.{commit_leads, commit_stops}
 
 -- Nothing was committed, and the book stays.
@@ -55,6 +55,13 @@ after_rests operator book caller now number command slots after (inr (outcome, n
   where
     some_slot : touched book caller command ≡ [] → ⊥
     some_slot e = cc
+
+-- and one that touched something was granted
+pub granted_where : (operator : List ℕ) (book : Book) (caller : Caller) (now number : ℕ) (command : Command) (slots : List Slot) (after : Book)
+    → Changes operator book caller now number command slots after → (slots ≡ [] → ⊥) → IsGrantedIn operator book caller now (request.Command number command)
+granted_where operator book caller now number command slots after (inl (none, same)) some = absurd (some none)
+granted_where operator book caller now number command slots after (inr (outcome, next, is_ruled, done, touches)) some =
+    granted_of operator book caller now number command outcome next is_ruled
 
 -- A command was accepted, and what it touched was committed.
 

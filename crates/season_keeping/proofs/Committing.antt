@@ -1,5 +1,5 @@
 -- A commit of the batch that rows tell, by what its keeper says.
-use Rattle.std.proofs.Common.{◌≡◌, ◌∙◌, ◌⊎◌, List, Err, Result, OnErr, OnOk, ap, subst, sym, true}
+use Rattle.std.proofs.Common.{◌≡◌, ◌∙◌, ◌⊎◌, List, Err, Result, OnErr, OnOk, ap, subst, true}
 use Rattle.fpl_base.specs.Keeping.{Map, applied}
 use Rattle.fpl_base.specs.declared.outside.KeeperFault.{KeeperFault}
 use Rattle.fpl_base.specs.declared.outside.KeeperFault.TheVariants as fault

@@ -1,5 +1,5 @@
 -- What is answered in a book in which the moment's gameweeks are locked, and in the one before.
-use Rattle.std.proofs.Common.{◌≡◌, ◌∙◌, ◌⊎◌, ◌≤◌, ◌+◌, ℕ, Bool, true, false, List, [], ◌∷◌, Option, Some, None, Ok, Err, Result, arith, ap, inl, inr, refl, subst, sym}
+use Rattle.std.proofs.Common.{◌≡◌, ◌∙◌, ◌⊎◌, ◌≤◌, ◌+◌, ℕ, List, [], ◌∷◌, Option, Some, None, Ok, Err, Result, arith, ap, inl, inr, refl, subst, sym}
 use Rattle.std.proofs.lemmas.Bool.Decides.{nat_tests}
 use Rattle.fpl_base.specs.Causes.{Rose}
 use Rattle.fpl_base.specs.Keeping.{HasKeeperCause, Map}
@@ -7,13 +7,12 @@ use Rattle.fpl_base.specs.declared.kinds.Caller.{Caller}
 use Rattle.fpl_base.specs.declared.outside.KeeperFault.{KeeperFault}
 use Rattle.fpl_base.specs.declared.outside.KeeperFault.TheVariants as fault
 use Rattle.fpl_base.specs.declared.rule.Rule.{Rule}
-use Rattle.record_codec.specs.declared.slot.Slot.{Slot}
 use Rattle.rule_book.specs.ById.{at_id, placed_at}
 use Rattle.rule_book.proofs.AtId.{placed_same}
-use Rattle.season_book.specs.Book.{Book, Last, caller_number, last_number, last_of}
-use Rattle.season_book.specs.Doing.{IsShown, IsStoreless, MayAnswerIn}
+use Rattle.season_book.specs.Book.{Book, Last, caller_number, last_number}
+use Rattle.season_book.specs.Doing.{IsGrant, IsGrantedIn, IsOutLate, IsShown, IsStoreless, MayAnswerIn}
 use Rattle.season_book.specs.Hosts.{number_in}
-use Rattle.season_book.specs.Verdict.{Failures, IsRepeat, IsVerdictIn, MayAnswer, MayBeLeft, Outcome, Verdict, accepted, fresh_verdict, number_refusal, pass, ruled, settled, unless_misnumbered, view_answer}
+use Rattle.season_book.specs.Verdict.{Failures, IsRepeat, IsVerdictIn, MayAnswer, Outcome, Verdict, accepted, fresh_verdict, number_refusal, pass, ruled, settled, unless_misnumbered, view_answer}
 use Rattle.season_book.specs.declared.answer.Answer.{Answer}
 use Rattle.season_book.specs.declared.answer.Answer.TheVariants as answer
 use Rattle.season_book.specs.declared.command.Command.{Command}
@@ -21,7 +20,7 @@ use Rattle.season_book.specs.declared.made.Made.{Made}
 use Rattle.season_book.specs.declared.request.Request.{Request}
 use Rattle.season_book.specs.declared.request.Request.TheVariants as request
 use Rattle.season_book.specs.declared.request.View.{View}
-use Rattle.season_keeping.specs.Answering.{EndsCommit, Fails, IsCaused, LeadsOn, MayEnd, WouldAct, WouldChange, answer_of_fault}
+use Rattle.season_keeping.specs.Answering.{Fails, IsCaused, LeadsOn, MayEnd, WouldAct, WouldChange, answer_of_fault}
 use Rattle.season_keeping.specs.Housed.{Housed}
 
 -- Numbers.
@@ -66,6 +65,11 @@ module _ (operator : List ℕ) (book : Book) (caller : Caller) (now number : ℕ
   acts_of verdict (inl (made, repeat, is)) same = no_repeat book caller number command none made repeat
   acts_of verdict (inr (fresh, is)) same =
       accepted_acts book caller number command outcome none (sym (ap (λ (v : Verdict). v.book.lasts) (is ∙ fresh_is)) ∙ same)
+
+  -- and refuses nothing
+  pub granted_of : IsGrantedIn operator book caller now (request.Command number command)
+  granted_of verdict (inl (made, repeat, is)) = absurd (no_repeat book caller number command none made repeat)
+  granted_of verdict (inr (fresh, is)) = subst (λ (v : Verdict). IsGrant v.answer) (sym (is ∙ fresh_is)) tt
 
 -- a verdict leaves the book, or acts
 abbrev RestsOrActs : Book → Verdict → Type 0
@@ -123,6 +127,12 @@ pub caused_fault : {T : Type 0} (result : Result T KeeperFault) (why : KeeperFau
     → HasKeeperCause failed fails result → IsCaused (record { before = failed; behind = fails }) (answer_of_fault why)
 caused_fault result fault.Failed failed fails is cause = cause.failed is
 caused_fault result fault.Memory failed fails is cause = tt
+
+-- where a request is granted, want of memory may be answered
+pub late_fault : (operator : List ℕ) (book : Book) (caller : Caller) (now : ℕ) (asked : Request) (why : KeeperFault)
+    → IsGrantedIn operator book caller now asked → IsOutLate operator book caller now asked (answer_of_fault why)
+late_fault operator book caller now asked fault.Failed granted = tt
+late_fault operator book caller now asked fault.Memory granted = granted
 
 -- a count that rose behind some calls rose over all of them
 rose_over : (first middle last : ℕ) → first ≤ middle → Rose middle last → Rose first last

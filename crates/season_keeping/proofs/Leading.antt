@@ -1,5 +1,5 @@
 -- What one commit leads to, from a book that a host stands for to another.
-use Rattle.std.proofs.Common.{◌≡◌, ◌∙◌, ◌⊎◌, ℕ, Bool, true≢false, List, true, false, Ok, Err, Result, ap, inl, inr, refl, subst, sym}
+use Rattle.std.proofs.Common.{◌≡◌, ◌∙◌, ◌⊎◌, Bool, true≢false, List, true, false, Ok, Err, Result, ap, inl, inr, refl, subst, sym}
 use Rattle.fpl_base.specs.Keeping.{Map, applied}
 use Rattle.fpl_base.specs.declared.outside.KeeperFault.{KeeperFault}
 use Rattle.fpl_base.specs.declared.outside.KeeperFault.TheVariants as fault

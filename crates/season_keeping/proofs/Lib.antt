@@ -4,3 +4,5 @@ pub mod Ending
 pub mod Acting
 pub mod Committing
 pub mod Loading
+pub mod Wanting
+pub mod Counting

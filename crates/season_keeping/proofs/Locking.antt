@@ -1,5 +1,5 @@
 -- What a lock leads to.
-use Rattle.std.proofs.Common.{◌≡◌, ◌∙◌, ◌==◌, ℕ, true≢false, true, false, Option, Some, None, Result, Ok, Err, ap, arith, refl, subst, sym}
+use Rattle.std.proofs.Common.{◌≡◌, ◌∙◌, ◌==◌, ℕ, [], true≢false, true, false, Option, Some, None, Result, ap, arith, refl, subst, sym}
 use Rattle.std.specs.Prelude.{not}
 use Rattle.std.specs.Option.{option_map, option_map_or}
 use Rattle.std.proofs.lemmas.Bool.Decides.{nat_tests}
@@ -10,6 +10,7 @@ use Rattle.rule_book.specs.Calendar.{after_pass}
 use Rattle.season_book.specs.Book.{Book, Facts}
 use Rattle.season_book.specs.Verdict.{locked_at, pass}
 use Rattle.season_host.specs.Accepted.{locks_more}
+use Rattle.season_host.specs.Cells.{running_in}
 use Rattle.season_items.specs.Staying.{LockedItemsStay, LooksTellItems}
 use Rattle.season_opening.specs.Opening.{IsKeepable}
 use Rattle.season_records.specs.Keeping.{LocksKeepRecords, MomentsAreEarly, NoLockLeavesBook}
@@ -20,7 +21,7 @@ use Rattle.season_rows.specs.Laws.{RowsTellRecords}
 use Rattle.season_running.specs.EntryLaws.{IsOrderlyHost}
 use Rattle.season_running.specs.Standing.{HostRows, StandsIn, passed}
 use Rattle.season_running.proofs.HostFacts.{passed_stands}
-use Rattle.season_keeping.specs.Answering.{Answers, Commits, EndsCommit, LeadsOn, StopsCommit}
+use Rattle.season_keeping.specs.Answering.{Answers, Commits, EndsCommit, StopsCommit}
 use Rattle.season_keeping.specs.Housed.{Backs, Housed}
 use Rattle.season_keeping.proofs.Leading.{commit_leads, commit_stops}
 
@@ -42,6 +43,15 @@ locked_same (Some own) now is facts there =
 pub stays_of : NoLockLeavesBook → (rows : HostRows) (now : ℕ) → locks_more rows.facts now ≡ false
     → (book : Book) → StandsIn rows book → pass book now ≡ book
 stays_of none rows now is book stands = none book now (λ facts there. locked_same rows.facts now is facts (sym stands.facts ∙ there))
+
+-- the facts stay where no gameweek is locked, and so does the season that runs
+facts_stay : NoLockLeavesBook → (o : Option Facts) (now : ℕ) → locks_more o now ≡ false → option_map (locked_at now) o ≡ o
+facts_stay none o now is =
+    ap (λ (b : Book). b.facts) (none (record { facts = o; entries = []; leagues = []; cups = []; lasts = [] }) now (λ facts there. locked_same o now is facts there))
+
+pub running_stays : NoLockLeavesBook → (rows : HostRows) (now : ℕ) → locks_more rows.facts now ≡ false → running_in (passed now rows) ≡ running_in rows
+running_stays none rows now is =
+    ap (λ (o : Option Facts). option_map (λ facts. record { facts = facts; managers = rows.managers; leagues = rows.leagues; cups = rows.cups }) o) (facts_stay none rows.facts now is)
 
 abbrev locked_count : Option Facts → ℕ
 locked_count o = option_map_or (λ f. f.calendar.locked) o 0

@@ -1,22 +1,25 @@
 -- What a host answers over its keeper, and what both are behind it.
-use Rattle.std.specs.Prelude.{◌≡◌, ◌⊎◌, ℕ, ⊤, true, false, List, OnErr, OnOk, Result, Ok, Err}
+use Rattle.std.specs.Prelude.{◌≡◌, ◌≤◌, ◌+◌, ◌⊎◌, ℕ, ⊤, true, false, List, OnErr, OnOk, Result, Ok, Err}
 use Rattle.fpl_base.specs.Causes.{Rose}
 use Rattle.fpl_base.specs.Keeping.{Map, applied}
 use Rattle.fpl_base.specs.declared.kinds.Caller.{Caller}
 use Rattle.fpl_base.specs.declared.outside.KeeperFault.{KeeperFault}
 use Rattle.fpl_base.specs.declared.outside.KeeperFault.TheVariants as fault
 use Rattle.season_book.specs.Book.{Book}
-use Rattle.season_book.specs.Verdict.{Failures, IsVerdict, IsVerdictIn, MayAnswer, MayBeLeft, Verdict, pass}
+use Rattle.season_book.specs.Verdict.{Failures, IsVerdict, IsVerdictIn, Verdict, view_answer}
 use Rattle.season_book.specs.declared.answer.Answer.{Answer}
 use Rattle.season_book.specs.declared.answer.Answer.TheVariants as answer
 use Rattle.season_book.specs.declared.request.Request.{Request}
+use Rattle.season_book.specs.declared.request.Request.TheVariants as request_of
 use Rattle.record_codec.specs.declared.slot.Slot.{Slot}
 use Rattle.season_records.specs.Commits.{HoldsLeft}
 use Rattle.season_records.specs.Records.{records}
 use Rattle.season_records.specs.Touched.{batch}
 use Rattle.season_rows.specs.RowsTold.{told_by}
 use Rattle.season_host.specs.Accepted.{TellItemsBy}
-use Rattle.season_running.specs.Standing.{StandsIn}
+use Rattle.season_host.specs.Cells.{IsCheapCommand}
+use Rattle.season_running.specs.Standing.{HostRows, StandsIn}
+use Rattle.season_views.specs.Reads.{reads_allowed}
 use Rattle.season_keeping.specs.Housed.{Backs, Housed}
 
 -- Answers.
@@ -101,10 +104,33 @@ StopsEnding operator tells holds passes before after old book caller now request
     → (x ≡ records book)
     ⊎ ((due : Answer) × (left : Book) × IsVerdictIn operator book caller now request (record { answer = due; book = left }) × (x ≡ records left))
 
+-- some verdict in that book leaves each caller's last command as it is: the request is refused or repeated, or it is a view
+abbrev pub MayRest : List ℕ → Book → Caller → ℕ → Request → Type 0
+MayRest operator book caller now request =
+    (verdict : Verdict) × IsVerdictIn operator book caller now request verdict × (verdict.book.lasts ≡ book.lasts)
+
+-- What is counted.
+
+-- a command on a season that runs counted at most the reads by which what it touches, and what depends on that, are evaluated,
+-- and beside them at most 2 for each line that it is compared with, and 8; nothing is said of a view
+abbrev pub IsCheapRequest : HostRows → HostRows → Request → ℕ → ℕ → Type 0
+IsCheapRequest before after (request_of.Command number command) old new = IsCheapCommand before after command old new
+IsCheapRequest before after (request_of.View view) old new = ⊤
+
+-- a command counted at most 8 reads; nothing is said of a view
+abbrev pub CountsFew : Request → ℕ → ℕ → Type 0
+CountsFew (request_of.Command number command) old new = new ≤ old + 8
+CountsFew (request_of.View view) old new = ⊤
+
 -- the answer of a keeper's fault
 abbrev pub answer_of_fault : KeeperFault → Answer
 answer_of_fault fault.Failed = answer.Keeper
 answer_of_fault fault.Memory = answer.Memory
+
+-- a view makes no more counted reads than the answer of the book allows
+abbrev pub ReadsFew : Book → Caller → Request → ℕ → ℕ → Type 0
+ReadsFew book caller (request_of.View view) before behind = behind ≤ before + reads_allowed (view_answer book caller view)
+ReadsFew book caller (request_of.Command number command) before behind = ⊤
 
 -- an answer says that the keeper failed only where its count rose meanwhile, and never that a record is damaged
 abbrev pub IsCaused : Failures → Answer → Type 0

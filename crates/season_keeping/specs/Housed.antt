@@ -1,15 +1,17 @@
 -- What a host is over its keeper, and the books whose records the keeper holds.
-use Rattle.std.specs.Prelude.{◌≡◌, Bool, false}
+use Rattle.std.specs.Prelude.{◌≡◌, Bool, Option, false}
 use Rattle.fpl_base.specs.Keeping.{Map}
 use Rattle.season_book.specs.Book.{Book}
 use Rattle.season_records.specs.Records.{records}
+use Rattle.season_cells.specs.Kept.{CellRows}
 use Rattle.season_opening.specs.Opening.{IsKeepable}
 use Rattle.season_running.specs.Standing.{HostRows, StandsIn}
 
--- its rows; whether they are stale, since a call of the keeper failed or memory ran out on the way; and whether the keeper
--- was read again since the host was opened
+-- its rows; its cells, once a season runs; whether they are stale, since a call of the keeper failed or memory ran out on
+-- the way; and whether the keeper was read again since the host was opened
 pub record Housed : Type 0 where
   pub rows : HostRows
+  pub cells : Option CellRows
   pub stale : Bool
   pub reread : Bool
 

@@ -1,5 +1,5 @@
 -- What a host is that was opened over its keeper, or made anew of the keeper's records, and why it was not.
-use Rattle.std.specs.Prelude.{◌≡◌, ℕ, true, false, List, Result, Ok, Err}
+use Rattle.std.specs.Prelude.{◌≡◌, ℕ, false}
 use Rattle.fpl_base.specs.Causes.{Rose}
 use Rattle.fpl_base.specs.Keeping.{Map}
 use Rattle.season_book.specs.Book.{Book}

@@ -1,5 +1,5 @@
 // The host of a season over its keeper.
-ghost use Rattle.std.specs.Prelude.{◌≡◌, ◌≢◌, ◌≤◌, ◌⊎◌, Err, IfOk, IsOk, MatchResult, OnErr, OnOk, false, true};
+ghost use Rattle.std.specs.Prelude.{◌≡◌, ◌≢◌, ◌≤◌, ◌+◌, ◌⊎◌, Err, IfOk, IsOk, MatchResult, OnErr, OnOk, false, true};
 ghost use Rattle.fpl_base.specs.Keeping.{HasKeeperCause, Map};
 ghost use Rattle.season_book.specs.Book.{Book};
 ghost use Rattle.season_book.specs.Commands.{IsCommand};
@@ -12,14 +12,17 @@ ghost use Rattle.season_isolation.specs.Isolation.{ToldAlike};
 ghost use Rattle.season_running.specs.EntryLaws.{IsOrderlyHost};
 ghost use Rattle.season_running.specs.Standing.{StandsIn, keys_in, number_at, passed};
 ghost use Rattle.season_opening.specs.declared.loading.OpenFault.TheVariants as fault;
-ghost use Rattle.season_keeping.specs.Answering.{Answers, Commits, EndsCommit, IsCaused, MayEnd, StopsEnding, StopsLeave, StopsCommit, WouldAct, WouldChange, answer_of_fault};
+ghost use Rattle.season_host.specs.Accepted.{locks_more};
+ghost use Rattle.season_host.specs.Cells.{AreCellsOfHost, AreCorrected, IsCheapCommand, running_in};
+ghost use Rattle.season_keeping.specs.Answering.{Answers, Commits, CountsFew, EndsCommit, IsCaused, IsCheapRequest, MayEnd, MayRest, ReadsFew, StopsEnding, StopsLeave, StopsCommit, WouldAct, WouldChange, answer_of_fault};
 ghost use Rattle.season_keeping.specs.Housed.{Backs};
 ghost use Rattle.season_keeping.specs.Opening.{Opens, Withholds};
 
 use fpl_base::{Caller, Keeper, KeeperFault, Key, Memory, Moment, Steps};
 use record_codec::Slot;
 use season_book::{Answer, Command, Request};
-use season_host::House;
+use season_cells::KeptCells;
+use season_host::{House, answer_command, cells_of, pass};
 use season_isolation::answers_are_isolated;
 use season_items::{items_stay, slots_tell_items};
 use season_opening::{OpenFault, loaded, loaded_rows_stand};
@@ -33,27 +36,38 @@ use std::sync::ledger::Ledger;
 
 /// The host of a season: it judges what is asked, does it, commits what that changed and answers. Where the keeper failed,
 /// or memory ran out on the way, it is stale, and `ready` makes it anew of the keeper's records. A contract sees its rows,
-/// and the books that they stand for (`StandsIn`).
+/// the books that they stand for (`StandsIn`), and its cells, which are those of the rows (`keeps_cells`).
 #[derive(Drop)]
 pub struct Host {
     alloc: Global,
     house: House,
+    cells: Option<KeptCells>,
     stale: bool,
     reread: bool,
 }
 
 impl Model for Host {
+    ghost use Rattle.std.specs.Prelude.{◌≡◌, false};
+    ghost use Rattle.season_host.specs.Accepted.{locks_more};
+    ghost use Rattle.season_host.specs.Cells.{AreCellsOfHost, AreCorrected, running_in};
     ghost use Rattle.season_keeping.specs.Housed.{Housed};
 
     ghost Value = { Housed };
 
-    ghost view = { λ h. record { rows = h.house; stale = h.stale; reread = h.reread } };
+    ghost view = { λ h. record { rows = h.house; cells = h.cells; stale = h.stale; reread = h.reread } };
+
+    ghost invariant = { λ h. h.stale ≡ false → AreCellsOfHost h.house h.cells };
 }
 
 impl Host {
     /// Opens the host of an operator over a keeper: it stands for the books that the keeper's records tell, and has no season
     /// where there is no record.
-    pub fn open<K: Keeper>(alloc: Global, keeper: &mut K, operator: &Key) -> Result<Host, OpenFault>
+    pub fn open<K: Keeper, L: Ledger>(
+        alloc: Global,
+        keeper: &mut K,
+        operator: &Key,
+        steps: &mut Steps<L>,
+    ) -> Result<Host, OpenFault>
         ensures opened { MatchResult result (Opens K.tells K.holds K.passes keeper.old keeper.new) (Withholds K.tells K.holds K.passes K.faults keeper.old keeper.new) }
         ensures operator { IfOk result (λ host. host.rows.operator ≡ operator.now) }
         ensures reread { IfOk result (λ host. host.reread ≡ false) }
@@ -69,19 +83,27 @@ impl Host {
             Err(Memory) => return Err(OpenFault::Memory),
         };
         match loaded(alloc, keeper) {
-            Ok(made) => Ok(Host {
-                alloc,
-                house: House::new(alloc, operator, made.running, made.lasts),
-                stale: false,
-                reread: false,
-            }),
+            Ok(made) => match cells_of(alloc, &made.running, steps) {
+                Ok(cells) => Ok(Host {
+                    alloc,
+                    house: House::new(alloc, operator, made.running, made.lasts),
+                    cells,
+                    stale: false,
+                    reread: false,
+                }),
+                Err(Memory) => Err(OpenFault::Memory),
+            },
             Err(fault) => Err(fault),
         }
     }
 
     /// Makes a stale host anew of the keeper's records. Where that does not go well it is stale still. A host that is not
     /// stale stays as it is, and takes no memory.
-    pub fn ready<K: Keeper>(&mut self, keeper: &mut K) -> Result<(), OpenFault>
+    pub fn ready<K: Keeper, L: Ledger>(
+        &mut self,
+        keeper: &mut K,
+        steps: &mut Steps<L>,
+    ) -> Result<(), OpenFault>
         ensures fresh { self.old.stale ≡ false → IsOk result × (self.new ≡ self.old) × (keeper.new ≡ keeper.old) }
         ensures reread { self.old.stale ≡ true → self.new.reread ≡ true }
         ensures operator { self.new.rows.operator ≡ self.old.rows.operator }
@@ -102,11 +124,15 @@ impl Host {
         }
         self.reread = true;
         match loaded(self.alloc, keeper) {
-            Ok(made) => {
-                self.house.replace(made.running, made.lasts);
-                self.stale = false;
-                Ok(())
-            }
+            Ok(made) => match cells_of(self.alloc, &made.running, steps) {
+                Ok(cells) => {
+                    self.house.replace(made.running, made.lasts);
+                    self.cells = cells;
+                    self.stale = false;
+                    Ok(())
+                }
+                Err(Memory) => Err(OpenFault::Memory),
+            },
             Err(fault) => Err(fault),
         }
     }
@@ -123,6 +149,15 @@ impl Host {
         ensures { result ≡ number_at self.now.rows.lasts caller }
     {
         self.house.last(caller)
+    }
+
+    /// A law: the cells of a host that is not stale are those of its season and its managers: each holds what the rule book
+    /// tells of its node, and none has to be evaluated.
+    pub fn keeps_cells(&self)
+        ensures { self.now.stale ≡ false → AreCellsOfHost self.now.rows self.now.cells }
+    {
+        // For the prover, which learns by a field what every host keeps.
+        let _stale = self.stale;
     }
 
     /// A law: every host is orderly, so what `rows_tell_histories`, `money_is_recorded` and `batches_move_money` say holds in
@@ -150,11 +185,16 @@ impl Host {
             (λ book left. MayAnswer self.old.rows.operator (record { before = K.faults keeper.old; behind = K.faults keeper.new }) book caller now request.now result left) }
         ensures isolated { result ≢ answer_of.Memory → result ≢ answer_of.Keeper → (book : Book) → StandsIn self.old.rows book → ToldAlike self.old.rows.operator book caller now request.now result }
         ensures late { self.new.stale ≡ false → (book : Book) → StandsIn self.old.rows book → IsOutLate self.old.rows.operator (pass book now) caller now request.now result }
+        ensures granted { locks_more self.old.rows.facts now ≡ false → (book : Book) → StandsIn self.old.rows book → IsOutLate self.old.rows.operator (pass book now) caller now request.now result }
+        ensures views { locks_more self.old.rows.facts now ≡ false → (book : Book) → StandsIn self.old.rows book → ReadsFew (pass book now) caller request.now steps.old steps.new }
         ensures changes { result ≡ answer_of.Keeper → (book : Book) → StandsIn self.old.rows book → WouldChange self.old.rows.operator book caller now request.now }
         ensures stale { self.new.stale ≡ true → (result ≡ answer_of.Memory) ⊎ (result ≡ answer_of.Keeper) }
         ensures keeper { result ≡ answer_of.Keeper → self.new.stale ≡ true }
         ensures operator { self.new.rows.operator ≡ self.old.rows.operator }
         ensures reread { self.new.reread ≡ self.old.reread }
+        ensures corrected { locks_more self.old.rows.facts now ≡ false → self.new.stale ≡ false → AreCorrected self.old.rows self.new.rows self.old.cells self.new.cells }
+        ensures cheap { locks_more self.old.rows.facts now ≡ false → self.new.stale ≡ false → IsCheapRequest self.old.rows self.new.rows request.now steps.old steps.new }
+        ensures refused { locks_more self.old.rows.facts now ≡ false → result ≢ answer_of.Memory → (book : Book) → StandsIn self.old.rows book → MayRest self.old.rows.operator (pass book now) caller now request.now → CountsFew request.now steps.old steps.new }
         ensures stops { (book : Book) → StandsIn self.old.rows book → StopsLeave self.old.rows.operator K.tells K.holds K.passes keeper.old keeper.new self.old book caller now request.now }
         ensures caused { IsCaused (record { before = K.faults keeper.old; behind = K.faults keeper.new }) result }
         ensures later { K.faults keeper.old ≤ K.faults keeper.new }
@@ -163,19 +203,28 @@ impl Host {
     {
         // The law that what may be answered is isolated, for the prover.
         answers_are_isolated();
-        match self.lock(keeper, now) {
+        match self.lock(keeper, now, steps) {
             Ok(()) => self.answer_locked(keeper, caller, now, request, steps),
             Err(fault) => fault_answer(fault),
         }
     }
 
-    // Locks the gameweeks whose deadlines have passed, and commits the season's record where one more is locked.
-    fn lock<K: Keeper>(&mut self, keeper: &mut K, now: Moment) -> Result<(), KeeperFault>
+    // Locks the gameweeks whose deadlines have passed; the cells follow, and the season's record is committed where one
+    // more is locked. Where the cells cannot follow, memory ran out, and the host is stale.
+    fn lock<K: Keeper, L: Ledger>(
+        &mut self,
+        keeper: &mut K,
+        now: Moment,
+        steps: &mut Steps<L>,
+    ) -> Result<(), KeeperFault>
         requires fresh { self.old.stale ≡ false }
         ensures rows { self.new.rows ≡ passed now self.old.rows }
+        ensures unlocked { locks_more self.old.rows.facts now ≡ false → (self.new.cells ≡ self.old.cells) × (running_in self.new.rows ≡ running_in self.old.rows) }
+        ensures still { locks_more self.old.rows.facts now ≡ false → steps.new ≡ steps.old }
         ensures reread { self.new.reread ≡ self.old.reread }
         ensures ok { OnOk result (self.new.stale ≡ false) }
         ensures err { OnErr result (self.new.stale ≡ true) }
+        ensures more { OnErr result (locks_more self.old.rows.facts now ≡ true) }
         ensures locks { OnErr result ((book : Book) → StandsIn self.old.rows book → pass book now ≡ book → ⊥) }
         ensures locked { Answers K.tells K.serves K.holds K.passes keeper.old keeper.new self.old self.new (λ book left. EndsCommit result book (pass book now) left) }
         ensures stops { (book : Book) → StandsIn self.old.rows book → StopsCommit K.tells K.holds K.passes keeper.old keeper.new self.old book (pass book now) }
@@ -190,9 +239,13 @@ impl Host {
         rows_tell_records();
         items_stay();
         slots_tell_items();
-        let locks = self.house.pass(now);
+        let passed = pass(&mut self.house, &mut self.cells, now, steps);
         self.house.keeps_order();
-        if locks {
+        if !passed.followed {
+            self.stale = true;
+            return Err(KeeperFault::Memory);
+        }
+        if passed.locks {
             self.commit(keeper, &[Slot::Season])
         } else {
             Ok(())
@@ -201,6 +254,7 @@ impl Host {
 
     // Commits what these slots tell. Where that does not go well the host is stale.
     fn commit<K: Keeper>(&mut self, keeper: &mut K, slots: &[Slot]) -> Result<(), KeeperFault>
+        ensures cells { self.new.cells ≡ self.old.cells }
         ensures commits { Commits K.tells K.serves K.holds K.passes keeper.old keeper.new slots.now self.old self.new result }
         ensures told { K.tells keeper.new → K.tells keeper.old }
         ensures served { K.tells keeper.new → K.serves keeper.new → K.serves keeper.old }
@@ -234,12 +288,16 @@ impl Host {
         requires asked { IsRequest request.now }
         ensures answered { Answers K.tells K.serves K.holds K.passes keeper.old keeper.new self.old self.new
             (λ book left. MayEnd self.old.rows.operator (record { before = K.faults keeper.old; behind = K.faults keeper.new }) book caller now request.now result left) }
-        ensures late { self.new.stale ≡ false → (book : Book) → StandsIn self.old.rows book → IsOutLate self.old.rows.operator book caller now request.now result }
+        ensures late { (book : Book) → StandsIn self.old.rows book → IsOutLate self.old.rows.operator book caller now request.now result }
+        ensures views { (book : Book) → StandsIn self.old.rows book → ReadsFew book caller request.now steps.old steps.new }
         ensures acts { result ≡ answer_of.Keeper → (book : Book) → StandsIn self.old.rows book → WouldAct self.old.rows.operator book caller now request.now }
         ensures stale { self.new.stale ≡ true → (result ≡ answer_of.Memory) ⊎ (result ≡ answer_of.Keeper) }
         ensures keeper { result ≡ answer_of.Keeper → self.new.stale ≡ true }
         ensures operator { self.new.rows.operator ≡ self.old.rows.operator }
         ensures reread { self.new.reread ≡ self.old.reread }
+        ensures corrected { self.new.stale ≡ false → AreCorrected self.old.rows self.new.rows self.old.cells self.new.cells }
+        ensures cheap { self.new.stale ≡ false → IsCheapRequest self.old.rows self.new.rows request.now steps.old steps.new }
+        ensures refused { result ≢ answer_of.Memory → (book : Book) → StandsIn self.old.rows book → MayRest self.old.rows.operator book caller now request.now → CountsFew request.now steps.old steps.new }
         ensures stops { (book : Book) → StandsIn self.old.rows book → StopsEnding self.old.rows.operator K.tells K.holds K.passes keeper.old keeper.new self.old book caller now request.now }
         ensures caused { IsCaused (record { before = K.faults keeper.old; behind = K.faults keeper.new }) result }
         ensures later { K.faults keeper.old ≤ K.faults keeper.new }
@@ -247,7 +305,7 @@ impl Host {
         ensures served { K.tells keeper.new → K.serves keeper.new → K.serves keeper.old }
     {
         match request {
-            Request::View(view) => self.house.answer_view(&caller, *view, steps),
+            Request::View(view) => self.house.answer_view(&self.cells, &caller, *view, steps),
             Request::Command { number, command } => {
                 self.answer_command(keeper, &caller, now, *number, command, steps)
             }
@@ -269,12 +327,15 @@ impl Host {
         requires command { IsCommand command.now }
         ensures answered { Answers K.tells K.serves K.holds K.passes keeper.old keeper.new self.old self.new
             (λ book left. MayEnd self.old.rows.operator (record { before = K.faults keeper.old; behind = K.faults keeper.new }) book caller.now now (request_of.Command number command.now) result left) }
-        ensures late { self.new.stale ≡ false → (book : Book) → StandsIn self.old.rows book → IsOutLate self.old.rows.operator book caller.now now (request_of.Command number command.now) result }
+        ensures late { (book : Book) → StandsIn self.old.rows book → IsOutLate self.old.rows.operator book caller.now now (request_of.Command number command.now) result }
         ensures acts { result ≡ answer_of.Keeper → (book : Book) → StandsIn self.old.rows book → WouldAct self.old.rows.operator book caller.now now (request_of.Command number command.now) }
         ensures stale { self.new.stale ≡ true → (result ≡ answer_of.Memory) ⊎ (result ≡ answer_of.Keeper) }
         ensures keeper { result ≡ answer_of.Keeper → self.new.stale ≡ true }
         ensures operator { self.new.rows.operator ≡ self.old.rows.operator }
         ensures reread { self.new.reread ≡ self.old.reread }
+        ensures corrected { self.new.stale ≡ false → AreCorrected self.old.rows self.new.rows self.old.cells self.new.cells }
+        ensures cheap { self.new.stale ≡ false → IsCheapCommand self.old.rows self.new.rows command.now steps.old steps.new }
+        ensures refused { result ≢ answer_of.Memory → (book : Book) → StandsIn self.old.rows book → MayRest self.old.rows.operator book caller.now now (request_of.Command number command.now) → steps.new ≤ steps.old + 8 }
         ensures stops { (book : Book) → StandsIn self.old.rows book → StopsEnding self.old.rows.operator K.tells K.holds K.passes keeper.old keeper.new self.old book caller.now now (request_of.Command number command.now) }
         ensures caused { IsCaused (record { before = K.faults keeper.old; behind = K.faults keeper.new }) result }
         ensures later { K.faults keeper.old ≤ K.faults keeper.new }
@@ -288,10 +349,21 @@ impl Host {
         rows_tell_records();
         items_stay();
         slots_tell_items();
-        let answered = self
-            .house
-            .answer_command(caller, now, number, command, steps);
+        let answered = answer_command(
+            self.alloc,
+            &mut self.house,
+            &mut self.cells,
+            caller,
+            now,
+            number,
+            command,
+            steps,
+        );
         self.house.keeps_order();
+        if !answered.followed {
+            self.stale = true;
+            return Answer::Memory;
+        }
         if answered.slots.as_slice().is_empty() {
             return answered.answer;
         }

@@ -1,8 +1,8 @@
 -- Lists that a loop makes, one more element at a time.
-use Rattle.std.proofs.Common.{◌≡◌, ◌<◌, ◌≤◌, ◌+◌, ◌==◌, ◌||◌, ◌∷◌, [], ◌++◌, ℕ, Bool, true, false, cond, if◌then◌else◌, List, Option, Some, is_some, length, get_or, map, take, arith, refl, sym, ap, ◌∙◌, subst}
+use Rattle.std.proofs.Common.{◌≡◌, ◌<◌, ◌≤◌, ◌+◌, ◌==◌, ◌||◌, ◌∷◌, [], ◌++◌, ℕ, Bool, true, false, cond, if◌then◌else◌, List, Option, Some, is_some, length, get_or, map, take, drop, arith, refl, sym, ap, ◌∙◌, subst}
 use Rattle.std.specs.Prelude.{IfSome}
 use Rattle.std.specs.List.{slice_get, filter, flat_map, fold, list_any}
-use Rattle.std.proofs.lemmas.List.{take_all, take_more, map-append, append-nil, flat_map_more}
+use Rattle.std.proofs.lemmas.List.{at_drop_all, at_drop_more, take_all, take_more, map-append, append-nil, flat_map_more}
 use Rattle.std.proofs.lemmas.List.Elements.{filter_more}
 use Rattle.std.proofs.lemmas.List.Sums.{fold_push}
 use Rattle.std.proofs.lemmas.Option.{slice_get-get_or}
@@ -63,3 +63,25 @@ fold_more f b xs i x within is = sym (fold_push f b (take i xs) x) ∙ ap (fold 
 -- a list whose first n are made of the first n of another, where neither has more
 pub made_whole : {X Y : Type 0} (f : X → Y) (xs : List X) (ys : List Y) (n : ℕ) → length xs ≤ n → length ys ≤ n → take n ys ≡ map f (take n xs) → ys ≡ map f xs
 made_whole f xs ys n short also made = sym (take_all n ys also) ∙ made ∙ ap (map f) (take_all n xs short)
+
+any_append : (t : ℕ → Bool) (xs ys : List ℕ) → list_any t (xs ++ ys) ≡ (list_any t xs || list_any t ys)
+any_append t [] ys = refl
+any_append t (x ∷ xs) ys = ap (λ b. t x || b) (any_append t xs ys) ∙ parts (t x) (list_any t xs) (list_any t ys)
+  where
+    parts : (x y z : Bool) → (x || (y || z)) ≡ ((x || y) || z)
+    parts true y z = refl
+    parts false y z = refl
+
+-- whether one of the lists has an element that passes
+pub any_flat : (t : ℕ → Bool) (f : ℕ → List ℕ) (xs : List ℕ) → list_any (λ x. list_any t (f x)) xs ≡ list_any t (flat_map f xs)
+any_flat t f [] = refl
+any_flat t f (x ∷ xs) = ap (λ b. list_any t (f x) || b) (any_flat t f xs) ∙ sym (any_append t (f x) (flat_map f xs))
+
+-- an element that passes, in the rest of a list that has all that pass
+pub any_found : (t : ℕ → Bool) (xs : List ℕ) (i x : ℕ) → i < length xs → x ≡ get_or xs i x → list_any t xs ≡ list_any t (drop i xs) → t x ≡ true → list_any t xs ≡ true
+any_found t xs i x within is rest passes =
+    rest ∙ at_drop_more (list_any t) xs i x within ∙ ap (λ y. t y || list_any t (drop (i + 1) xs)) (sym is) ∙ ap (λ b. b || list_any t (drop (i + 1) xs)) passes
+
+-- and none
+pub any_none : (t : ℕ → Bool) (xs : List ℕ) (i : ℕ) → length xs ≤ i → list_any t xs ≡ list_any t (drop i xs) → list_any t xs ≡ false
+any_none t xs i past rest = rest ∙ at_drop_all (list_any t) xs i past

@@ -5,6 +5,7 @@ use Rattle.fpl_base.specs.declared.kinds.Profile.{Profile}
 use Rattle.rule_book.specs.declared.player.Player.{Player}
 use Rattle.rule_book.specs.declared.team.Team.{Team}
 use Rattle.rule_book.specs.Calendar.{CalendarFacts}
+use Rattle.rule_book.specs.Leagues.{LeagueFacts}
 use Rattle.rule_book.specs.MatchFacts.{MatchFacts}
 use Rattle.season_ledger.specs.Rows.{cost_by, first_in}
 use Rattle.manager_book.specs.Calls.{team_at}
@@ -20,9 +21,9 @@ no_team = record { picks = []; captain = 0; vice = 0; bank = 0; chip = NoChip }
 abbrev pub team_told : Managers → ℕ → ℕ → Team
 team_told managers e g = unwrap_or (team_at (season_of managers e) g) no_team
 
--- the facts of a profile, a calendar, players, matches and managers
-abbrev pub facts_with : Profile → CalendarFacts → List Player → MatchFacts → Managers → SeasonFacts
-facts_with profile calendar players matches managers = record {
+-- the facts of a profile, a calendar, players, matches, managers and leagues
+abbrev pub facts_with : Profile → CalendarFacts → List Player → MatchFacts → Managers → List LeagueFacts → SeasonFacts
+facts_with profile calendar players matches managers leagues = record {
   profile = profile;
   calendar = calendar;
   players = players;
@@ -31,8 +32,9 @@ facts_with profile calendar players matches managers = record {
   first = λ e. first_in (season_of managers e);
   team = team_told managers;
   cost = λ e g. cost_by managers.profile (season_of managers e) g;
+  leagues = leagues;
 }
 
 -- the facts of the books
 abbrev pub facts_of : Books → SeasonFacts
-facts_of b = facts_with b.profile b.calendar.now b.players.now b.matches.now b.managers.now
+facts_of b = facts_with b.profile b.calendar.now b.players.now b.matches.now b.managers.now b.leagues.now

@@ -1,15 +1,25 @@
 -- The nodes of which a node is an input, told by the facts.
-use Rattle.std.specs.Prelude.{ℕ, if◌then◌else◌, List, [], ◌∷◌, Option, Some, None, map}
-use Rattle.std.specs.List.{flat_map}
+use Rattle.std.specs.Prelude.{ℕ, Bool, true, false, ◌&&◌, nat_le, if◌then◌else◌, List, [], ◌∷◌, ◌++◌, Option, Some, None, length, map, slice_index}
+use Rattle.std.specs.List.{filter, flat_map, range_with_len}
 use Rattle.std.specs.Option.{option_map_or, option_and_then}
 use Rattle.rule_book.specs.Calendar.{stands_in}
+use Rattle.rule_book.specs.LeagueCalls.{leagues_of}
+use Rattle.rule_book.specs.LeagueRows.{place_of}
+use Rattle.rule_book.specs.declared.pairing.Opponent.{Opponent}
+use Rattle.rule_book.specs.declared.pairing.Opponent.TheVariants.{Place, Average}
 use Rattle.season_nodes.specs.declared.nodes.Node.{Node}
 use Rattle.season_nodes.specs.declared.nodes.Node.TheVariants as node
-use Rattle.season_nodes.specs.Season.{SeasonFacts, is_live, players_of}
+use Rattle.season_nodes.specs.Rounds.{has_average, order_in}
+use Rattle.season_nodes.specs.Season.{SeasonFacts, has_round, is_live, match_node, opponent_in, players_of, starts_of}
 
 -- of a player's gameweek: the gameweeks of the entries that hold him there
 abbrev pub gameweek_dependents : List ℕ → ℕ → List Node
 gameweek_dependents entries g = map (λ e. node.TeamGw e g) entries
+
+-- whether an opponent is the Average
+abbrev pub is_average : Opponent → Bool
+is_average (Place j) = false
+is_average Average = true
 
 module _ (b : SeasonFacts) where
   -- the gameweek in which a fixture stands, where that of a player is live
@@ -28,9 +38,48 @@ module _ (b : SeasonFacts) where
   abbrev pub bonus_dependents : ℕ → List Node
   bonus_dependents f = flat_map (counting f) (players_of b f)
 
-  -- of each node, where it is told which entries hold a player in a gameweek; of an entry's gameweek none
+  -- the totals of an entry from a gameweek or from one before it on
+  abbrev pub total_dependents : ℕ → ℕ → List Node
+  total_dependents e g = map (node.Total e) (filter (λ s. nat_le 1 s && nat_le s g) (starts_of b e))
+
+  -- the place of an entry in the order of a league that has a round in a gameweek
+  abbrev pub place_in : ℕ → ℕ → ℕ → Option ℕ
+  place_in e g l = if has_round b l g then place_of (order_in b.leagues l) e else None
+
+  -- the Average of a league in a gameweek, if it plays
+  abbrev pub average_if : ℕ → ℕ → List Node
+  average_if l g = if has_average (length (order_in b.leagues l)) then node.Average l g ∷ [] else []
+
+  -- of an entry's gameweek, in a league: its match, and the Average
+  abbrev pub round_dependents : ℕ → ℕ → ℕ → List Node
+  round_dependents e g l = option_map_or (λ i. match_node b l i g ∷ average_if l g) (place_in e g l) []
+
+  -- of an entry's gameweek: its totals from that one or from one before it on, and what its leagues have of it
+  abbrev pub team_dependents : ℕ → ℕ → List Node
+  team_dependents e g = total_dependents e g ++ flat_map (round_dependents e g) (leagues_of b.leagues e)
+
+  -- of the Average of a league in a gameweek: the match of whom it meets
+  abbrev pub average_dependents : ℕ → ℕ → List Node
+  average_dependents l g =
+      map (node.Match l g) (filter (λ i. is_average (opponent_in b l g i)) (range_with_len 0 (length (order_in b.leagues l))))
+
+  -- the row of an opponent in a league; none of the Average
+  abbrev pub opponent_dependents : ℕ → Opponent → List Node
+  opponent_dependents l (Place j) = node.HeadRow l (slice_index (order_in b.leagues l) j) ∷ []
+  opponent_dependents l Average = []
+
+  -- of a match: the rows of the two who meet
+  abbrev pub match_dependents : ℕ → ℕ → ℕ → List Node
+  match_dependents l g i =
+      node.HeadRow l (slice_index (order_in b.leagues l) i) ∷ opponent_dependents l (opponent_in b l g i)
+
+  -- of each node, where it is told which entries hold a player in a gameweek; of a total and of a row none
   abbrev pub dependents_of : (ℕ → ℕ → List ℕ) → Node → List Node
   dependents_of holders (node.Line f p) = line_dependents f p
   dependents_of holders (node.Bonus f) = bonus_dependents f
   dependents_of holders (node.PlayerGw p g) = gameweek_dependents (holders p g) g
-  dependents_of holders (node.TeamGw e g) = []
+  dependents_of holders (node.TeamGw e g) = team_dependents e g
+  dependents_of holders (node.Total e s) = []
+  dependents_of holders (node.Average l g) = average_dependents l g
+  dependents_of holders (node.Match l g i) = match_dependents l g i
+  dependents_of holders (node.HeadRow l e) = []

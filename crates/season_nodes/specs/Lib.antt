@@ -3,6 +3,10 @@ pub mod Dependents
 pub mod Held
 pub mod IndexFacts
 pub mod NodeOrder
+pub mod Places
 pub mod Reading
+pub mod RoundLaws
+pub mod Rounds
+pub mod RowsTold
 pub mod Season
 pub mod SeasonLaws

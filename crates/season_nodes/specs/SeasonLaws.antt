@@ -1,13 +1,19 @@
 -- A season is a graph.
-use Rattle.std.proofs.Common.{◌≡◌, ℕ, ◌<◌, ◌==◌, Bool, true, false, ◌&&◌, nat_le, nat_lt, if◌then◌else◌, cond, ◌⊎◌, inl, inr, ⊎_elim, List, [], ◌∷◌, Option, Some, is_some, length, map, refl, ◌∙◌, ap, ap₂, subst, arith}
-use Rattle.std.specs.List.{filter}
-use Rattle.std.specs.Option.{unwrap_or}
-use Rattle.std.proofs.lemmas.Bool.Decides.{nat_tests}
+use Rattle.std.proofs.Common.{◌≡◌, ℕ, ◌+◌, ◌-◌, ◌<◌, ◌≤◌, ◌==◌, Bool, true, false, ◌&&◌, nat_le, nat_lt, if◌then◌else◌, cond, ◌⊎◌, inl, inr, ⊎_elim, List, [], ◌∷◌, ℤ, pos, Option, Some, None, is_some, length, map, refl, sym, ◌∙◌, ap, ap₂, subst, arith}
+use Rattle.std.specs.List.{filter, slice_index}
+use Rattle.std.specs.Option.{option_map_or, unwrap_or}
+use Rattle.std.proofs.lemmas.Bool.Decides.{leb_tells, nat_tests}
 use Rattle.rule_book.specs.declared.line.Line.{Line}
+use Rattle.rule_book.specs.declared.pairing.Opponent.{Opponent}
+use Rattle.rule_book.specs.declared.pairing.Opponent.TheVariants.{Place, Average}
 use Rattle.rule_book.specs.declared.team_score.Figures.{Figures}
 use Rattle.rule_book.specs.ById.{at_id}
 use Rattle.rule_book.specs.Calendar.{standing}
+use Rattle.rule_book.specs.HeadToHead.{head_score, total_of}
+use Rattle.rule_book.specs.LeagueRows.{place_of}
+use Rattle.rule_book.specs.Opponents.{mean_of}
 use Rattle.rule_book.specs.ScoreOfTeam.{score_of}
+use Rattle.rule_book.specs.Totals.{gameweeks}
 use Rattle.rule_book.specs.MatchFacts.{Lines, is_finished, line_in, lines_of, players_in}
 use Rattle.rescore_graph.specs.Graph.{IsGraph, Among}
 use Rattle.season_nodes.specs.declared.nodes.LineWorth.{LineWorth}
@@ -15,8 +21,11 @@ use Rattle.season_nodes.specs.declared.nodes.Node.{Node}
 use Rattle.season_nodes.specs.declared.nodes.Node.TheVariants as node
 use Rattle.season_nodes.specs.declared.nodes.Value.{Value}
 use Rattle.season_nodes.specs.declared.nodes.Value.TheVariants as value
-use Rattle.season_nodes.specs.Reading.{map_local, filter_local, fold_local, from_filter, to_filter, from_map, to_map, from_flat, to_flat}
-use Rattle.season_nodes.specs.Season.{SeasonFacts, worth_in, bonuses_in, took_part, with_bonus, no_figures, with_worth, gathered, figures_held, has_begun, has_line, is_there, players_of, fielded_in, fifteen_of, fixtures_of, ended, is_live, inputs_of, own_value, level_of, season_graph, IsSeason}
+use Rattle.season_nodes.specs.Places.{at_place}
+use Rattle.season_nodes.specs.Reading.{among_either, among_left, among_right, map_local, filter_local, fold_local, from_filter, to_filter, from_map, to_map, from_flat, to_flat, from_range, to_range}
+use Rattle.season_nodes.specs.RoundLaws.{lower_is, met_average}
+use Rattle.season_nodes.specs.Rounds.{has_average, order_in, start_in}
+use Rattle.season_nodes.specs.Season.{SeasonFacts, worth_in, bonuses_in, took_part, with_bonus, no_figures, with_worth, gathered, average_held, figures_held, net_held, scores_held, seen_from, counted_gameweeks, has_begun, has_start, has_line, is_there, players_of, fielded_in, fifteen_of, fixtures_of, ended, has_round, is_live, is_lower, lower_in, match_node, match_nodes, matches_by, met_in, net_by, opponent_in, opponent_inputs, points_by, seen_by, team_if, inputs_of, own_value, level_of, season_graph, IsSeason}
 
 same_test : (n m : ℕ) → n ≡ m → (n == m) ≡ true
 same_test n m e = grind (arith, nat_tests)
@@ -61,6 +70,181 @@ pub first_true : (x y : Bool) → (x && y) ≡ true → x ≡ true
 first_true true y e = refl
 first_true false y e = e
 
+within : (h n : ℕ) → h ≤ n → nat_le h n ≡ true
+within h n e = ⊎_elim (λ a. a.0) (λ a. let x : n < h = a.1 in absurd (omega arith)) (leb_tells h n)
+
+at_most : (h n : ℕ) → nat_le h n ≡ true → h ≤ n
+at_most h n e = grind (arith, nat_tests)
+
+later_case : (o : Option ℕ) (g h : ℕ) → option_map_or (λ first. nat_le first g) o false ≡ true → g ≤ h → option_map_or (λ first. nat_le first h) o false ≡ true
+later_case None g h e up = absurd (cc)
+later_case (Some first) g h e up = let low : first ≤ g = at_most first g e in within first h (omega (arith, low, up))
+
+module _ (b : SeasonFacts) where
+  -- who has begun in a gameweek has begun in each later one
+  pub begun_later : (e g h : ℕ) → has_begun b e g ≡ true → g ≤ h → has_begun b e h ≡ true
+  begun_later e g h l up =
+      let issued = nat_le 1 e && nat_le e b.entries in
+      both_true issued (option_map_or (λ first. nat_le first h) (b.first e) false)
+      (first_true issued (option_map_or (λ first. nat_le first g) (b.first e) false) l)
+      (later_case (b.first e) g h (second_true issued (option_map_or (λ first. nat_le first g) (b.first e) false) l) up)
+
+  -- a counted gameweek is one from there on, up to the last that is locked, in which the entry has begun
+  pub from_counted : (e s g : ℕ) → Among (counted_gameweeks b e s) g → (s ≤ g) × (g ≤ b.calendar.locked) × (has_begun b e g ≡ true)
+  from_counted e s g a =
+      let r = from_filter (has_begun b e) (gameweeks s b.calendar.locked) g a in
+      let k = from_range s ((b.calendar.locked + 1) - s) g r.0 in
+      (k.0, omega (arith, k.0, k.1), r.1)
+
+  pub to_counted : (e s g : ℕ) → s ≤ g → g ≤ b.calendar.locked → has_begun b e g ≡ true → Among (counted_gameweeks b e s) g
+  to_counted e s g low high begun = to_filter (has_begun b e) (gameweeks s b.calendar.locked) g
+      (to_range s ((b.calendar.locked + 1) - s) g low (omega arith)) begun
+
+  -- of a live total the entry has begun, and its gameweek is a start of the entry, and locked
+  pub total_alive : (e s : ℕ) → is_live b (node.Total e s) ≡ true → (has_begun b e b.calendar.locked ≡ true) × (has_start b e s ≡ true) × (1 ≤ s) × (s ≤ b.calendar.locked)
+  total_alive e s l =
+      let starts = has_begun b e b.calendar.locked && has_start b e s in
+      let locked = nat_le 1 s && nat_le s b.calendar.locked in
+      let one = first_true starts locked l in
+      let two = second_true starts locked l in (
+        first_true (has_begun b e b.calendar.locked) (has_start b e s) one,
+        second_true (has_begun b e b.calendar.locked) (has_start b e s) one,
+        at_most 1 s (first_true (nat_le 1 s) (nat_le s b.calendar.locked) two),
+        at_most s b.calendar.locked (second_true (nat_le 1 s) (nat_le s b.calendar.locked) two),
+      )
+
+  pub total_lives : (e s : ℕ) → has_begun b e b.calendar.locked ≡ true → has_start b e s ≡ true → 1 ≤ s → s ≤ b.calendar.locked → is_live b (node.Total e s) ≡ true
+  total_lives e s begun starts low high =
+      both_true (has_begun b e b.calendar.locked && has_start b e s) (nat_le 1 s && nat_le s b.calendar.locked)
+      (both_true (has_begun b e b.calendar.locked) (has_start b e s) begun starts)
+      (both_true (nat_le 1 s) (nat_le s b.calendar.locked) (within 1 s low) (within s b.calendar.locked high))
+
+below : (h n : ℕ) → nat_lt h n ≡ true → h < n
+below h n e = grind (arith, nat_tests)
+
+pub below_test : (h n : ℕ) → h < n → nat_lt h n ≡ true
+below_test h n e = grind (arith, nat_tests)
+
+one_case : (t : Bool) (n m : Node) → Among (if t then n ∷ [] else []) m → (t ≡ true) × (n ≡ m)
+one_case true n m (inl e) = (refl, e)
+one_case true n m (inr a) = absurd a
+one_case false n m a = absurd a
+
+pub some_of : {X : Type 0} (o : Option X) → is_some o ≡ true → (x : X) × (o ≡ Some x)
+some_of None e = absurd (cc)
+some_of (Some x) e = (x, refl)
+
+-- What the inputs of the nodes of head-to-head leagues are.
+module _ (b : SeasonFacts) where
+  -- a gameweek of an entry, if it is live
+  pub from_team : (e g : ℕ) (m : Node) → Among (team_if b e g) m → (is_live b (node.TeamGw e g) ≡ true) × (node.TeamGw e g ≡ m)
+  from_team e g m a = one_case (is_live b (node.TeamGw e g)) (node.TeamGw e g) m a
+
+  pub to_team : (e g : ℕ) → is_live b (node.TeamGw e g) ≡ true → Among (team_if b e g) (node.TeamGw e g)
+  to_team e g l = subst (λ t. Among (if t then node.TeamGw e g ∷ [] else []) (node.TeamGw e g)) (sym l) (inl refl)
+
+  -- of an Average: the live gameweeks of those in the order
+  pub from_average : (l g : ℕ) (m : Node) → Among (inputs_of b (node.Average l g)) m
+      → (e : ℕ) × (Among (order_in b.leagues l) e × (is_live b (node.TeamGw e g) ≡ true) × (node.TeamGw e g ≡ m))
+  from_average l g m a =
+      let r = from_map (λ e. node.TeamGw e g) (filter (λ e. is_live b (node.TeamGw e g)) (order_in b.leagues l)) m a in
+      let f = from_filter (λ e. is_live b (node.TeamGw e g)) (order_in b.leagues l) r.0 r.1.0 in
+      (r.0, (f.0, f.1, r.1.1))
+
+  pub to_average : (l g e : ℕ) → Among (order_in b.leagues l) e → is_live b (node.TeamGw e g) ≡ true → Among (inputs_of b (node.Average l g)) (node.TeamGw e g)
+  to_average l g e a live =
+      to_map (λ e. node.TeamGw e g) (filter (λ e. is_live b (node.TeamGw e g)) (order_in b.leagues l)) e
+      (to_filter (λ e. is_live b (node.TeamGw e g)) (order_in b.leagues l) e a live)
+
+  -- the live gameweek of who stands at a place
+  abbrev pub IsOfPlace : ℕ → ℕ → ℕ → Node → Type 0
+  IsOfPlace l g j m = (is_live b (node.TeamGw (slice_index (order_in b.leagues l) j) g) ≡ true) × (node.TeamGw (slice_index (order_in b.leagues l) j) g ≡ m)
+
+  -- what a node is to an opponent: the live gameweek of a member, or the Average
+  abbrev pub IsOfOpponent : ℕ → ℕ → Node → Opponent → Type 0
+  IsOfOpponent l g m o = ((j : ℕ) × ((o ≡ Place j) × IsOfPlace l g j m)) ⊎ ((o ≡ Average) × (node.Average l g ≡ m))
+
+  from_opponent : (l g : ℕ) (o : Opponent) (m : Node) → Among (opponent_inputs b l g o) m → IsOfOpponent l g m o
+  from_opponent l g (Place j) m a = inl (j, (refl, from_team (slice_index (order_in b.leagues l) j) g m a))
+  from_opponent l g Average m (inl e) = inr (refl, e)
+  from_opponent l g Average m (inr a) = absurd a
+
+  -- of a match: what is one of the place, and what is one of its opponent
+  pub from_match : (l g i : ℕ) (m : Node) → Among (inputs_of b (node.Match l g i)) m → IsOfPlace l g i m ⊎ IsOfOpponent l g m (opponent_in b l g i)
+  from_match l g i m a =
+      let own = slice_index (order_in b.leagues l) i in
+      ⊎_elim (λ x. inl (from_team own g m x)) (λ x. inr (from_opponent l g (opponent_in b l g i) m x))
+      (among_either (team_if b own g) (opponent_inputs b l g (opponent_in b l g i)) m a)
+
+  pub to_match_own : (l g i : ℕ) → is_live b (node.TeamGw (slice_index (order_in b.leagues l) i) g) ≡ true
+      → Among (inputs_of b (node.Match l g i)) (node.TeamGw (slice_index (order_in b.leagues l) i) g)
+  to_match_own l g i live =
+      let own = slice_index (order_in b.leagues l) i in
+      among_left (team_if b own g) (opponent_inputs b l g (opponent_in b l g i)) (node.TeamGw own g) (to_team own g live)
+
+  pub to_match_met : (l g i j : ℕ) → opponent_in b l g i ≡ Place j → is_live b (node.TeamGw (slice_index (order_in b.leagues l) j) g) ≡ true
+      → Among (inputs_of b (node.Match l g i)) (node.TeamGw (slice_index (order_in b.leagues l) j) g)
+  to_match_met l g i j meets live =
+      let other = slice_index (order_in b.leagues l) j in
+      among_right (team_if b (slice_index (order_in b.leagues l) i) g) (opponent_inputs b l g (opponent_in b l g i)) (node.TeamGw other g)
+      (subst (λ o. Among (opponent_inputs b l g o) (node.TeamGw other g)) (sym meets) (to_team other g live))
+
+  pub to_match_average : (l g i : ℕ) → opponent_in b l g i ≡ Average → Among (inputs_of b (node.Match l g i)) (node.Average l g)
+  to_match_average l g i meets =
+      among_right (team_if b (slice_index (order_in b.leagues l) i) g) (opponent_inputs b l g (opponent_in b l g i)) (node.Average l g)
+      (subst (λ o. Among (opponent_inputs b l g o) (node.Average l g)) (sym meets) (inl refl))
+
+  -- of a live match: the league has a round, the place is one of the order, and below whom it meets
+  pub match_alive : (l g i : ℕ) → is_live b (node.Match l g i) ≡ true → (has_round b l g ≡ true) × (i < length (order_in b.leagues l)) × (i < met_in b l g i)
+  match_alive l g i l' =
+      let low = second_true (has_round b l g) (is_lower b l g i) l' in (
+        first_true (has_round b l g) (is_lower b l g i) l',
+        below i (length (order_in b.leagues l)) (first_true (nat_lt i (length (order_in b.leagues l))) (nat_lt i (met_in b l g i)) low),
+        below i (met_in b l g i) (second_true (nat_lt i (length (order_in b.leagues l))) (nat_lt i (met_in b l g i)) low),
+      )
+
+  pub match_lives : (l g i : ℕ) → has_round b l g ≡ true → i < length (order_in b.leagues l) → i < met_in b l g i → is_live b (node.Match l g i) ≡ true
+  match_lives l g i round within low =
+      both_true (has_round b l g) (is_lower b l g i) round
+      (both_true (nat_lt i (length (order_in b.leagues l))) (nat_lt i (met_in b l g i)) (below_test i (length (order_in b.leagues l)) within) (below_test i (met_in b l g i) low))
+
+  -- the match of a place of an order is live
+  pub own_match_lives : (l i g : ℕ) → has_round b l g ≡ true → i < length (order_in b.leagues l) → is_live b (match_node b l i g) ≡ true
+  own_match_lives l i g round within =
+      let low = lower_is (length (order_in b.leagues l)) (g - start_in b.leagues l) i within in
+      match_lives l g (lower_in b l g i) round low.0 low.1
+
+  pub round_within : (l g : ℕ) → has_round b l g ≡ true → (start_in b.leagues l ≤ g) × (g ≤ b.calendar.locked)
+  round_within l g round = (
+    at_most (start_in b.leagues l) g (first_true (nat_le (start_in b.leagues l) g) (nat_le g b.calendar.locked) round),
+    at_most g b.calendar.locked (second_true (nat_le (start_in b.leagues l) g) (nat_le g b.calendar.locked) round),
+  )
+
+  pub has_round_in : (l g : ℕ) → start_in b.leagues l ≤ g → g ≤ b.calendar.locked → has_round b l g ≡ true
+  has_round_in l g low high =
+      both_true (nat_le (start_in b.leagues l) g) (nat_le g b.calendar.locked) (within (start_in b.leagues l) g low) (within g b.calendar.locked high)
+
+  -- of a row: the matches of a place in the gameweeks in which the league has a round
+  abbrev pub IsOfRow : ℕ → ℕ → Node → ℕ → ℕ → Type 0
+  IsOfRow l e m i g = (place_of (order_in b.leagues l) e ≡ Some i) × (has_round b l g ≡ true) × (match_node b l i g ≡ m)
+
+  row_case : (l e : ℕ) (m : Node) (o : Option ℕ) → place_of (order_in b.leagues l) e ≡ o → Among (option_map_or (match_nodes b l) o []) m → (i : ℕ) × ((g : ℕ) × IsOfRow l e m i g)
+  row_case l e m None is a = absurd a
+  row_case l e m (Some i) is a =
+      let r = from_map (match_node b l i) (gameweeks (start_in b.leagues l) b.calendar.locked) m a in
+      let k = from_range (start_in b.leagues l) ((b.calendar.locked + 1) - start_in b.leagues l) r.0 r.1.0 in
+      (i, (r.0, (is, has_round_in l r.0 k.0 (omega (arith, k.0, k.1)), r.1.1)))
+
+  pub from_row : (l e : ℕ) (m : Node) → Among (inputs_of b (node.HeadRow l e)) m → (i : ℕ) × ((g : ℕ) × IsOfRow l e m i g)
+  from_row l e m a = row_case l e m (place_of (order_in b.leagues l) e) refl a
+
+  pub to_row : (l e i g : ℕ) → place_of (order_in b.leagues l) e ≡ Some i → has_round b l g ≡ true → Among (inputs_of b (node.HeadRow l e)) (match_node b l i g)
+  to_row l e i g place round =
+      let k = round_within l g round in
+      subst (λ o. Among (option_map_or (match_nodes b l) o []) (match_node b l i g)) (sym place)
+      (to_map (match_node b l i) (gameweeks (start_in b.leagues l) b.calendar.locked) g
+      (to_range (start_in b.leagues l) ((b.calendar.locked + 1) - start_in b.leagues l) g k.0 (omega (arith, k.0, k.1))))
+
 module _ (b : SeasonFacts) (is : IsSeason b) where
   live : (n m : Node) → is_live b n ≡ true → Among (inputs_of b n) m → is_live b m ≡ true
   live (node.Line f p) m l a = absurd a
@@ -80,6 +264,28 @@ module _ (b : SeasonFacts) (is : IsSeason b) where
       (both_true (is_there b r.0) (nat_le 1 g && nat_le g b.calendar.locked)
       (from_filter (is_there b) (fifteen_of b k g) r.0 r.1.0).1
       (second_true (has_begun b k g) (nat_le 1 g && nat_le g b.calendar.locked) l))
+  live (node.Total e s) m l a =
+      let r = from_map (node.TeamGw e) (counted_gameweeks b e s) m a in
+      let c = from_counted b e s r.0 r.1.0 in
+      let alive = total_alive b e s l in
+      subst (λ q. is_live b q ≡ true) r.1.1
+      (both_true (has_begun b e r.0) (nat_le 1 r.0 && nat_le r.0 b.calendar.locked) c.2
+      (both_true (nat_le 1 r.0) (nat_le r.0 b.calendar.locked) (within 1 r.0 (omega (arith, c.0, alive.2))) (within r.0 b.calendar.locked c.1)))
+  live (node.Average l g) m alive a =
+      let r = from_average b l g m a in
+      subst (λ q. is_live b q ≡ true) r.1.2 r.1.1
+  live (node.Match l g i) m alive a =
+      let is_one = match_alive b l g i alive in
+      let n = length (order_in b.leagues l) in
+      ⊎_elim (λ own. subst (λ q. is_live b q ≡ true) own.1 own.0)
+      (⊎_elim (λ met. subst (λ q. is_live b q ≡ true) met.1.1.1 met.1.1.0)
+      (λ average. subst (λ q. is_live b q ≡ true) average.1
+      (both_true (has_round b l g) (has_average n) is_one.0 (met_average n (g - start_in b.leagues l) i is_one.1 average.0))))
+      (from_match b l g i m a)
+  live (node.HeadRow l e) m alive a =
+      let r = from_row b l e m a in
+      subst (λ q. is_live b q ≡ true) r.1.1.2
+      (own_match_lives b l r.0 r.1.0 r.1.1.1 (at_place (order_in b.leagues l) e r.0 r.1.1.0).0)
 
   lower : (n m : Node) → is_live b n ≡ true → Among (inputs_of b n) m → level_of m < level_of n
   lower (node.Line f p) m l a = absurd a
@@ -88,6 +294,13 @@ module _ (b : SeasonFacts) (is : IsSeason b) where
       let r = from_flat (λ f. node.Line f p ∷ node.Bonus f ∷ []) (fixtures_of b p g) m a in
       ⊎_elim (λ e. subst (λ q. level_of q < 2) e (omega arith)) (⊎_elim (λ e. subst (λ q. level_of q < 2) e (omega arith)) (λ x. absurd x)) r.1.1
   lower (node.TeamGw k g) m l a = let r = from_map (λ p. node.PlayerGw p g) (fielded_in b k g) m a in subst (λ q. level_of q < 3) r.1.1 (omega arith)
+  lower (node.Total e s) m l a = let r = from_map (node.TeamGw e) (counted_gameweeks b e s) m a in subst (λ q. level_of q < 4) r.1.1 (omega arith)
+  lower (node.Average l g) m alive a = let r = from_average b l g m a in subst (λ q. level_of q < 4) r.1.2 (omega arith)
+  lower (node.Match l g i) m alive a =
+      ⊎_elim (λ own. subst (λ q. level_of q < 5) own.1 (omega arith))
+      (⊎_elim (λ met. subst (λ q. level_of q < 5) met.1.1.1 (omega arith)) (λ average. subst (λ q. level_of q < 5) average.1 (omega arith)))
+      (from_match b l g i m a)
+  lower (node.HeadRow l e) m alive a = let r = from_row b l e m a in subst (λ q. level_of q < 6) r.1.1.2 (omega arith)
 
   took_part_local : (w x : ℕ → LineWorth) (ps : List ℕ) → ((p : ℕ) → Among ps p → w p ≡ x p) → took_part w ps ≡ took_part x ps
   took_part_local w x ps e =
@@ -102,6 +315,27 @@ module _ (b : SeasonFacts) (is : IsSeason b) where
   fielded_local : (t : Bool) (x y : Figures) → (t ≡ true → x ≡ y) → (if t then x else no_figures) ≡ (if t then y else no_figures)
   fielded_local true x y e = e refl
   fielded_local false x y e = refl
+
+  net_case : (t : Bool) (x y : ℤ) → (t ≡ true → x ≡ y) → (if t then x else pos 0) ≡ (if t then y else pos 0)
+  net_case true x y e = e refl
+  net_case false x y e = refl
+
+  net_local : (v u : Node → Option Value) (e g : ℕ) → (is_live b (node.TeamGw e g) ≡ true → v (node.TeamGw e g) ≡ u (node.TeamGw e g)) → net_by b v e g ≡ net_by b u e g
+  net_local v u e g same = net_case (is_live b (node.TeamGw e g)) (net_held (v (node.TeamGw e g))) (net_held (u (node.TeamGw e g))) (λ y. ap net_held (same y))
+
+  points_local : (v u : Node → Option Value) (l g : ℕ) (o : Opponent) → ((m : Node) → Among (opponent_inputs b l g o) m → v m ≡ u m) → points_by b v l g o ≡ points_by b u l g o
+  points_local v u l g (Place j) same =
+      let other = slice_index (order_in b.leagues l) j in
+      net_local v u other g (λ y. same (node.TeamGw other g) (to_team b other g y))
+  points_local v u l g Average same = ap average_held (same (node.Average l g) (inl refl))
+
+  row_local : (v u : Node → Option Value) (l : ℕ) (o : Option ℕ) → ((m : Node) → Among (option_map_or (match_nodes b l) o []) m → v m ≡ u m)
+      → option_map_or (matches_by b v l) o [] ≡ option_map_or (matches_by b u l) o []
+  row_local v u l None same = refl
+  row_local v u l (Some i) same =
+      let those = gameweeks (start_in b.leagues l) b.calendar.locked in
+      map_local (seen_by b v l i) (seen_by b u l i) those
+      (λ g a. ap (λ o. seen_from (nat_lt i (met_in b l g i)) (scores_held o)) (same (match_node b l i g) (to_map (match_node b l i) those g a)))
 
   local : (n : Node) → is_live b n ≡ true → (v u : Node → Option Value) → ((m : Node) → Among (inputs_of b n) m → v m ≡ u m) → own_value b n v ≡ own_value b n u
   local (node.Line f p) l v u e = refl
@@ -121,6 +355,19 @@ module _ (b : SeasonFacts) (is : IsSeason b) where
       (λ pick a. fielded_local (is_there b pick.player) (figures_held (v (node.PlayerGw pick.player g))) (figures_held (u (node.PlayerGw pick.player g)))
       (λ y. ap figures_held (e (node.PlayerGw pick.player g) (to_map (λ p. node.PlayerGw p g) (fielded_in b k g) pick.player
       (to_filter (is_there b) (fifteen_of b k g) pick.player (to_map (λ x. x.player) (b.team k g).picks pick a) y))))))
+  local (node.Total k s) l v u e = ap (λ nets. value.Total (total_of nets))
+      (map_local (λ g. net_held (v (node.TeamGw k g))) (λ g. net_held (u (node.TeamGw k g))) (counted_gameweeks b k s)
+      (λ g a. ap net_held (e (node.TeamGw k g) (to_map (node.TeamGw k) (counted_gameweeks b k s) g a))))
+  local (node.Average l g) alive v u e = ap (λ nets. value.Average (mean_of nets))
+      (map_local (λ k. net_by b v k g) (λ k. net_by b u k g) (order_in b.leagues l)
+      (λ k a. net_local v u k g (λ y. e (node.TeamGw k g) (to_average b l g k a y))))
+  local (node.Match l g i) alive v u e =
+      let own = slice_index (order_in b.leagues l) i in
+      let those = opponent_inputs b l g (opponent_in b l g i) in
+      ap₂ (λ x y. value.Match (x, y))
+      (net_local v u own g (λ y. e (node.TeamGw own g) (to_match_own b l g i y)))
+      (points_local v u l g (opponent_in b l g i) (λ m a. e m (among_right (team_if b own g) those m a)))
+  local (node.HeadRow l k) alive v u e = ap (λ matches. value.HeadRow (head_score matches)) (row_local v u l (place_of (order_in b.leagues l) k) e)
 
   pub season_lawful : IsGraph (season_graph b)
   season_lawful = record { inputs_live = live; inputs_lower = lower; local = local }

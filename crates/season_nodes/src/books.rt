@@ -1,14 +1,17 @@
 // What the operator and the managers handed in, as it now stands.
-ghost use Rattle.std.specs.Prelude.{◌≡◌, ◌+◌, false, nat_le, is_some, IfSome};
+ghost use Rattle.std.specs.Prelude.{◌≡◌, ◌+◌, ◌==◌, false, nat_le, is_some, IfSome};
+ghost use Rattle.std.specs.List.{flat_map, list_any};
 ghost use Rattle.std.specs.Option.{option_map_or};
 ghost use Rattle.season_ledger.specs.Rows.{is_begun_by, standing_at, team_in};
+ghost use Rattle.rule_book.specs.LeagueCalls.{leagues_of};
 ghost use Rattle.rule_book.specs.PlayerFigures.{position_in};
 ghost use Rattle.season_nodes.specs.BookFacts.{facts_of};
-ghost use Rattle.season_nodes.specs.Season.{ended, has_begun, has_line, is_live, is_there};
+ghost use Rattle.season_nodes.specs.Season.{classic_start, classic_starts, ended, has_begun, has_line, has_start, is_live, is_there, start_of_classic};
 ghost use Rattle.season_nodes.specs.declared.nodes.Node.{Node};
 
 use crate::nodes::Node;
-use fpl_base::{EntryId, FixtureId, Gw, PlayerId, Position, Profile, Steps};
+use classic_leagues::{League, LeagueKind, Leagues};
+use fpl_base::{EntryId, FixtureId, Gw, LeagueId, PlayerId, Position, Profile, Steps};
 use manager_book::ManagerBook;
 use match_facts::MatchFacts;
 use player_prices::Players;
@@ -30,6 +33,8 @@ pub struct Books<'a> {
     pub matches: &'a MatchFacts,
     /// The entries: when each began, its team in each gameweek, and what its transfers cost.
     pub managers: &'a ManagerBook,
+    /// The leagues: who is in each, and with which gameweek it starts.
+    pub leagues: &'a Leagues,
 }
 
 impl Books<'_> {
@@ -100,28 +105,75 @@ impl Books<'_> {
         self.is_there(player) && gameweek.get() <= self.calendar.locked()
     }
 
-    // Whether an entry has begun in a gameweek.
-    fn has_begun(&self, entry: EntryId, gameweek: Gw) -> bool
+    /// Whether an entry has begun in the gameweek of a number. In gameweek 0, where none is locked, nobody has.
+    pub fn has_begun(&self, entry: EntryId, gameweek: u8) -> bool
         ensures { result ≡ has_begun (facts_of self.now) entry gameweek }
     {
         entry.get() <= self.managers.entries() && self.begins_by(entry, gameweek)
     }
 
-    // Whether the first gameweek of an entry is a gameweek or one before it.
-    fn begins_by(&self, entry: EntryId, gameweek: Gw) -> bool
+    // Whether the first gameweek of an entry is that of a number or one before it.
+    fn begins_by(&self, entry: EntryId, gameweek: u8) -> bool
         ensures { result ≡ option_map_or (λ first. nat_le first gameweek) ((facts_of self.now).first entry) false }
     {
         match self.managers.first(entry) {
-            Some(first) => first.get() <= gameweek.get(),
+            Some(first) => first.get() <= gameweek,
             None => false,
         }
     }
 
-    // Whether an entry has a gameweek.
-    fn has_team(&self, entry: EntryId, gameweek: Gw) -> bool
+    /// The first gameweek of the classic league of a number; `None` of a head-to-head league, and where there is none.
+    pub fn classic_start(&self, league: LeagueId) -> Option<Gw>
+        ensures { result ≡ classic_start self.now.leagues.now league }
+    {
+        match self.leagues.get(league) {
+            Some(league) => start_of_classic(league),
+            None => None,
+        }
+    }
+
+    // Whether the league of a number is a classic one that starts with a gameweek.
+    fn starts_with(&self, league: LeagueId, start: Gw) -> bool
+        ensures { result ≡ list_any (λ k. start == k) (classic_starts self.now.leagues.now league) }
+    {
+        match self.classic_start(league) {
+            Some(gameweek) => start == gameweek,
+            None => false,
+        }
+    }
+
+    // Whether a classic league of an entry starts with a gameweek.
+    fn has_league_from(&self, entry: EntryId, start: Gw) -> bool
+        ensures { result ≡ list_any (λ k. start == k) (flat_map (classic_starts self.now.leagues.now) (leagues_of self.now.leagues.now entry)) }
+    {
+        for league in self.leagues.leagues_of(entry) {
+            if self.starts_with(*league, start) {
+                return true;
+            }
+        }
+        false
+    }
+
+    // Whether a gameweek is the first, or that with which a classic league of an entry starts.
+    fn has_start(&self, entry: EntryId, start: Gw) -> bool
+        ensures { result ≡ has_start (facts_of self.now) entry start }
+    {
+        start.get() == 1 || self.has_league_from(entry, start)
+    }
+
+    // Whether an entry has a total from a gameweek on.
+    fn has_total(&self, entry: EntryId, start: Gw) -> bool
+        ensures { result ≡ is_live (facts_of self.now) (Node.Total entry start) }
+    {
+        let locked = self.calendar.locked();
+        self.has_begun(entry, locked) && self.has_start(entry, start) && start.get() <= locked
+    }
+
+    /// Whether an entry has a gameweek.
+    pub fn has_team(&self, entry: EntryId, gameweek: Gw) -> bool
         ensures { result ≡ is_live (facts_of self.now) (Node.TeamGw entry gameweek) }
     {
-        self.has_begun(entry, gameweek) && gameweek.get() <= self.calendar.locked()
+        self.has_begun(entry, gameweek.get()) && gameweek.get() <= self.calendar.locked()
     }
 
     /// Whether a node is live.
@@ -133,7 +185,21 @@ impl Books<'_> {
             Node::Bonus(fixture) => !self.matches.players_of(fixture).is_empty(),
             Node::PlayerGw(player, gameweek) => self.has_gameweek(player, gameweek),
             Node::TeamGw(entry, gameweek) => self.has_team(entry, gameweek),
+            Node::Total(entry, start) => self.has_total(entry, start),
+            Node::Average(league, gameweek) => self.has_average_in(league, gameweek),
+            Node::Match(league, gameweek, place) => self.has_match(league, gameweek, place),
+            Node::HeadRow(league, entry) => self.has_row(league, entry),
         }
+    }
+}
+
+// The first gameweek of a classic league; `None` of a head-to-head league.
+fn start_of_classic(league: &League) -> Option<Gw>
+    ensures { result ≡ start_of_classic league.now }
+{
+    match league.kind() {
+        LeagueKind::Classic => Some(league.start()),
+        LeagueKind::Head => None,
     }
 }
 

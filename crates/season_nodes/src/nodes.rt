@@ -1,14 +1,17 @@
 // The nodes of a season, and what is kept of each.
 ghost use Rattle.std.specs.Prelude.{◌≡◌, ◌↔◌, ◌++◌, ◌∷◌, [], IsTrue, OnOk, OnErr, Some, refl};
+ghost use Rattle.std.specs.Hash as fed;
 ghost use Rattle.std.specs.Ordering.{eq_by_cmp};
 ghost use Rattle.std.specs.Cmp.{eq_by_cmp_equiv, partial_equiv_from_equiv, po};
+ghost use Rattle.rule_book.specs.FigureRange.{IsWithin};
 ghost use Rattle.rule_book.specs.TeamScores.{IsModest};
-ghost use Rattle.season_nodes.specs.NodeOrder.{kind_of, first_of, second_of, node_cmp, node_total};
+ghost use Rattle.season_nodes.specs.NodeOrder.{kind_of, first_of, second_of, third_of, node_cmp, node_total, same_numbers};
 
-use fpl_base::{EntryId, FixtureId, Gw, Memory, PlayerId};
-use rule_book::{Figures, TeamScore};
+use fpl_base::{EntryId, FixtureId, Gw, LeagueId, Memory, PlayerId};
+use rule_book::{Figures, HeadScore, TeamScore};
 use std::alloc::Global;
 use std::cmp::Ordering;
+use std::hash::{Hash, Hasher};
 use std::marker::Model;
 
 /// What has a value. Nodes are ordered by kind, and then by their numbers.
@@ -22,6 +25,15 @@ pub enum Node {
     PlayerGw(PlayerId, Gw),
     /// An entry's gameweek.
     TeamGw(EntryId, Gw),
+    /// An entry's total from a gameweek on.
+    Total(EntryId, Gw),
+    /// The Average of a head-to-head league in a gameweek.
+    Average(LeagueId, Gw),
+    /// A match of a head-to-head league in a gameweek, by the lower of its two places in the order of the draw. Places
+    /// are counted from 0; the Average's is the one behind the members.
+    Match(LeagueId, Gw, u8),
+    /// A member's row of a head-to-head league.
+    HeadRow(LeagueId, EntryId),
 }
 
 impl Node {
@@ -34,6 +46,10 @@ impl Node {
             Node::Bonus(_) => 1,
             Node::PlayerGw(..) => 2,
             Node::TeamGw(..) => 3,
+            Node::Total(..) => 4,
+            Node::Average(..) => 5,
+            Node::Match(..) => 6,
+            Node::HeadRow(..) => 7,
         }
     }
 
@@ -46,6 +62,10 @@ impl Node {
             Node::Bonus(fixture) => fixture.get(),
             Node::PlayerGw(player, _) => player.get(),
             Node::TeamGw(entry, _) => entry.get(),
+            Node::Total(entry, _) => entry.get(),
+            Node::Average(league, _) => league.get(),
+            Node::Match(league, _, _) => league.get(),
+            Node::HeadRow(league, _) => league.get(),
         }
     }
 
@@ -58,6 +78,26 @@ impl Node {
             Node::Bonus(_) => 0,
             Node::PlayerGw(_, gameweek) => u32::from(gameweek.get()),
             Node::TeamGw(_, gameweek) => u32::from(gameweek.get()),
+            Node::Total(_, start) => u32::from(start.get()),
+            Node::Average(_, gameweek) => u32::from(gameweek.get()),
+            Node::Match(_, gameweek, _) => u32::from(gameweek.get()),
+            Node::HeadRow(_, entry) => entry.get(),
+        }
+    }
+
+    // Its third number, or 0 where it has none.
+    fn third(&self) -> u8
+        ensures { result ≡ third_of self.now }
+    {
+        match self {
+            Node::Line(..) => 0,
+            Node::Bonus(_) => 0,
+            Node::PlayerGw(..) => 0,
+            Node::TeamGw(..) => 0,
+            Node::Total(..) => 0,
+            Node::Average(..) => 0,
+            Node::Match(_, _, place) => *place,
+            Node::HeadRow(..) => 0,
         }
     }
 }
@@ -96,10 +136,30 @@ impl Ord for Node {
     ghost matches_eq = { λ n m. refl };
 
     fn cmp(&self, other: &Node) -> Ordering {
-        self.kind()
-            .cmp(&other.kind())
-            .then(self.first().cmp(&other.first()))
-            .then(self.second().cmp(&other.second()))
+        // The later numbers are read only where the earlier ones are the same, since most comparisons end before them.
+        match self.kind().cmp(&other.kind()) {
+            Ordering::Equal => match self.first().cmp(&other.first()) {
+                Ordering::Equal => match self.second().cmp(&other.second()) {
+                    Ordering::Equal => self.third().cmp(&other.third()),
+                    decided => decided,
+                },
+                decided => decided,
+            },
+            decided => decided,
+        }
+    }
+}
+
+impl Hash for Node {
+    ghost hash_input = { λ n. fed.u8 (kind_of n) ++ fed.u32 (first_of n) ++ fed.u32 (second_of n) ++ fed.u8 (third_of n) };
+
+    ghost respects_eq = { same_numbers (λ k x y z. fed.u8 k ++ fed.u32 x ++ fed.u32 y ++ fed.u8 z) };
+
+    fn hash<H: Hasher>(&self, state: &mut H) {
+        self.kind().hash(state);
+        self.first().hash(state);
+        self.second().hash(state);
+        self.third().hash(state);
     }
 }
 
@@ -113,7 +173,15 @@ pub enum Value {
     /// What the player did in the gameweek, bonus included.
     PlayerGw(GameweekFigures),
     /// What the entry's team scored in the gameweek.
-    TeamGw(TeamScore),
+    TeamGw(GameweekScore),
+    /// The points after deductions of the entry over the locked gameweeks from that one on.
+    Total(i32),
+    /// The points of the Average.
+    Average(AveragePoints),
+    /// What each of the two scored.
+    Match(MatchScores),
+    /// What the member has of its matches.
+    HeadRow(HeadScore),
 }
 
 /// What a line is worth without bonus, and what a gameweek takes from it.
@@ -166,6 +234,116 @@ impl GameweekFigures {
         ensures modest { IsModest result }
     {
         self.figures
+    }
+}
+
+/// What a team scored in a gameweek: at most 18 million points after deductions, above or below 0. A contract sees the
+/// score itself.
+#[derive(Drop)]
+pub struct GameweekScore {
+    score: TeamScore,
+}
+
+impl Model for GameweekScore {
+    ghost use Rattle.rule_book.specs.declared.team_score.TeamScore.{TeamScore};
+    ghost use Rattle.rule_book.specs.FigureRange.{IsWithin};
+
+    ghost Value = { TeamScore };
+
+    ghost view = { λ g. g.score };
+
+    ghost invariant = { λ g. IsWithin 18000000 g.score.net };
+}
+
+impl GameweekScore {
+    /// This score.
+    pub fn new(score: TeamScore) -> Self
+        requires { IsWithin 18000000 score.net }
+        ensures { result ≡ score }
+    {
+        GameweekScore { score }
+    }
+
+    /// The score itself.
+    pub fn get(&self) -> &TeamScore
+        ensures value { result.now ≡ self.now }
+        ensures near { IsWithin 18000000 result.now.net }
+    {
+        &self.score
+    }
+}
+
+/// The points of the Average in a gameweek: at most 18 million, above or below 0. A contract sees the number.
+#[derive(Drop)]
+pub struct AveragePoints {
+    points: i32,
+}
+
+impl Model for AveragePoints {
+    ghost use Rattle.std.specs.Prelude.{ℤ};
+    ghost use Rattle.rule_book.specs.FigureRange.{IsWithin};
+
+    ghost Value = { ℤ };
+
+    ghost view = { λ a. a.points };
+
+    ghost invariant = { λ a. IsWithin 18000000 a.points };
+}
+
+impl AveragePoints {
+    /// So many points.
+    pub fn new(points: i32) -> Self
+        requires { IsWithin 18000000 points }
+        ensures { result ≡ points }
+    {
+        AveragePoints { points }
+    }
+
+    /// How many they are.
+    pub fn get(&self) -> i32
+        ensures value { result ≡ self.now }
+        ensures near { IsWithin 18000000 result }
+    {
+        self.points
+    }
+}
+
+/// What the two of a match scored in its gameweek, each at most 18 million points after deductions, above or below 0. A
+/// contract sees a pair: the points of the lower place, and those of whom it meets.
+#[derive(Drop)]
+pub struct MatchScores {
+    low: i32,
+    high: i32,
+}
+
+impl Model for MatchScores {
+    ghost use Rattle.std.specs.Prelude.{ℤ};
+    ghost use Rattle.rule_book.specs.FigureRange.{IsWithin};
+
+    ghost Value = { ℤ × ℤ };
+
+    ghost view = { λ m. (m.low, m.high) };
+
+    ghost invariant = { λ m. IsWithin 18000000 m.low × IsWithin 18000000 m.high };
+}
+
+impl MatchScores {
+    /// These points of the lower place, and these of whom it meets.
+    pub fn new(low: i32, high: i32) -> Self
+        requires low { IsWithin 18000000 low }
+        requires high { IsWithin 18000000 high }
+        ensures { result ≡ (low, high) }
+    {
+        MatchScores { low, high }
+    }
+
+    /// The points of both, the lower place's first.
+    pub fn get(&self) -> (i32, i32)
+        ensures value { result ≡ self.now }
+        ensures low { IsWithin 18000000 result.0 }
+        ensures high { IsWithin 18000000 result.1 }
+    {
+        (self.low, self.high)
     }
 }
 
@@ -228,7 +406,23 @@ pub fn is_same(a: &Value, b: &Value) -> bool
             _ => false,
         },
         Value::TeamGw(x) => match b {
-            Value::TeamGw(y) => is_same_score(x, y),
+            Value::TeamGw(y) => is_same_score(x.get(), y.get()),
+            _ => false,
+        },
+        Value::Total(x) => match b {
+            Value::Total(y) => *x == *y,
+            _ => false,
+        },
+        Value::Average(x) => match b {
+            Value::Average(y) => x.get() == y.get(),
+            _ => false,
+        },
+        Value::Match(x) => match b {
+            Value::Match(y) => are_same_scores(x, y),
+            _ => false,
+        },
+        Value::HeadRow(x) => match b {
+            Value::HeadRow(y) => *x == *y,
             _ => false,
         },
     }
@@ -239,6 +433,15 @@ fn is_same_score(a: &TeamScore, b: &TeamScore) -> bool
     ensures { IsTrue result ↔ (a.now ≡ b.now) }
 {
     *a == *b
+}
+
+// Whether the scores of two matches are the same.
+fn are_same_scores(a: &MatchScores, b: &MatchScores) -> bool
+    ensures { IsTrue result ↔ (a.now ≡ b.now) }
+{
+    let (low, high) = a.get();
+    let (other_low, other_high) = b.get();
+    low == other_low && high == other_high
 }
 
 fn are_same_rows(rows: &[(PlayerId, u8)], others: &[(PlayerId, u8)]) -> bool

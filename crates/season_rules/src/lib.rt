@@ -2,8 +2,12 @@
 //! a node come from the books, but for the entries that hold a player, which the index tells.
 #![tactic(auto)]
 
+mod heads;
+mod rounds;
 mod rules;
 mod teams;
+mod totals;
 mod worth;
 
 pub use rules::{SeasonCells, SeasonRules};
+pub use worth::{bonus_among, figures_in, worth_in};

@@ -1,19 +1,26 @@
 // The rules by which the nodes of a season have values.
-ghost use Rattle.std.specs.Prelude.{◌≡◌, ◌+◌, ◌≤◌, true, filter, map, IfOk, IsTrue, ◌↔◌};
+ghost use Rattle.std.specs.Prelude.{◌≡◌, ◌+◌, ◌≤◌, ◌&&◌, nat_le, true, filter, map, IfOk, IsTrue, ◌↔◌};
 ghost use Rattle.season_nodes.specs.BookFacts.{facts_of};
-ghost use Rattle.season_nodes.specs.Dependents.{live_gameweek, line_dependents, bonus_dependents, gameweek_dependents};
+ghost use Rattle.season_nodes.specs.Dependents.{live_gameweek, line_dependents, bonus_dependents, gameweek_dependents, team_dependents, total_dependents};
 ghost use Rattle.season_nodes.specs.IndexFacts.{IsIndex, holders_in};
 ghost use Rattle.season_nodes.specs.NodeOrder.{node_exact};
-ghost use Rattle.season_nodes.specs.Season.{IsSeason, has_begun, is_there, season_graph, inputs_of};
+ghost use Rattle.season_nodes.specs.Season.{IsSeason, has_begun, is_there, season_graph, inputs_of, starts_of};
 ghost use Rattle.season_nodes.specs.SeasonLaws.{season_lawful};
 ghost use Rattle.season_nodes.specs.declared.nodes.Node.{Node};
 
+use crate::heads::{average_points, head_row, match_scores};
+use crate::rounds::{
+    average_dependents, average_inputs, match_dependents, match_inputs, row_inputs, with_round,
+};
 use crate::teams::team_gameweek;
+use crate::totals::{counted_at, locked_from, total};
 use crate::worth::{bonuses, gameweek_figures, line_worth};
 use fpl_base::{EntryId, FixtureId, Gw, Memory, PlayerId, Steps};
 use rescore_graph::{Cells, Rules};
 use rule_book::Pick;
-use season_nodes::{Books, GameweekFigures, Index, Node, Value, is_same};
+use season_nodes::{
+    AveragePoints, Books, GameweekFigures, GameweekScore, Index, Node, Value, is_same,
+};
 use std::alloc::Global;
 use std::sync::ledger::Ledger;
 
@@ -147,6 +154,87 @@ fn gameweek_dependents(
     Ok(found)
 }
 
+// The inputs of an entry's total: its locked gameweeks from one on.
+fn total_inputs(
+    books: &Books,
+    alloc: Global,
+    entry: EntryId,
+    start: Gw,
+) -> Result<Vec<Node>, Memory>
+    ensures { IfOk result
+        (λ ns. ns.items ≡ inputs_of (facts_of books.now) (Node.Total entry start)) }
+{
+    let mut found = Vec::new(alloc);
+    for place in 0..locked_from(books, start) {
+        if let Some(gameweek) = counted_at(books, entry, start, place) {
+            found.push(Node::TeamGw(entry, gameweek))?;
+        }
+    }
+    Ok(found)
+}
+
+// The gameweeks from which an entry has a total.
+fn starts_of(books: &Books, alloc: Global, entry: EntryId) -> Result<Vec<Gw>, Memory>
+    ensures { IfOk result (λ starts. starts.items ≡ starts_of (facts_of books.now) entry) }
+{
+    let Some(first) = Gw::new(1) else {
+        unreachable!()
+    };
+    let mut starts = Vec::new(alloc);
+    starts.push(first)?;
+    for league in books.leagues.leagues_of(entry) {
+        if let Some(start) = books.classic_start(*league) {
+            starts.push(start)?;
+        }
+    }
+    Ok(starts)
+}
+
+// Whether a gameweek is another or one before it.
+fn starts_by(start: Gw, gameweek: Gw) -> bool
+    ensures { result ≡ (nat_le 1 start && nat_le start gameweek) }
+{
+    start.get() <= gameweek.get()
+}
+
+// The totals of an entry from a gameweek or from one before it on.
+fn total_dependents(
+    books: &Books,
+    alloc: Global,
+    entry: EntryId,
+    gameweek: Gw,
+) -> Result<Vec<Node>, Memory>
+    ensures { IfOk result
+        (λ ns. ns.items ≡ total_dependents (facts_of books.now) entry gameweek) }
+{
+    let starts = starts_of(books, alloc, entry)?;
+    let mut found = Vec::new(alloc);
+    for start in &starts {
+        if starts_by(*start, gameweek) {
+            found.push(Node::Total(entry, *start))?;
+        }
+    }
+    Ok(found)
+}
+
+// The nodes of which an entry's gameweek is an input: its totals from that one or from one before it on, and what its
+// leagues have of it.
+fn team_dependents(
+    books: &Books,
+    alloc: Global,
+    entry: EntryId,
+    gameweek: Gw,
+) -> Result<Vec<Node>, Memory>
+    ensures { IfOk result
+        (λ ns. ns.items ≡ team_dependents (facts_of books.now) entry gameweek) }
+{
+    let mut found = total_dependents(books, alloc, entry, gameweek)?;
+    for league in books.leagues.leagues_of(entry) {
+        found = with_round(found, books, entry, gameweek, *league)?;
+    }
+    Ok(found)
+}
+
 /// The rules by which the nodes of a season have values.
 #[derive(Drop)]
 pub struct SeasonRules<'a> {
@@ -171,6 +259,10 @@ impl Rules for SeasonRules<'_> {
             Node::Bonus(_) => 1,
             Node::PlayerGw(..) => 2,
             Node::TeamGw(..) => 3,
+            Node::Total(..) => 4,
+            Node::Average(..) => 4,
+            Node::Match(..) => 5,
+            Node::HeadRow(..) => 6,
         }
     }
 
@@ -184,6 +276,14 @@ impl Rules for SeasonRules<'_> {
             Node::TeamGw(entry, gameweek) => {
                 Ok(team_inputs(&self.books, alloc, entry, gameweek)?)
             }
+            Node::Total(entry, start) => Ok(total_inputs(&self.books, alloc, entry, start)?),
+            Node::Average(league, gameweek) => {
+                Ok(average_inputs(&self.books, alloc, league, gameweek)?)
+            }
+            Node::Match(league, gameweek, place) => {
+                Ok(match_inputs(&self.books, alloc, league, gameweek, place)?)
+            }
+            Node::HeadRow(league, entry) => Ok(row_inputs(&self.books, alloc, league, entry)?),
         }
     }
 
@@ -196,7 +296,17 @@ impl Rules for SeasonRules<'_> {
             Node::PlayerGw(player, gameweek) => {
                 Ok(gameweek_dependents(self.index, alloc, player, gameweek)?)
             }
-            Node::TeamGw(..) => Ok(Vec::new(alloc)),
+            Node::TeamGw(entry, gameweek) => {
+                Ok(team_dependents(&self.books, alloc, entry, gameweek)?)
+            }
+            Node::Total(..) => Ok(Vec::new(alloc)),
+            Node::Average(league, gameweek) => {
+                Ok(average_dependents(&self.books, alloc, league, gameweek)?)
+            }
+            Node::Match(league, gameweek, place) => {
+                Ok(match_dependents(&self.books, alloc, league, gameweek, place)?)
+            }
+            Node::HeadRow(..) => Ok(Vec::new(alloc)),
         }
     }
 
@@ -219,7 +329,24 @@ impl Rules for SeasonRules<'_> {
                 Ok(Value::PlayerGw(GameweekFigures::new(figures)))
             }
             Node::TeamGw(entry, gameweek) => {
-                Ok(Value::TeamGw(team_gameweek(&self.books, entry, gameweek, cells, steps)))
+                let score = team_gameweek(&self.books, entry, gameweek, cells, steps);
+                Ok(Value::TeamGw(GameweekScore::new(score)))
+            }
+            Node::Total(entry, start) => {
+                Ok(Value::Total(total(&self.books, entry, start, cells, steps)))
+            }
+            Node::Average(league, gameweek) => {
+                let points = average_points(&self.books, alloc, league, gameweek, cells, steps)?;
+                Ok(Value::Average(AveragePoints::new(points)))
+            }
+            Node::Match(league, gameweek, place) => {
+                let place = usize::from(place);
+                let scores = match_scores(&self.books, league, gameweek, place, cells, steps);
+                Ok(Value::Match(scores))
+            }
+            Node::HeadRow(league, entry) => {
+                let score = head_row(&self.books, alloc, league, entry, cells, steps)?;
+                Ok(Value::HeadRow(score))
             }
         }
     }

@@ -1,5 +1,6 @@
 // What an entry's team scored in a gameweek, of what the cells hold of its players.
 ghost use Rattle.std.specs.Prelude.{◌≡◌, ◌≤◌, ◌+◌, if◌then◌else◌, true, All};
+ghost use Rattle.rule_book.specs.FigureRange.{IsWithin};
 ghost use Rattle.rule_book.specs.ScoreOfTeam.{score_of};
 ghost use Rattle.rule_book.specs.TeamScores.{IsModest};
 ghost use Rattle.season_nodes.specs.BookFacts.{facts_of};
@@ -65,6 +66,7 @@ fn score<L: Ledger>(
 ) -> TeamScore
     requires { cost ≤ 4000 }
     ensures value { result ≡ score_of team.now (figures_of_fifteen (facts_of books.now) (held_values cells.now) team.now gameweek) (ended (facts_of books.now) gameweek) cost }
+    ensures near { IsWithin 18000000 result.net }
     ensures cost { steps.new ≤ steps.old + 15 }
 {
     let figures = team_figures(books, team, gameweek, cells, steps);
@@ -81,6 +83,7 @@ pub(crate) fn team_gameweek<L: Ledger>(
 ) -> TeamScore
     requires { is_live (facts_of books.now) (Node.TeamGw entry gameweek) ≡ true }
     ensures value { result ≡ score_by (facts_of books.now) (held_values cells.now) entry gameweek }
+    ensures near { IsWithin 18000000 result.net }
     ensures cost { steps.new ≤ steps.old + 17 }
 {
     let cost = books.managers.cost(entry, gameweek, steps);

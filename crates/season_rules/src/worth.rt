@@ -46,8 +46,8 @@ fn no_worth() -> LineWorth
     }
 }
 
-// The worth of a line that a cell holds.
-fn worth_in(value: Option<&Value>) -> LineWorth
+/// The worth of a line that a cell holds; nothing of a cell of another kind.
+pub fn worth_in(value: Option<&Value>) -> LineWorth
     ensures { result ≡ worth_in (option_copied value.entry) }
 {
     match value {
@@ -64,11 +64,15 @@ fn worth_held(value: &Value) -> LineWorth
         Value::Bonus(_) => no_worth(),
         Value::PlayerGw(_) => no_worth(),
         Value::TeamGw(_) => no_worth(),
+        Value::Total(_) => no_worth(),
+        Value::Average(_) => no_worth(),
+        Value::Match(_) => no_worth(),
+        Value::HeadRow(_) => no_worth(),
     }
 }
 
-// The figures of a player's gameweek that a cell holds.
-pub(crate) fn figures_in(value: Option<&Value>) -> Figures
+/// The figures of a player's gameweek that a cell holds; nothing of a cell of another kind.
+pub fn figures_in(value: Option<&Value>) -> Figures
     ensures value { result ≡ figures_held (option_copied value.entry) }
     ensures modest { IsModest result }
 {
@@ -87,6 +91,10 @@ fn figures_held(value: &Value) -> Figures
         Value::Bonus(_) => no_figures(),
         Value::PlayerGw(figures) => figures.get(),
         Value::TeamGw(_) => no_figures(),
+        Value::Total(_) => no_figures(),
+        Value::Average(_) => no_figures(),
+        Value::Match(_) => no_figures(),
+        Value::HeadRow(_) => no_figures(),
     }
 }
 
@@ -108,10 +116,15 @@ fn bonus_held(value: &Value, player: PlayerId) -> u8
         Value::Bonus(rows) => bonus_among(rows.as_slice(), player),
         Value::PlayerGw(_) => 0,
         Value::TeamGw(_) => 0,
+        Value::Total(_) => 0,
+        Value::Average(_) => 0,
+        Value::Match(_) => 0,
+        Value::HeadRow(_) => 0,
     }
 }
 
-fn bonus_among(rows: &[(PlayerId, u8)], player: PlayerId) -> u8
+/// A player's bonus among those who took part; 0 of one who did not.
+pub fn bonus_among(rows: &[(PlayerId, u8)], player: PlayerId) -> u8
     ensures { result ≡ unwrap_or (at_id rows.now player) 0 }
 {
     for row in rows {

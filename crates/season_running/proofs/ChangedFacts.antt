@@ -8,6 +8,7 @@ use Rattle.manager_book.specs.declared.manager.Manager.{Manager}
 use Rattle.manager_book.specs.Managers.{IsSameBut, Managers}
 use Rattle.season_book.specs.Book.{Facts, caller_number}
 use Rattle.season_book.specs.Commands.{changed_by, part_of}
+use Rattle.season_book.specs.LeagueCommands.{leagues_after}
 use Rattle.season_book.specs.declared.command.Command.{Command}
 use Rattle.season_book.specs.declared.command.Command.TheVariants as commands
 use Rattle.season_book.specs.declared.part.Part.TheVariants as part
@@ -22,10 +23,11 @@ module _ (caller : Caller) (command : Command) (old : Running) where
       let new : Running = record old { facts = facts } in
       subst (λ p. IsChangedIn p (caller_number caller) command old new) (sym is) (ap (λ (f : Facts). let r : Running = record old { facts = f } in r) same)
 
-  pub leagues_changed : (leagues : List LeagueFacts) → part_of command ≡ part.Leagues → IsChangedBy caller command old (record old { leagues = leagues })
-  leagues_changed leagues is =
+  pub leagues_changed : (leagues : List LeagueFacts) → part_of command ≡ part.Leagues → leagues ≡ leagues_after old.leagues (caller_number caller) command
+      → IsChangedBy caller command old (record old { leagues = leagues })
+  leagues_changed leagues is same =
       let new : Running = record old { leagues = leagues } in
-      subst (λ p. IsChangedIn p (caller_number caller) command old new) (sym is) (record { facts = refl; managers = refl; cups = refl })
+      subst (λ p. IsChangedIn p (caller_number caller) command old new) (sym is) (ap (λ ls. let r : Running = record old { leagues = ls } in r) same)
 
   pub cups_changed : (cups : List Bracket) → part_of command ≡ part.Cups → IsChangedBy caller command old (record old { cups = cups })
   cups_changed cups is =

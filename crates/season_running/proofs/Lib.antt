@@ -5,3 +5,4 @@ pub mod LastFacts
 pub mod MoneyFacts
 pub mod RuledFacts
 pub mod StepFacts
+pub mod KeptFacts

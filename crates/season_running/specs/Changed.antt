@@ -7,6 +7,7 @@ use Rattle.manager_book.specs.declared.manager.Manager.{Manager}
 use Rattle.manager_book.specs.Managers.{IsSameBut, Managers}
 use Rattle.season_book.specs.Book.{caller_number}
 use Rattle.season_book.specs.Commands.{changed_by, part_of}
+use Rattle.season_book.specs.LeagueCommands.{leagues_after}
 use Rattle.season_book.specs.declared.command.Command.{Command}
 use Rattle.season_book.specs.declared.command.Command.TheVariants as command
 use Rattle.season_book.specs.declared.part.Part.{Part}
@@ -34,25 +35,19 @@ pub record IsByManager (e : ℕ) (old new : Running) : Type 0 where
   pub earlier : (profile : Profile)
       → RowsStayBefore (next_gameweek old.facts.calendar) e (played_by profile old.managers) (played_by profile new.managers)
 
--- only the leagues may be others
-pub record IsSameButLeagues (old new : Running) : Type 0 where
-  pub facts : new.facts ≡ old.facts
-  pub managers : new.managers ≡ old.managers
-  pub cups : new.cups ≡ old.cups
-
 -- only the cups may be others
 pub record IsSameButCups (old new : Running) : Type 0 where
   pub facts : new.facts ≡ old.facts
   pub managers : new.managers ≡ old.managers
   pub leagues : new.leagues ≡ old.leagues
 
--- entry e's command on this part was done: the facts go on as it says, or it adds a manager behind the others, and the
--- other parts stay
+-- entry e's command on this part was done: the facts or the leagues go on as it says, or it adds a manager behind the
+-- others, and the other parts stay
 abbrev pub IsChangedIn : Part → ℕ → Command → Running → Running → Type 0
 IsChangedIn part.Facts e command old new = new ≡ record old { facts = changed_by old.facts command }
 IsChangedIn part.Entries e command old new = new ≡ record old { managers = managers_with old.managers command }
 IsChangedIn part.Deeds e command old new = IsByManager e old new
-IsChangedIn part.Leagues e command old new = IsSameButLeagues old new
+IsChangedIn part.Leagues e command old new = new ≡ record old { leagues = leagues_after old.leagues e command }
 IsChangedIn part.Cups e command old new = IsSameButCups old new
 
 -- a caller's command was done

@@ -1,8 +1,8 @@
 // A season with its entries.
-ghost use Rattle.std.specs.Prelude.{◌≡◌, ◌≤◌, ℕ, List, [], IfErr, IfOk, OnOk, OnErr, None, length, if◌then◌else◌};
+ghost use Rattle.std.specs.Prelude.{◌≡◌, ◌≤◌, ◌+◌, ℕ, List, [], IfErr, IfOk, OnOk, OnErr, None, length, if◌then◌else◌};
 ghost use Rattle.fpl_base.specs.Texts.{is_key};
 ghost use Rattle.fpl_base.specs.declared.kinds.Caller.{Caller};
-ghost use Rattle.manager_book.specs.Managers.{manager_in};
+ghost use Rattle.manager_book.specs.Managers.{AreRisen, manager_in};
 ghost use Rattle.season_book.specs.Book.{Book, caller_number, last_number};
 ghost use Rattle.season_book.specs.Commands.{IsCommand, part_of};
 ghost use Rattle.season_book.specs.Doing.{IsGranted, IsShown, IsStoreless};
@@ -18,8 +18,10 @@ ghost use Rattle.season_entries.specs.Keys.{keys_of};
 ghost use Rattle.season_book.specs.Hosts.{entry_with};
 ghost use Rattle.season_running.specs.Accepting.{HasRoom, IsDone, IsGrantedTo, IsRefusal, IsRuled, made_by};
 ghost use Rattle.season_running.specs.Changed.{IsChangedBy};
+ghost use Rattle.season_running.specs.Kept.{AreKeptBy};
 ghost use Rattle.season_running.specs.EntryLaws.{IsOrderly};
 ghost use Rattle.season_running.specs.Standing.{InStep, Plays};
+ghost use Rattle.season_views.specs.Reads.{reads_allowed};
 
 use classic_leagues::Leagues;
 use cup_rounds::Cups;
@@ -32,6 +34,7 @@ use season_entries::{
     judge_key, moments_leave_entries, owners_are_alike,
 };
 use season_facts::Season;
+use season_graph::SeasonCells;
 use season_views::{cup, entry_gameweek, league, my_entry};
 use std::alloc::Global;
 use std::marker::Model;
@@ -93,7 +96,8 @@ impl RunningSeason {
 
     /// The entries, with what their managers did.
     pub fn managers(&self) -> &ManagerBook
-        ensures { result.now.managers ≡ self.now.managers }
+        ensures managers { result.now.managers ≡ self.now.managers }
+        ensures profile { result.now.profile ≡ self.now.facts.profile }
     {
         &self.managers
     }
@@ -118,6 +122,13 @@ impl RunningSeason {
     {
         // That the players are lawful, for the prover.
         let _count = self.season.players().len();
+    }
+
+    /// A law: the rows of each entry rise by gameweek.
+    pub fn keeps_rows(&self)
+        ensures { AreRisen self.now.managers }
+    {
+        self.managers.keeps_rows();
     }
 
     /// Locks the gameweeks whose deadlines have passed.
@@ -148,7 +159,8 @@ impl RunningSeason {
         }
     }
 
-    /// The answer that refuses a caller's command at a moment; `Ok` where nothing does. It takes no memory.
+    /// The answer that refuses a caller's command at a moment; `Ok` where nothing does. It takes no memory. The line that a
+    /// command takes away is one counted read; nothing else is.
     pub fn judge<L: Ledger>(
         &self,
         operator: &Key,
@@ -161,6 +173,7 @@ impl RunningSeason {
         ensures granted { OnOk result (IsGrantedTo self.now caller.now now command.now) }
         ensures ruled { (book : Book) → Plays self.now book → IsRuled (ruled operator.now book caller.now now command.now) result }
         ensures refusal { IfErr result IsRefusal }
+        ensures counted { steps.new ≤ steps.old + 1 }
     {
         match command.part() {
             Part::Facts => self.season.judge(now, command, steps),
@@ -355,11 +368,18 @@ impl RunningSeason {
         do_cup(&self.season, &mut self.cups, command)
     }
 
-    /// What a caller sees of his own entry, under the number of his last command. It is computed from his rows and the
-    /// facts: each line of a match that it reads is a counted read.
-    pub fn my_entry<L: Ledger>(&self, caller: &Caller, last: u64, steps: &mut Steps<L>) -> Answer
+    /// What a caller sees of his own entry, under the number of his last command. It is read of his rows and of the cells.
+    pub fn my_entry<L: Ledger>(
+        &self,
+        cells: &SeasonCells,
+        caller: &Caller,
+        last: u64,
+        steps: &mut Steps<L>,
+    ) -> Answer
+        requires { AreKeptBy self.now cells.now }
         ensures seen { (book : Book) → Plays self.now book → last ≡ last_number book caller.now → result ≡ seen_in book caller.now view.Me self.now.facts }
         ensures storeless { IsStoreless result }
+        ensures cost { steps.new ≤ steps.old + 4 }
     {
         // The law on which entries are there, and that the ids of players differ, for the prover.
         entries_are_issued();
@@ -370,7 +390,7 @@ impl RunningSeason {
                 if entry.get() > self.managers.entries() {
                     return Answer::Unknown;
                 }
-                match my_entry(&self.season, &self.managers, *entry, last, steps) {
+                match my_entry(&self.season, &self.managers, cells, *entry, last, steps) {
                     Some(shown) => Answer::Shown(Shown::Me(shown)),
                     None => Answer::Rule(Rule::NotRegistered),
                 }
@@ -381,43 +401,70 @@ impl RunningSeason {
     /// What an entry scored in a locked gameweek.
     pub fn entry_gameweek<L: Ledger>(
         &self,
+        cells: &SeasonCells,
         entry: u32,
         gameweek: u32,
         steps: &mut Steps<L>,
     ) -> Answer
+        requires { AreKeptBy self.now cells.now }
         ensures seen { (caller : Caller) (book : Book) → Plays self.now book → result ≡ seen_in book caller (view.EntryGameweek entry gameweek) self.now.facts }
         ensures storeless { IsStoreless result }
+        ensures cost { steps.new ≤ steps.old + 2 }
     {
-        match entry_gameweek(&self.season, &self.managers, entry, gameweek, steps) {
+        match entry_gameweek(&self.season, &self.managers, cells, entry, gameweek, steps) {
             Some(shown) => Answer::Shown(Shown::EntryGameweek(shown)),
             None => Answer::Unknown,
         }
     }
 
-    /// The table of a league over the locked gameweeks. It is computed from the rows of its members and the facts.
-    pub fn league<L: Ledger>(&self, alloc: Global, number: u32, steps: &mut Steps<L>) -> Answer
+    /// The table of a league over the locked gameweeks. It is read of the rows of its members and of the cells.
+    pub fn league<L: Ledger>(
+        &self,
+        alloc: Global,
+        cells: &SeasonCells,
+        number: u32,
+        steps: &mut Steps<L>,
+    ) -> Answer
+        requires { AreKeptBy self.now cells.now }
         ensures seen { (caller : Caller) (book : Book) → Plays self.now book → IsShown (seen_in book caller (view.League number) self.now.facts) result }
         ensures storeless { IsStoreless result }
+        ensures cost { (caller : Caller) (book : Book) → Plays self.now book → steps.new ≤ steps.old + reads_allowed (seen_in book caller (view.League number) self.now.facts) }
     {
         let Some(id) = LeagueId::new(number) else {
             return Answer::Unknown;
         };
         match self.leagues.get(id) {
-            Some(there) => answer_of(league(alloc, &self.season, &self.managers, there, steps)),
+            Some(there) => answer_of(league(
+                alloc,
+                &self.season,
+                &self.managers,
+                cells,
+                id,
+                there,
+                steps,
+            )),
             None => Answer::Unknown,
         }
     }
 
-    /// The winners of the rounds of a cup, as far as they are locked. They are computed likewise.
-    pub fn cup<L: Ledger>(&self, alloc: Global, number: u32, steps: &mut Steps<L>) -> Answer
+    /// The winners of the rounds of a cup, as far as they are locked. They are read of the cells.
+    pub fn cup<L: Ledger>(
+        &self,
+        alloc: Global,
+        cells: &SeasonCells,
+        number: u32,
+        steps: &mut Steps<L>,
+    ) -> Answer
+        requires { AreKeptBy self.now cells.now }
         ensures seen { (caller : Caller) (book : Book) → Plays self.now book → IsShown (seen_in book caller (view.Cup number) self.now.facts) result }
         ensures storeless { IsStoreless result }
+        ensures cost { (caller : Caller) (book : Book) → Plays self.now book → steps.new ≤ steps.old + reads_allowed (seen_in book caller (view.Cup number) self.now.facts) }
     {
         let Some(id) = CupId::new(number) else {
             return Answer::Unknown;
         };
         match self.cups.get(id) {
-            Some(there) => match cup(alloc, &self.season, &self.managers, there, steps) {
+            Some(there) => match cup(alloc, &self.season, &self.managers, cells, there, steps) {
                 Ok(shown) => Answer::Shown(Shown::Cup(shown)),
                 Err(Memory) => Answer::Memory,
             },

@@ -1,3 +1,4 @@
+pub mod Counted
 mod CupRounds
 mod EntryRows
 mod Found
@@ -6,7 +7,8 @@ mod Histories
 mod Lists
 mod Matches
 mod ShownLeagues
-mod Standing
-mod Sums
+mod Scores
+mod ShownLines
 mod Tables
 mod Told
+mod Totals

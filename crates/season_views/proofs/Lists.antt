@@ -1,11 +1,9 @@
 -- Lists that a loop makes, one more element at a time.
-use Rattle.std.proofs.Common.{◌≡◌, ◌<◌, ◌≤◌, ◌+◌, ◌∷◌, [], ◌++◌, ℕ, List, All, Some, length, get_or, map, take, zip, arith, refl, sym, ap, subst, ◌∙◌}
+use Rattle.std.proofs.Common.{◌≡◌, ◌<◌, ◌+◌, ◌∷◌, [], ◌++◌, ℕ, List, Some, length, get_or, map, take, refl, sym, ap, ◌∙◌}
 use Rattle.std.specs.List.{range_with_len, slice_get}
-use Rattle.std.proofs.lemmas.List.{length-append, take_more, map-append, take_all}
-use Rattle.std.proofs.lemmas.List.Elements.{All-push}
+use Rattle.std.proofs.lemmas.List.{length-append, take_more, map-append}
 use Rattle.std.proofs.lemmas.List.FromFn.{map-range_with_len_more}
 use Rattle.std.proofs.lemmas.Option.{slice_get_within, slice_get_read, slice_get-get_or, get_or_from_slice_get}
-use Rattle.std.proofs.lemmas.Slice.Zip.{get_or-zip, length-zip}
 
 -- one more element behind the first i
 pub take_next : {X : Type 0} (xs : List X) (i : ℕ) (x : X) → slice_get xs i ≡ Some x → take (i + 1) xs ≡ take i xs ++ x ∷ []
@@ -24,26 +22,9 @@ mapped_more f xs i x y old new within is is_y so_far more =
     ∙ sym (map-append f (take i xs) (x ∷ []))
     ∙ ap (map f) (sym (take_next xs i x (slice_get_read xs (length xs) i x refl within is)))
 
--- all rows of two columns
-pub all_rows : {X Y : Type 0} (xs : List X) (ys : List Y) (i : ℕ) → length xs ≤ i → take i (zip xs ys) ≡ zip xs ys
-all_rows xs ys i past = take_all i (zip xs ys) (omega (arith, length-zip xs ys))
-
 -- what was read is read again, whatever is read past the end
 pub read_again : {X : Type 0} (xs : List X) (i : ℕ) (d : X) → i < length xs → get_or xs i d ≡ get_or xs i (get_or xs i d)
 read_again xs i d within = sym (get_or_from_slice_get xs i (get_or xs i d) (get_or xs i d) (slice_get-get_or xs i d within))
-
--- a row of two columns
-pub row_at : {X Y : Type 0} (xs : List X) (ys : List Y) (i : ℕ) (x : X) (d : Y) → i < length xs → length ys ≡ length xs → x ≡ get_or xs i x
-    → (x, get_or ys i d) ≡ get_or (zip xs ys) i (x, get_or ys i d)
-row_at xs ys i x d within paired is_x =
-    let y = get_or ys i d in
-    let inside : i < length ys = omega arith in
-    ap (λ b. (x, b)) (read_again ys i d inside) ∙ ap (λ a. (a, get_or ys i y)) is_x
-    ∙ sym (get_or-zip xs ys i (x, y) within inside)
-
--- a list whose first n are made of the first n of another, where neither has more
-pub made_whole : {X Y : Type 0} (f : X → Y) (xs : List X) (ys : List Y) (n : ℕ) → length xs ≤ n → length ys ≤ n → take n ys ≡ map f (take n xs) → ys ≡ map f xs
-made_whole f xs ys n short also made = sym (take_all n ys also) ∙ made ∙ ap (map f) (take_all n xs short)
 
 -- a list of rows, with one more, and a part of each
 pub parts_more : {X R : Type 0} (part : R → X) (xs : List X) (i : ℕ) (x : X) (row : R) (old new : List R) → i < length xs → x ≡ get_or xs i x → part row ≡ x
@@ -63,10 +44,3 @@ range_more f a n j x old new at is so_far more =
 -- a list with one more
 pub long_more : {X : Type 0} (n : ℕ) (x : X) (old new : List X) → length old ≡ n → new ≡ old ++ x ∷ [] → length new ≡ n + 1
 long_more n x old new long more = ap length more ∙ length-append old (x ∷ []) ∙ ap (λ k. k + 1) long
-
-pub all_more : {X : Type 0} (P : X → Type 0) (x : X) (old new : List X) → All P old → P x → new ≡ old ++ x ∷ [] → All P new
-all_more P x old new all one more = subst (All P) (sym more) (All-push P old x all one)
-
--- what was read at a place within, whatever is read past the end
-pub read_within : {X : Type 0} (xs : List X) (i : ℕ) (x d : X) → i < length xs → x ≡ get_or xs i x → x ≡ get_or xs i d
-read_within xs i x d within is = sym (get_or_from_slice_get xs i x d (slice_get_read xs (length xs) i x refl within is))

@@ -1,9 +1,8 @@
 -- What an entry's rows tell is what is shown of its histories.
-use Rattle.std.proofs.Common.{◌≡◌, ◌+◌, ◌-◌, ◌≤◌, ℕ, zero, suc, ℤ, Bool, true, false, true≢false, List, [], ◌∷◌, Option, Some, None, map, max, nat_le, arith, refl, sym, ap, ◌∙◌, if◌then◌else◌}
+use Rattle.std.proofs.Common.{◌≡◌, ◌+◌, ◌-◌, ◌≤◌, ℕ, zero, suc, ℤ, Bool, true, false, true≢false, List, [], ◌∷◌, Option, Some, None, map, max, arith, refl, sym, ap, ◌∙◌, if◌then◌else◌}
 use Rattle.std.specs.List.{range_with_len}
-use Rattle.std.proofs.lemmas.Bool.Decides.{nat_tests}
+use Rattle.std.proofs.lemmas.Bool.{le-leb}
 use Rattle.std.proofs.lemmas.Option.{same_Some, none-some}
-use Rattle.rule_book.specs.declared.cup.Side.{Side}
 use Rattle.rule_book.specs.declared.team.Team.{Team}
 use Rattle.rule_book.specs.declared.team_score.TeamScore.{TeamScore}
 use Rattle.rule_book.specs.HeadToHead.{total_of}
@@ -22,8 +21,8 @@ use Rattle.season_book.specs.Book.{Facts}
 use Rattle.season_book.specs.declared.shown.ShownEntryGameweek.{ShownEntryGameweek}
 use Rattle.season_book.specs.declared.shown.ShownMe.{ShownMe}
 use Rattle.season_book.specs.EntryViews.{entry_gameweek_shown, gameweek_seen, me_shown, score_by, team_by, total_by}
-use Rattle.season_book.specs.LeagueViews.{no_side, side_by, side_of}
-use Rattle.season_views.specs.Entries.{gameweek_with, me_with, net_by, score_with, total_since}
+use Rattle.season_book.specs.LeagueViews.{no_side, side_of}
+use Rattle.season_views.specs.Entries.{me_with, net_by, score_with, total_since}
 
 -- a choice whose test holds, and one whose test does not
 pub chosen : {X : Type 0} (b : Bool) (x y : X) → b ≡ true → x ≡ (if b then x else y)
@@ -40,13 +39,10 @@ pub first_up_to : (g first : ℕ) (rows : List Row) → Some first ≡ first_in 
 first_up_to g first [] is up = absurd (none-some first (sym is))
 first_up_to g first (r ∷ rows) is up = let e : r.gw ≡ first = same_Some r.gw first (sym is) in omega (arith, e, up.0)
 
-has_begun : (first g : ℕ) → first ≤ g → nat_le first g ≡ true
-has_begun first g le = grind (arith, nat_tests, le)
-
 -- a history has begun in each gameweek from its first on
 pub begun_from : (h : List Event) (first g : ℕ) → FirstTold h (Some first) → first ≤ g → is_begun h g ≡ true
 begun_from [] first g told le = not_both false refl told.0
-begun_from (e ∷ h) first g told le = has_begun e.gw g (let at : first ≡ e.gw = told.1 in omega (arith, at))
+begun_from (e ∷ h) first g told le = le-leb e.gw g (let at : first ≡ e.gw = told.1 in omega (arith, at))
 
 pub begun_by : (h : List Event) (first g : ℕ) → start_of h ≡ Some first → first ≤ g → is_begun h g ≡ true
 begun_by h first g start le = begun_from h first g ((first_is_the_start h (Some first)).1 (sym start)) le
@@ -60,13 +56,13 @@ module _ (facts : Facts) (h : List Event) (g : ℕ) (team : Team) (told : TeamTo
   score_told cost score costs is =
       is ∙ ap (λ t. score_with facts t cost g) is_team ∙ ap (λ n. score_with facts (team_by facts h g) n g) costs
 
-  pub side_told : (cost : ℕ) (score : TeamScore) (side : Side) → cost ≡ cost_at facts.profile h g → score ≡ score_with facts team cost g → side ≡ side_of score → side ≡ side_by facts h g
-  side_told cost score side costs is gives = gives ∙ ap side_of (score_told cost score costs is) ∙ chosen (is_begun h g) (side_of (score_by facts h g)) no_side told.0
-
-  pub gameweek_told : (cost : ℕ) (shown : ShownEntryGameweek) → cost ≡ cost_at facts.profile h g → shown ≡ gameweek_with facts team cost g
+  -- and what is shown of it
+  pub gameweek_told : (shown : ShownEntryGameweek) (score : TeamScore) → score ≡ score_by facts h g
+      → shown ≡ record { players = map (λ pick. pick.player) team.picks; chip = team.chip; score = score }
       → Some shown ≡ (if is_begun h g then Some (entry_gameweek_shown facts h g) else None)
-  gameweek_told cost shown costs is =
-      ap Some (is ∙ ap (λ t. gameweek_with facts t cost g) is_team ∙ ap (λ n. gameweek_with facts (team_by facts h g) n g) costs)
+  gameweek_told shown score is made =
+      let with : Team → TeamScore → ShownEntryGameweek = λ t s. record { players = map (λ pick. pick.player) t.picks; chip = t.chip; score = s } in
+      ap Some (made ∙ ap (λ t. with t score) is_team ∙ ap (with (team_by facts h g)) is)
       ∙ chosen (is_begun h g) (Some (entry_gameweek_shown facts h g)) None told.0
 
   pub me_told : (e last cost : ℕ) (free : Option ℕ) (total : ℤ) (me : ShownMe) → g ≡ gameweek_seen facts.calendar → is_started h ≡ true
@@ -84,7 +80,7 @@ module _ (facts : Facts) (h : List Event) (g : ℕ) (team : Team) (told : TeamTo
       ∙ chosen (is_started h) (Some (me_shown facts h e last)) None started
 
 -- the points of a gameweek in which a history has begun are those of its score
-net_begun : (facts : Facts) (h : List Event) (g : ℕ) → is_begun h g ≡ true → net_by facts h g ≡ (score_by facts h g).net
+pub net_begun : (facts : Facts) (h : List Event) (g : ℕ) → is_begun h g ≡ true → net_by facts h g ≡ (score_by facts h g).net
 net_begun facts h g begun = ap (λ (b : Bool). (if b then side_of (score_by facts h g) else no_side).net) begun
 
 nets_begun : (facts : Facts) (h : List Event) (first from count : ℕ) → start_of h ≡ Some first → first ≤ from
@@ -94,17 +90,6 @@ nets_begun facts h first from (suc n) start le =
     let nets : List ℤ = map (net_by facts h) (range_with_len (from + 1) n) in
     ap (λ z. z ∷ nets) (net_begun facts h from (begun_by h first from start le))
     ∙ ap (λ rest. (score_by facts h from).net ∷ rest) (nets_begun facts h first (from + 1) n start (omega (arith, le)))
-
--- the total over the locked gameweeks from the later of two on
-pub total_later : (facts : Facts) (h : List Event) (from first later count : ℕ) (nets : List ℤ) (total : ℤ) → start_of h ≡ Some first
-    → later ≡ max from first → count ≡ (facts.calendar.locked + 1) - later → nets ≡ map (net_by facts h) (range_with_len later count)
-    → total ≡ total_of nets → total ≡ total_since facts h from
-total_later facts h from first later count nets total start is counts made sums =
-    let net : ℕ → ℤ = net_by facts h in
-    sums ∙ ap total_of made
-    ∙ ap (λ k. total_of (map net (range_with_len later k))) counts
-    ∙ ap (λ w. total_of (map net (range_with_len w ((facts.calendar.locked + 1) - w)))) is
-    ∙ ap (λ o. total_from net from o facts.calendar.locked) (sym start)
 
 -- from the first gameweek of a season on it is that over all
 pub total_whole : (facts : Facts) (h : List Event) (first : ℕ) (total : ℤ) → start_of h ≡ Some first → total ≡ total_since facts h 1 → total ≡ total_by facts h

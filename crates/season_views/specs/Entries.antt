@@ -2,10 +2,9 @@
 use Rattle.std.specs.Prelude.{ℕ, ℤ, List, Option, map}
 use Rattle.rule_book.specs.declared.player.Player.{Player}
 use Rattle.rule_book.specs.declared.team.Team.{Team}
-use Rattle.rule_book.specs.declared.team_score.Figures.{Figures}
 use Rattle.rule_book.specs.declared.team_score.TeamScore.{TeamScore}
 use Rattle.rule_book.specs.Calendar.{next_gameweek}
-use Rattle.rule_book.specs.EntryScores.{figures_of_team, score_in}
+use Rattle.rule_book.specs.EntryScores.{score_in}
 use Rattle.rule_book.specs.History.{Event}
 use Rattle.rule_book.specs.PlayerFigures.{position_in}
 use Rattle.rule_book.specs.Totals.{total_from}
@@ -15,7 +14,6 @@ use Rattle.manager_book.specs.Managers.{Managers, season_of}
 use Rattle.season_book.specs.Book.{EntryFacts, Facts}
 use Rattle.season_book.specs.EntryViews.{pick_shown, player_in_slot}
 use Rattle.season_book.specs.LeagueViews.{side_by}
-use Rattle.season_book.specs.declared.shown.ShownEntryGameweek.{ShownEntryGameweek}
 use Rattle.season_book.specs.declared.shown.ShownMe.{ShownMe}
 use Rattle.season_entries.specs.Entries.{AreEntries}
 
@@ -39,21 +37,9 @@ net_by facts h g = (side_by facts h g).net
 abbrev pub total_since : Facts → List Event → ℕ → ℤ
 total_since facts h from = total_from (net_by facts h) from (start_of h) facts.calendar.locked
 
--- what the players of a team did in a gameweek of a season, by slot
-abbrev pub figures_with : Facts → Team → ℕ → List Figures
-figures_with facts team g = figures_of_team facts.profile facts.calendar facts.players facts.matches team g
-
 -- the score of a team in a gameweek of a season in which its transfers cost so much
 abbrev pub score_with : Facts → Team → ℕ → ℕ → TeamScore
 score_with facts team cost g = score_in facts.profile facts.calendar facts.players facts.matches team cost g
-
--- what an entry's team scored in a gameweek
-abbrev pub gameweek_with : Facts → Team → ℕ → ℕ → ShownEntryGameweek
-gameweek_with facts team cost g = record {
-  players = map (λ pick. pick.player) team.picks;
-  chip = team.chip;
-  score = score_with facts team cost g;
-}
 
 -- what a manager sees of his entry, with this team, free transfers, cost and total
 abbrev pub me_with : Facts → ℕ → ℕ → Team → Option ℕ → ℕ → ℤ → ShownMe

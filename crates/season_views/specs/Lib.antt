@@ -1,3 +1,4 @@
-pub mod Worth
+pub mod Cells
 pub mod Entries
 pub mod Leagues
+pub mod Reads

@@ -1,76 +1,71 @@
 // The table of a classic league, and the names in it.
-ghost use Rattle.std.specs.Prelude.{◌≡◌, ◌≤◌, ℕ, All, IfOk, length, map};
+ghost use Rattle.std.specs.Prelude.{◌≡◌, ◌≤◌, ◌+◌, ◌*◌, ℕ, All, IfOk, false, length, map};
+ghost use Rattle.rule_book.specs.LeagueCalls.{is_head};
 ghost use Rattle.rule_book.specs.Ranks.{AllDiffer};
 ghost use Rattle.rule_book.specs.Tables.{classic_table_of};
 ghost use Rattle.season_book.specs.LeagueViews.{classic_shown, ranked_shown};
-ghost use Rattle.season_views.specs.Entries.{OfEachBook, OfEachHistory, OfEachNames, total_since};
+ghost use Rattle.season_views.specs.Cells.{AreKeptFrom, AreKeptWith};
+ghost use Rattle.season_views.specs.Entries.{OfEachBook, OfEachNames};
 ghost use Rattle.season_views.specs.Leagues.{AreIssued, classic_row_since};
 
 use crate::names::name_of;
-use crate::totals::total_since;
 use classic_leagues::{League, table};
 use fpl_base::{EntryId, Gw, ListOf, Memory, Steps};
 use manager_book::ManagerBook;
 use rule_book::{Ranked, tables_are_the_one};
 use season_book::{ShownClassic, ShownRanked};
 use season_facts::Season;
+use season_graph::{SeasonCells, total_held};
+use season_ledger::rows_tell;
 use std::alloc::Global;
 use std::sync::ledger::Ledger;
 
-// The total of an entry over the locked gameweeks from one on; 0 where it is not registered.
-fn total_of<L: Ledger>(
-    season: &Season,
-    managers: &ManagerBook,
-    entry: EntryId,
-    start: Gw,
-    steps: &mut Steps<L>,
-) -> i32
-    requires { managers.now.profile ≡ season.now.profile }
-    ensures { OfEachHistory season.now managers.now entry (λ h. result ≡ total_since season.now h start) }
-{
-    match managers.first(entry) {
-        Some(first) => total_since(season, managers, entry, start, first, steps),
-        None => 0,
-    }
-}
-
-// An entry's row of a league that starts in a gameweek.
+// An entry's row of a league that starts in a gameweek, from which it has a total.
 fn classic_row<L: Ledger>(
     season: &Season,
     managers: &ManagerBook,
+    cells: &SeasonCells,
     entry: EntryId,
     start: Gw,
     steps: &mut Steps<L>,
 ) -> (EntryId, i32, u32)
-    requires { managers.now.profile ≡ season.now.profile }
+    requires profile { managers.now.profile ≡ season.now.profile }
+    requires kept { AreKeptFrom season.now managers.now entry start cells.now }
     ensures value { OfEachBook season.now managers.now
         (λ entries. result ≡ classic_row_since season.now entries start entry) }
     ensures entry { result.0 ≡ entry }
+    ensures cost { steps.new ≡ steps.old + 2 }
 {
-    // That the ids of players rise, for the prover.
+    // The law that rows tell what their histories do, and that the ids of players rise, for the prover.
+    rows_tell();
     let _count = season.players().len();
-    let total = total_of(season, managers, entry, start, steps);
+    let total = total_held(cells, entry, start, steps);
     let counted = managers.counted_transfers(entry, season.calendar().locked(), steps);
     (entry, total, counted)
 }
 
-// A row for each member.
+// A row for each member of a league.
 fn classic_rows<L: Ledger>(
     alloc: Global,
     season: &Season,
     managers: &ManagerBook,
-    members: &[EntryId],
-    start: Gw,
+    cells: &SeasonCells,
+    league: &League,
     steps: &mut Steps<L>,
 ) -> Result<Vec<(EntryId, i32, u32)>, Memory>
-    requires { managers.now.profile ≡ season.now.profile }
+    requires profile { managers.now.profile ≡ season.now.profile }
+    requires kept { AreKeptWith season.now managers.now league.now cells.now }
+    requires kind { is_head league.now.kind ≡ false }
     ensures value { IfOk result (λ rows. OfEachBook season.now managers.now
-        (λ entries. rows.items ≡ map (classic_row_since season.now entries start) members.now)) }
-    ensures entries { IfOk result (λ rows. map (λ row. row.0) rows.items ≡ members.now) }
+        (λ entries. rows.items ≡ map (classic_row_since season.now entries league.now.start) league.now.members)) }
+    ensures entries { IfOk result (λ rows. map (λ row. row.0) rows.items ≡ league.now.members) }
+    ensures differ { AllDiffer league.now.members }
+    ensures cost { steps.new ≤ steps.old + 2 * length league.now.members }
 {
-    let mut rows = Vec::with_capacity(alloc, members.len())?;
-    for member in members {
-        rows.push(classic_row(season, managers, *member, start, steps))?;
+    let mut rows = Vec::with_capacity(alloc, league.members().len())?;
+    for member in league.members() {
+        let row = classic_row(season, managers, cells, *member, league.start(), steps);
+        rows.push(row)?;
     }
     Ok(rows)
 }
@@ -119,22 +114,19 @@ pub(crate) fn classic<L: Ledger>(
     alloc: Global,
     season: &Season,
     managers: &ManagerBook,
+    cells: &SeasonCells,
     league: &League,
     steps: &mut Steps<L>,
 ) -> Result<ShownClassic, Memory>
     requires profile { managers.now.profile ≡ season.now.profile }
+    requires kept { AreKeptWith season.now managers.now league.now cells.now }
+    requires kind { is_head league.now.kind ≡ false }
     requires issued { AreIssued managers.now league.now.members }
-    ensures { IfOk result (λ shown. OfEachBook season.now managers.now
+    ensures value { IfOk result (λ shown. OfEachBook season.now managers.now
         (λ entries. shown ≡ classic_shown season.now entries league.now)) }
+    ensures cost { steps.new ≤ steps.old + 2 * length league.now.members }
 {
-    let rows = classic_rows(
-        alloc,
-        season,
-        managers,
-        league.members(),
-        league.start(),
-        steps,
-    )?;
+    let rows = classic_rows(alloc, season, managers, cells, league, steps)?;
     let table = classic_table(alloc, &rows)?;
     Ok(ShownClassic {
         name: league.name().copy()?,

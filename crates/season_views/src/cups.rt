@@ -4,7 +4,10 @@ ghost use Rattle.rule_book.specs.Cups.{goes_through};
 ghost use Rattle.cup_rounds.specs.Rounds.{next_winners};
 ghost use Rattle.cup_rounds.specs.Shapes.{HasShape};
 ghost use Rattle.season_book.specs.LeagueViews.{cup_shown, side_in};
+ghost use Rattle.season_book.specs.declared.shown.Shown.TheVariants as shown_as;
+ghost use Rattle.season_views.specs.Cells.{AreKeptIn};
 ghost use Rattle.season_views.specs.Entries.{OfEachBook};
+ghost use Rattle.season_views.specs.Reads.{reads_of};
 
 use crate::sides::side_at;
 use cup_rounds::{coin, rounds, rounds_follow, tie};
@@ -13,6 +16,7 @@ use manager_book::ManagerBook;
 use rule_book::{Bracket, Slots};
 use season_book::ShownCup;
 use season_facts::Season;
+use season_graph::SeasonCells;
 use std::alloc::Global;
 use std::sync::ledger::Ledger;
 
@@ -20,15 +24,19 @@ use std::sync::ledger::Ledger;
 fn goes_through<L: Ledger>(
     season: &Season,
     managers: &ManagerBook,
+    cells: &SeasonCells,
     first: u32,
     second: u32,
     gameweek: Gw,
     coin: u8,
     steps: &mut Steps<L>,
 ) -> u32
-    requires { managers.now.profile ≡ season.now.profile }
-    ensures { OfEachBook season.now managers.now
+    requires profile { managers.now.profile ≡ season.now.profile }
+    requires kept { AreKeptIn season.now managers.now cells.now }
+    requires locked { gameweek ≤ season.now.calendar.locked }
+    ensures value { OfEachBook season.now managers.now
         (λ entries. result ≡ goes_through first second (λ e. side_in season.now entries e gameweek) coin) }
+    ensures cost { steps.new ≤ steps.old + 2 }
 {
     if first == 0 {
         return second;
@@ -36,8 +44,8 @@ fn goes_through<L: Ledger>(
     if second == 0 {
         return first;
     }
-    let one = side_at(season, managers, first, gameweek, steps);
-    let other = side_at(season, managers, second, gameweek, steps);
+    let one = side_at(season, managers, cells, first, gameweek, steps);
+    let other = side_at(season, managers, cells, second, gameweek, steps);
     if tie(&one, &other, coin) {
         first
     } else {
@@ -50,25 +58,30 @@ fn next_winners<L: Ledger>(
     alloc: Global,
     season: &Season,
     managers: &ManagerBook,
+    cells: &SeasonCells,
     bracket: &Bracket,
     round: u8,
     winners: &[u32],
     steps: &mut Steps<L>,
 ) -> Result<Slots, Memory>
     requires profile { managers.now.profile ≡ season.now.profile }
+    requires kept { AreKeptIn season.now managers.now cells.now }
     requires shape { HasShape bracket.now }
-    requires gameweek { bracket.now.start + round ≤ 38 }
+    requires gameweek { bracket.now.start + round ≤ season.now.calendar.locked }
     requires long { length winners.now ≡ length bracket.now.slots / 2 ^ round }
     ensures value { IfOk result (λ next. OfEachBook season.now managers.now
         (λ entries. next ≡ next_winners bracket.now (side_in season.now entries) round winners.now)) }
     ensures long { IfOk result (λ next. length next ≡ length winners.now / 2) }
+    ensures cost { steps.new ≤ steps.old + 2 * (length winners.now / 2) }
 {
     let gameweek = Gw::new(bracket.start.get() + round).unwrap();
     let mut next = Slots::with_room(alloc, winners.len() / 2)?;
     for place in 0..winners.len() / 2 {
         let (first, second) = (winners[2 * place], winners[2 * place + 1]);
         let coin = coin(bracket, round, place);
-        next.push(goes_through(season, managers, first, second, gameweek, coin, steps))?;
+        next.push(goes_through(
+            season, managers, cells, first, second, gameweek, coin, steps,
+        ))?;
     }
     Ok(next)
 }
@@ -77,25 +90,29 @@ fn next_winners<L: Ledger>(
 fn is_played(season: &Season, bracket: &Bracket, round: u8) -> bool
     requires { round < 10 }
     ensures value { result ≡ nat_le (bracket.now.start + (round + 1)) (season.now.calendar.locked + 1) }
-    ensures gameweek { IsTrue result → bracket.now.start + round ≤ 38 }
+    ensures gameweek { IsTrue result → bracket.now.start + round ≤ season.now.calendar.locked }
 {
     bracket.start.get() + round <= season.calendar().locked()
 }
 
 /// A cup with the winners of its rounds, tie by tie; `None` for a round whose gameweek is open. A round is worked out from
-/// the winners of the one before, and what two entries have in a gameweek only where they meet there. Each row of an entry
-/// and each line of a match that it reads is a counted read (docs/RULES.md, "Cups").
+/// the winners of the one before, and what two entries have in a gameweek only where they meet there. Each cell that
+/// it reads is a counted read (docs/RULES.md, "Cups").
 pub fn cup<L: Ledger>(
     alloc: Global,
     season: &Season,
     managers: &ManagerBook,
+    cells: &SeasonCells,
     bracket: &Bracket,
     steps: &mut Steps<L>,
 ) -> Result<ShownCup, Memory>
     requires profile { managers.now.profile ≡ season.now.profile }
+    requires kept { AreKeptIn season.now managers.now cells.now }
     requires shape { HasShape bracket.now }
-    ensures { IfOk result (λ shown. OfEachBook season.now managers.now
+    ensures value { IfOk result (λ shown. OfEachBook season.now managers.now
         (λ entries. shown ≡ cup_shown season.now entries bracket.now)) }
+    ensures cost { OfEachBook season.now managers.now
+        (λ entries. steps.new ≤ steps.old + reads_of (shown_as.Cup (cup_shown season.now entries bracket.now))) }
 {
     // The law by which each round follows from the one before.
     rounds_follow();
@@ -107,6 +124,7 @@ pub fn cup<L: Ledger>(
                 alloc,
                 season,
                 managers,
+                cells,
                 bracket,
                 round,
                 winners.as_slice(),

@@ -1,5 +1,5 @@
 // What views show of entries.
-ghost use Rattle.std.specs.Prelude.{◌≡◌, ◌≤◌, ◌==◌, ◌||◌, ℕ, List, Some, None, length, map, nat_lt, if◌then◌else◌};
+ghost use Rattle.std.specs.Prelude.{◌≡◌, ◌≤◌, ◌+◌, ◌==◌, ◌||◌, ℕ, List, Some, None, length, map, nat_lt, if◌then◌else◌};
 ghost use Rattle.rule_book.specs.Batch.{price_of};
 ghost use Rattle.rule_book.specs.History.{Event};
 ghost use Rattle.rule_book.specs.HistoryRules.{is_started};
@@ -11,10 +11,9 @@ ghost use Rattle.manager_book.specs.Managers.{season_of};
 ghost use Rattle.season_book.specs.Book.{EntryFacts};
 ghost use Rattle.season_book.specs.EntryViews.{entry_gameweek_shown, entry_shown, gameweek_seen, me_shown, pick_shown, player_in_slot};
 ghost use Rattle.season_entries.specs.Entries.{AreEntries};
-ghost use Rattle.season_views.specs.Entries.{OfEachHistory, gameweek_with, me_with};
+ghost use Rattle.season_views.specs.Cells.{AreKeptIn};
+ghost use Rattle.season_views.specs.Entries.{OfEachHistory, me_with};
 
-use crate::scores::score_with;
-use crate::totals::total;
 use crate::views::locked_gameweek;
 use fpl_base::{EntryId, Gw, PlayerId, Steps, Tenths};
 use manager_book::ManagerBook;
@@ -22,30 +21,37 @@ use player_prices::selling_price;
 use rule_book::{Pick, Team};
 use season_book::{ShownEntryGameweek, ShownMe, ShownPick};
 use season_facts::Season;
+use season_graph::{SeasonCells, score_held, total_held};
+use season_ledger::rows_tell;
 use std::sync::ledger::Ledger;
 
 /// What a registered manager sees of his entry, whose last accepted command has the number `last`; `None` where he is
 /// not registered. Team, chip, free transfers and cost are those of the next gameweek, or of the last one when the
-/// season is over, and nothing was done for the entry in a later one. Each row of an entry and each line of a match that
-/// it reads is a counted read, and it reads none of another entry (docs/RULES.md, "A team's score").
+/// season is over, and nothing was done for the entry in a later one. Each row of an entry and each cell that it reads is
+/// a counted read, and it reads none of another entry (docs/RULES.md, "A team's score").
 pub fn my_entry<L: Ledger>(
     season: &Season,
     managers: &ManagerBook,
+    cells: &SeasonCells,
     entry: EntryId,
     last: u64,
     steps: &mut Steps<L>,
 ) -> Option<ShownMe>
     requires profile { managers.now.profile ≡ season.now.profile }
+    requires kept { AreKeptIn season.now managers.now cells.now }
     requires later { AllUpTo (gameweek_seen season.now.calendar) (season_of managers.now entry) }
-    ensures { (h : List Event) → StandsFor (position_in season.now.players) (season_of managers.now entry) h
+    ensures value { (h : List Event) → StandsFor (position_in season.now.players) (season_of managers.now entry) h
         → result ≡ (if is_started h then Some (me_shown season.now h entry last) else None) }
+    ensures cost { steps.new ≤ steps.old + 4 }
 {
-    let first = managers.first(entry)?;
+    // The law that rows tell what their histories do, for the prover.
+    rows_tell();
+    let _first = managers.first(entry)?;
     let gameweek = gameweek_seen(season);
     let team = managers.team_at(entry, gameweek, steps)?;
     let free = managers.free(entry, gameweek, steps);
     let cost = managers.cost(entry, gameweek, steps);
-    let total = total(season, managers, entry, first, steps);
+    let total = total_held(cells, entry, Gw::new(1).unwrap(), steps);
     Some(me_with(season, entry, last, &team, free, cost, total))
 }
 
@@ -129,59 +135,54 @@ fn player_in_slot(team: &Team, slot: u8) -> PlayerId
 }
 
 /// What an entry's team scored in a gameweek; `None` where the entry was not issued, is not registered, or has no team in
-/// the gameweek, and where the gameweek is not locked. Each row of an entry and each line of a match that it reads is a
+/// the gameweek, and where the gameweek is not locked. Each row of an entry and each cell that it reads is a
 /// counted read (docs/RULES.md, "A team's score").
 pub fn entry_gameweek<L: Ledger>(
     season: &Season,
     managers: &ManagerBook,
+    cells: &SeasonCells,
     entry: u32,
     gameweek: u32,
     steps: &mut Steps<L>,
 ) -> Option<ShownEntryGameweek>
-    requires { managers.now.profile ≡ season.now.profile }
-    ensures { (entries : List EntryFacts) → AreEntries season.now.players managers.now.managers entries
+    requires profile { managers.now.profile ≡ season.now.profile }
+    requires kept { AreKeptIn season.now managers.now cells.now }
+    ensures value { (entries : List EntryFacts) → AreEntries season.now.players managers.now.managers entries
         → result ≡ entry_shown season.now entries entry gameweek }
+    ensures cost { steps.new ≤ steps.old + 2 }
 {
     // That the ids of players rise, for the prover.
     let _count = season.players().len();
     let there = issued(managers, entry)?;
     let locked = locked_gameweek(season, gameweek)?;
-    gameweek_of(season, managers, there, locked, steps)
+    gameweek_of(season, managers, cells, there, locked, steps)
 }
 
-// What an entry's team scored in a gameweek; none before its first.
+// What an entry's team scored in a locked gameweek; none before its first.
 fn gameweek_of<L: Ledger>(
     season: &Season,
     managers: &ManagerBook,
+    cells: &SeasonCells,
     entry: EntryId,
     gameweek: Gw,
     steps: &mut Steps<L>,
 ) -> Option<ShownEntryGameweek>
-    requires { managers.now.profile ≡ season.now.profile }
-    ensures { OfEachHistory season.now managers.now entry
+    requires profile { managers.now.profile ≡ season.now.profile }
+    requires kept { AreKeptIn season.now managers.now cells.now }
+    requires locked { gameweek ≤ season.now.calendar.locked }
+    ensures value { OfEachHistory season.now managers.now entry
         (λ h. result ≡ (if is_begun h gameweek then Some (entry_gameweek_shown season.now h gameweek) else None)) }
+    ensures cost { steps.new ≤ steps.old + 2 }
 {
+    // The law that rows tell what their histories do, for the prover.
+    rows_tell();
     let team = managers.team_at(entry, gameweek, steps)?;
-    let cost = managers.cost(entry, gameweek, steps);
-    Some(gameweek_with(season, &team, cost, gameweek, steps))
-}
-
-// What a team scored in a gameweek in which its transfers cost so much.
-fn gameweek_with<L: Ledger>(
-    season: &Season,
-    team: &Team,
-    cost: u32,
-    gameweek: Gw,
-    steps: &mut Steps<L>,
-) -> ShownEntryGameweek
-    requires { cost ≤ 4000 }
-    ensures { result ≡ gameweek_with season.now team.now cost gameweek }
-{
-    ShownEntryGameweek {
-        players: players_of(team),
+    let score = score_held(cells, entry, gameweek, steps)?;
+    Some(ShownEntryGameweek {
+        players: players_of(&team),
         chip: team.chip,
-        score: score_with(season, team, cost, gameweek, steps),
-    }
+        score,
+    })
 }
 
 // The entry of this number, if it was issued.

@@ -1,37 +1,49 @@
 // What is shown of a league.
-ghost use Rattle.std.specs.Prelude.{◌≡◌, IfOk};
+ghost use Rattle.std.specs.Prelude.{◌≡◌, ◌≤◌, ◌+◌, IfOk};
 ghost use Rattle.season_book.specs.LeagueViews.{league_shown};
+ghost use Rattle.season_views.specs.Cells.{AreKeptFor};
 ghost use Rattle.season_views.specs.Entries.{OfEachBook};
 ghost use Rattle.season_views.specs.Leagues.{AreIssued};
+ghost use Rattle.season_views.specs.Reads.{reads_of};
 
 use crate::classic::classic;
 use crate::head::head;
 use classic_leagues::League;
-use fpl_base::{Memory, Steps};
+use fpl_base::{LeagueId, Memory, Steps};
 use manager_book::ManagerBook;
 use rule_book::LeagueKind;
 use season_book::Shown;
 use season_facts::Season;
+use season_graph::SeasonCells;
 use std::alloc::Global;
 use std::sync::ledger::Ledger;
 
-/// A league with its table over the locked gameweeks from its start on, each row with the name of its entry. Each member
-/// was issued. Each row of an entry and each line of a match that it reads is a counted read (docs/RULES.md, "Tables and
-/// ranks").
+/// A league with its table over the locked gameweeks from its start on, each row with the name of its entry. It has the
+/// number `id` among those that the cells are kept of, and each of its members was issued. Each row of an entry and each
+/// cell that it reads is a counted read (docs/RULES.md, "Tables and ranks").
 pub fn league<L: Ledger>(
     alloc: Global,
     season: &Season,
     managers: &ManagerBook,
+    cells: &SeasonCells,
+    id: LeagueId,
     league: &League,
     steps: &mut Steps<L>,
 ) -> Result<Shown, Memory>
     requires profile { managers.now.profile ≡ season.now.profile }
+    requires kept { AreKeptFor season.now managers.now id league.now cells.now }
     requires issued { AreIssued managers.now league.now.members }
-    ensures { IfOk result (λ shown. OfEachBook season.now managers.now
+    ensures value { IfOk result (λ shown. OfEachBook season.now managers.now
         (λ entries. shown ≡ league_shown season.now entries league.now)) }
+    ensures cost { OfEachBook season.now managers.now
+        (λ entries. steps.new ≤ steps.old + reads_of (league_shown season.now entries league.now)) }
 {
     match league.kind() {
-        LeagueKind::Classic => Ok(Shown::Classic(classic(alloc, season, managers, league, steps)?)),
-        LeagueKind::Head => Ok(Shown::Head(head(alloc, season, managers, league, steps)?)),
+        LeagueKind::Classic => Ok(Shown::Classic(classic(
+            alloc, season, managers, cells, league, steps,
+        )?)),
+        LeagueKind::Head => Ok(Shown::Head(head(
+            alloc, season, managers, cells, id, league, steps,
+        )?)),
     }
 }

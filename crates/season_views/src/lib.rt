@@ -4,14 +4,11 @@
 mod classic;
 mod cups;
 mod entries;
-mod figures;
 mod head;
 mod leagues;
 mod names;
-mod scores;
 mod sheets;
 mod sides;
-mod totals;
 mod views;
 
 pub use cups::cup;

@@ -1,121 +1,62 @@
 // The lines of a fixture, and what they are worth.
-ghost use Rattle.std.specs.Prelude.{◌≡◌, ◌≤◌, ◌-◌, ℤ, IfOk, true, false, map};
-ghost use Rattle.line_scoring.specs.Levels.{above, bonus_by};
-ghost use Rattle.rule_book.specs.Bonus.{takes_part};
-ghost use Rattle.rule_book.specs.BonusPoints.{bps_of};
-ghost use Rattle.rule_book.specs.Figures.{IsLine};
+ghost use Rattle.std.specs.Prelude.{◌≡◌, ◌≤◌, ◌+◌, IfOk, length, map, true};
+ghost use Rattle.std.specs.Option.{unwrap_or};
+ghost use Rattle.rule_book.specs.ById.{at_id};
 ghost use Rattle.rule_book.specs.MatchFacts.{lines_of};
-ghost use Rattle.rule_book.specs.PlayerFigures.{position_in};
+ghost use Rattle.season_graph.specs.Followed.{AreEvaluated};
+ghost use Rattle.season_nodes.specs.Season.{SeasonFacts, is_live, line_worth};
+ghost use Rattle.season_nodes.specs.declared.nodes.Node.{Node};
 ghost use Rattle.season_book.specs.Views.{line_shown};
-ghost use Rattle.season_views.specs.Worth.{AreLevels, GiveBonus, bonus_among};
+ghost use Rattle.season_views.specs.Cells.{AreKeptOf, line_with};
 
 use fpl_base::{FixtureId, Memory, PlayerId, Steps};
-use line_scoring::{BonusLevels, bps, line_points};
-use rule_book::Line;
 use season_book::{ShownLine, ShownLines};
 use season_facts::Season;
+use season_graph::{SeasonCells, bonuses_held, line_held, lines_are_told};
+use season_rules::bonus_among;
 use std::alloc::Global;
 use std::sync::ledger::Ledger;
 
-// The lines of a fixture by player, and what they are worth.
+// The lines of a fixture by player, and what they are worth as their cells hold it.
 pub(crate) fn lines_shown<L: Ledger>(
     alloc: Global,
     season: &Season,
+    cells: &SeasonCells,
     fixture: FixtureId,
     steps: &mut Steps<L>,
 ) -> Result<ShownLines, Memory>
-    ensures { IfOk result (λ lines. lines ≡ map (line_shown season.now fixture) (lines_of season.now.matches fixture)) }
+    requires { AreKeptOf season.now cells.now }
+    ensures value { IfOk result (λ lines. lines ≡ map (line_shown season.now fixture) (lines_of season.now.matches fixture)) }
+    ensures cost { steps.new ≤ steps.old + (1 + length (lines_of season.now.matches fixture)) }
 {
-    let levels = levels_of(season, fixture, steps);
-    let (players, lines) = season.rows(fixture, steps);
+    // The law by which the lines of a fixture have what is told of their nodes, for the prover.
+    lines_are_told();
+    let bonuses = bonuses_held(cells, fixture, steps);
+    let players = season.matches().players_of(fixture);
     let mut shown = ShownLines::with_room(alloc, players.len())?;
-    for (place, player) in players.iter().enumerate() {
-        shown.push(line_shown(season, fixture, &levels, *player, &lines[place]))?;
+    for player in players {
+        shown.push(line_shown(cells, fixture, bonuses, *player, steps))?;
     }
     Ok(shown)
 }
 
-// A player's line in a fixture, and what it is worth by the levels there.
-fn line_shown(
-    season: &Season,
+// What a player's line in a fixture is worth as its cell holds it, with his bonus among those of the fixture.
+fn line_shown<L: Ledger>(
+    cells: &SeasonCells,
     fixture: FixtureId,
-    levels: &Option<BonusLevels>,
+    bonuses: &[(PlayerId, u8)],
     player: PlayerId,
-    line: &Line,
+    steps: &mut Steps<L>,
 ) -> ShownLine
-    requires line { IsLine line.now }
-    requires levels { GiveBonus season.now fixture levels.now }
-    ensures { result ≡ line_shown season.now fixture (player, line.now) }
+    ensures value { (b : SeasonFacts) → AreEvaluated b cells.now → is_live b (Node.Line fixture player) ≡ true
+        → result ≡ line_with player (line_worth b fixture player) (unwrap_or (at_id bonuses.now player) 0) }
+    ensures cost { steps.new ≡ steps.old + 1 }
 {
-    let position = season.position(player);
-    let bps = bps(position, line);
+    let worth = line_held(cells, fixture, player, steps);
     ShownLine {
         player,
-        points: line_points(season.profile(), position, line),
-        bps,
-        bonus: bonus_among(levels, line, bps),
+        points: i32::from(worth.points),
+        bps: i32::from(worth.bps),
+        bonus: bonus_among(bonuses, player),
     }
-}
-
-// The levels of a fixture that is finished.
-pub(crate) fn levels_of<L: Ledger>(
-    season: &Season,
-    fixture: FixtureId,
-    steps: &mut Steps<L>,
-) -> Option<BonusLevels>
-    ensures { GiveBonus season.now fixture result }
-{
-    if season.is_finished(fixture) {
-        Some(levels_among(season, fixture, steps))
-    } else {
-        None
-    }
-}
-
-// The levels of a match: the greatest numbers of those who took part.
-fn levels_among<L: Ledger>(season: &Season, fixture: FixtureId, steps: &mut Steps<L>) -> BonusLevels
-    ensures { AreLevels season.now result (lines_of season.now.matches fixture) }
-{
-    let (players, lines) = season.rows(fixture, steps);
-    let mut levels = BonusLevels::new();
-    for (place, player) in players.iter().enumerate() {
-        let number = number_of(season, *player, &lines[place]);
-        count_in(&mut levels, &lines[place], number);
-    }
-    levels
-}
-
-// A player's number in the bonus points system for a line of his.
-pub(crate) fn number_of(season: &Season, player: PlayerId, line: &Line) -> i32
-    requires { IsLine line.now }
-    ensures { result ≡ bps_of (position_in season.now.players player) line.now }
-{
-    bps(season.position(player), line)
-}
-
-// Counts a line of this number in, if its player took part.
-fn count_in(levels: &mut BonusLevels, line: &Line, number: i32)
-    ensures part { takes_part line.now ≡ true → (own : ℤ) → bonus_by levels.new own ≡ bonus_by levels.old own - above own number }
-    ensures none { takes_part line.now ≡ false → levels.new ≡ levels.old }
-{
-    if has_minutes(line) {
-        levels.add(number);
-    }
-}
-
-// The bonus of a line of this number, by the levels of its match, if it is finished.
-pub(crate) fn bonus_among(levels: &Option<BonusLevels>, line: &Line, number: i32) -> u8
-    ensures value { result ≡ bonus_among levels.now line.now number }
-    ensures bound { result ≤ 3 }
-{
-    match levels {
-        Some(levels) if has_minutes(line) => levels.bonus(number),
-        _ => 0,
-    }
-}
-
-fn has_minutes(line: &Line) -> bool
-    ensures { result ≡ takes_part line.now }
-{
-    line.figures[0] >= 1
 }

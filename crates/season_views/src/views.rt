@@ -1,38 +1,44 @@
 // What views show.
-ghost use Rattle.std.specs.Prelude.{◌≡◌, ◌≤◌, ◌<◌, ◌&&◌, Some, None, IfOk, IsSome, OnErr, length, nat_le, slice_get, if◌then◌else◌};
+ghost use Rattle.std.specs.Prelude.{◌≡◌, ◌≤◌, ◌<◌, ◌+◌, ◌&&◌, Some, None, IfOk, IsSome, OnErr, length, nat_le, slice_get, if◌then◌else◌};
 ghost use Rattle.std.specs.Option.{option_map};
 ghost use Rattle.rule_book.specs.Calendar.{is_locked};
+ghost use Rattle.season_book.specs.Verdict.{shown_or_unknown};
 ghost use Rattle.season_book.specs.Views.{shown_of, season_shown, fixture_shown};
 ghost use Rattle.season_book.specs.declared.request.View.TheVariants as view;
+ghost use Rattle.season_views.specs.Cells.{AreKeptOf};
+ghost use Rattle.season_views.specs.Reads.{reads_allowed};
 
-use crate::figures::gameweek_figures;
 use crate::sheets::lines_shown;
 use fpl_base::{Gw, Memory, Moment, Steps};
 use rule_book::Player;
 use season_book::{Moments, Shown, ShownFixture, ShownSeason, View};
 use season_calendar::Calendar;
 use season_facts::Season;
+use season_graph::{SeasonCells, gameweek_held};
 use std::alloc::Global;
 use std::sync::ledger::Ledger;
 
 /// What a view shows; `None` exactly where an id is not there, or the gameweek is not locked. Memory runs out only where
-/// something is to be shown. Each line of a match that it reads is a counted read.
+/// something is to be shown. Each cell that it reads is a counted read.
 pub fn show<L: Ledger>(
     alloc: Global,
     season: &Season,
+    cells: &SeasonCells,
     view: View,
     steps: &mut Steps<L>,
 ) -> Result<Option<Shown>, Memory>
+    requires { AreKeptOf season.now cells.now }
     ensures shown { IfOk result (λ shown. shown ≡ shown_of season.now view) }
     ensures out { OnErr result (IsSome (shown_of season.now view)) }
+    ensures cost { steps.new ≤ steps.old + reads_allowed (shown_or_unknown (shown_of season.now view)) }
 {
     match view {
         View::Season => Ok(Some(Shown::Season(season_shown(alloc, season)?))),
         View::Player { player } => player_shown(season, player),
         View::PlayerGameweek { player, gameweek } => {
-            Ok(gameweek_shown(season, player, gameweek, steps))
+            Ok(gameweek_shown(season, cells, player, gameweek, steps))
         }
-        View::Fixture { fixture } => fixture_shown(alloc, season, fixture, steps),
+        View::Fixture { fixture } => fixture_shown(alloc, season, cells, fixture, steps),
         View::Me | View::EntryGameweek { .. } | View::League { .. } | View::Cup { .. } => Ok(None),
     }
 }
@@ -94,16 +100,19 @@ fn copy_of_player(player: &Player) -> Result<Player, Memory>
 
 fn gameweek_shown<L: Ledger>(
     season: &Season,
+    cells: &SeasonCells,
     player: u32,
     gameweek: u32,
     steps: &mut Steps<L>,
 ) -> Option<Shown>
-    ensures { result ≡ shown_of season.now (view.PlayerGameweek player gameweek) }
+    requires { AreKeptOf season.now cells.now }
+    ensures shown { result ≡ shown_of season.now (view.PlayerGameweek player gameweek) }
+    ensures cost { steps.new ≤ steps.old + 1 }
 {
     let there = season.player(player)?;
     let id = there.id;
     let locked = locked_gameweek(season, gameweek)?;
-    let figures = gameweek_figures(season, id, locked, steps);
+    let figures = gameweek_held(cells, id, locked, steps);
     Some(Shown::PlayerGameweek(figures))
 }
 
@@ -121,17 +130,20 @@ pub(crate) fn locked_gameweek(season: &Season, number: u32) -> Option<Gw>
 fn fixture_shown<L: Ledger>(
     alloc: Global,
     season: &Season,
+    cells: &SeasonCells,
     fixture: u32,
     steps: &mut Steps<L>,
 ) -> Result<Option<Shown>, Memory>
+    requires { AreKeptOf season.now cells.now }
     ensures shown { IfOk result (λ shown. shown ≡ shown_of season.now (view.Fixture fixture)) }
     ensures out { OnErr result (IsSome (shown_of season.now (view.Fixture fixture))) }
+    ensures cost { steps.new ≤ steps.old + reads_allowed (shown_or_unknown (shown_of season.now (view.Fixture fixture))) }
 {
     match season.fixture(fixture) {
         Some(there) => Ok(Some(Shown::Fixture(ShownFixture {
             fixture: there,
             finished: season.is_finished(there.id),
-            lines: lines_shown(alloc, season, there.id, steps)?,
+            lines: lines_shown(alloc, season, cells, there.id, steps)?,
         }))),
         None => Ok(None),
     }

@@ -2,8 +2,8 @@ use Rattle.std.proofs.Common.{◌≢◌, ℕ, List, subst, sym}
 use Rattle.rule_book.specs.MatchFacts.{line_of}
 use Rattle.rescore_graph.specs.Graph.{Among}
 use Rattle.season_graph.specs.Changes.{DifferInSheet}
-use Rattle.season_graph.specs.Touched.{coming_nodes, line_nodes, mark_nodes, moved_nodes, sheet_nodes}
-use Rattle.season_graph.specs.Followed.{had_line}
+use Rattle.season_graph.specs.Touched.{coming_nodes, league_nodes, line_nodes, mark_nodes, moved_nodes, sheet_nodes}
+use Rattle.season_graph.specs.Followed.{had_cell, had_line}
 use Rattle.season_nodes.specs.BookFacts.{facts_of}
 use Rattle.season_nodes.specs.Held.{held}
 use Rattle.season_nodes.specs.IndexFacts.{holders_in}
@@ -61,3 +61,12 @@ returns-in-Sheet c =
     marked_by before d (held c.args.cells.now) (held c.sheet_changed.new.cells)
     (sheet_nodes d (had_line c.args.cells.now c.in-Sheet.fixture) c.in-Sheet.fixture c.deref.result.now c.in-Sheet.marked)
     nodes (sound before is_b is_d given.0) (exact before is_b is_d (record { differ = given.0; lines = given.1; mark = those.2 })))
+
+pub returns-in-League : goal.returns-in-League
+returns-in-League c =
+    let d = facts_of c.args.rules.now.books in
+    ok_three c.league_changed.result c.league_changed.ensures.nodes c.league_changed.ensures.sound c.league_changed.ensures.exact
+    (λ nodes sound exact before is_b is_d index differ.
+    let those = subst (DifferAs before d) c.in-League.is differ in
+    marked_by before d (held c.args.cells.now) (held c.league_changed.new.cells) (league_nodes d (had_cell c.args.cells.now) c.in-League.league)
+    nodes (sound before is_b is_d those) (exact before is_b is_d those))

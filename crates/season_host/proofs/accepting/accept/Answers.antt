@@ -1,4 +1,4 @@
-use Rattle.std.proofs.Common.{refl}
+use Rattle.std.proofs.Common.{arith, refl}
 use Rattle.season_book.specs.Verdict.{ruled}
 use Rattle.season_running.proofs.AnswerFacts.{refused_as, storeless_refusal}
 use Rattle.season_host.proofs.accepting.accept.Goals as goal
@@ -14,3 +14,18 @@ returns-in-Err-clause-taken g c = (
 
 pub returns-in-Err-clause-storeless : goal.returns-in-Err-clause-storeless
 returns-in-Err-clause-storeless g c = storeless_refusal c.in-Err.refused c.in-Err.ensures.refusal
+
+pub returns-in-Err-clause-counted : goal.returns-in-Err-clause-counted
+returns-in-Err-clause-counted g c = omega (arith, c.judge.ensures.counted)
+
+pub returns-in-Err-clause-refused : goal.returns-in-Err-clause-refused
+returns-in-Err-clause-refused g c = λ some. c.judge.ensures.counted
+
+pub returns-in-Err-touched-clause-counted : goal.returns-in-Err-touched-clause-counted
+returns-in-Err-touched-clause-counted g c = omega (arith, c.judge.ensures.counted)
+
+pub returns-in-Err-change_as-clause-counted : goal.returns-in-Err-change_as-clause-counted
+returns-in-Err-change_as-clause-counted g c = omega (arith, c.judge.ensures.counted, c.change_as.ensures.counted)
+
+pub returns-in-Ok-change_as-clause-counted : goal.returns-in-Ok-change_as-clause-counted
+returns-in-Ok-change_as-clause-counted g c = omega (arith, c.judge.ensures.counted, c.change_as.ensures.counted)

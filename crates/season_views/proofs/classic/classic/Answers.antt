@@ -1,18 +1,14 @@
 use Rattle.std.proofs.Common.{map, ap, ◌∙◌}
 use Rattle.rule_book.specs.Tables.{classic_table_of}
 use Rattle.season_book.specs.LeagueViews.{ranked_shown}
-use Rattle.season_views.specs.Leagues.{classic_row_since}
 use Rattle.season_views.proofs.ShownLeagues.{classic_made}
 use Rattle.season_views.proofs.classic.classic.Goals as goal
 
-pub returns : goal.returns
-returns g c entries are =
+pub returns-clause-value : goal.returns-clause-value
+returns-clause-value g c entries are =
     let facts = c.args.season.now in
     let league = c.args.league.now in
-    let rows =
-    c.deref.ensures.value ∙ c.in_ok-rows.ensures.value entries are
-    ∙ ap (λ start. map (classic_row_since facts entries start) c.members.result.now) c.start.ensures
-    ∙ ap (map (classic_row_since facts entries league.start)) c.members.ensures.value in
-    classic_made facts entries league c.in_ok-copy.field-0 c.start-2.result c.in_ok-classic_named.field-0 (c.in_ok-copy.ensures ∙ c.name.ensures) c.start-2.ensures
+    let rows = c.deref.ensures.value ∙ c.in_ok-rows.ensures.value entries are in
+    classic_made facts entries league c.in_ok-copy.field-0 c.start.result c.in_ok-classic_named.field-0 (c.in_ok-copy.ensures ∙ c.name.ensures) c.start.ensures
     (c.in_ok-classic_named.ensures facts.players entries are
     ∙ ap (map (ranked_shown entries)) (c.deref-2.ensures.value ∙ c.in_ok-table.ensures.value ∙ ap classic_table_of rows))

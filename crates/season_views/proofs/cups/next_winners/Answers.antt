@@ -19,9 +19,10 @@ loop-place-preserved g c =
     record {
       value = λ entries are.
           range_more (tie_won b (side_in facts entries) round winners) 0 place place c.goes_through.result c.loop-place.next c.push.new.self zero_more
-          (c.goes_through.ensures entries are
+          (c.goes_through.ensures.value entries are
           ∙ ap (λ gw. goes_through first second (λ e. side_in facts entries e gw) c.coin-coin.result) at
           ∙ ap (goes_through first second (λ e. side_in facts entries e (b.start + round))) c.coin-coin.ensures)
           (c.loop-place.invariant.value entries are) c.in_ok-push.ensures.ok;
       long = long_more place c.goes_through.result c.loop-place.next c.push.new.self c.loop-place.invariant.long c.in_ok-push.ensures.ok;
+      cost = let before = c.loop-place.invariant.cost in let two = c.goes_through.ensures.cost in omega (arith, before, two);
     }

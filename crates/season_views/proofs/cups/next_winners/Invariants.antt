@@ -1,4 +1,4 @@
-use Rattle.std.proofs.Common.{◌≡◌, length, map}
+use Rattle.std.proofs.Common.{◌≡◌, ◌≤◌, ◌+◌, ◌*◌, length, map}
 use Rattle.std.specs.List.{range_with_len}
 use Rattle.cup_rounds.specs.Rounds.{tie_won}
 use Rattle.season_book.specs.LeagueViews.{side_in}
@@ -9,4 +9,5 @@ abbrev pub invariant-loop-place : goal.invariant-loop-place
 invariant-loop-place g l = record {
   value : OfEachBook l.season l.managers (λ entries. l.next ≡ map (tie_won l.bracket (side_in l.season entries) l.round l.winners) (range_with_len 0 l.place));
   long : length l.next ≡ l.place;
+  cost : l.steps ≤ l.fn.steps + 2 * l.place;
 }

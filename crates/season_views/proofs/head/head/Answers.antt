@@ -1,11 +1,12 @@
-use Rattle.std.proofs.Common.{◌≤◌, ℕ, All, length, map, sym, ap, subst, ◌∙◌}
+use Rattle.std.proofs.Common.{◌≤◌, ℕ, All, length, map, rules, sym, ap, subst, ◌∙◌}
+use Rattle.rule_book.specs.Players.{ArePlayers}
 use Rattle.rule_book.specs.Ranks.{AllDiffer}
 use Rattle.rule_book.specs.Tables.{head_table_of}
 use Rattle.rule_book.specs.declared.tables.HeadRanked.{HeadRanked}
 use Rattle.rule_book.specs.declared.tables.HeadScore.{HeadScore}
 use Rattle.season_book.specs.LeagueViews.{head_ranked_shown}
-use Rattle.season_views.specs.Leagues.{head_row_at, rounds_since}
-use Rattle.season_views.proofs.Matches.{rows_same}
+use Rattle.season_views.specs.Cells.{books_seen}
+use Rattle.season_views.proofs.Matches.{rows_are}
 use Rattle.season_views.proofs.ShownLeagues.{head_made}
 use Rattle.season_views.proofs.head.head.Goals as goal
 
@@ -21,18 +22,18 @@ head_named-requires g c =
     subst (All (λ (row : HeadRanked). row.entry ≤ n)) (sym c.deref-2.ensures.value)
     (c.in_ok-table.ensures.entries n (subst (All (λ (e : ℕ). e ≤ n)) (sym firsts) c.requires.issued))
 
-pub returns : goal.returns
-returns g c entries are =
+pub returns-clause-value : goal.returns-clause-value
+returns-clause-value g c entries are =
     let facts = c.args.season.now in
+    let managers = c.args.managers.now in
     let league = c.args.league.now in
-    let rounds =
-    c.as_slice.ensures ∙ c.in_ok-rounds.ensures.value entries are
-    ∙ ap (λ order. rounds_since facts entries order c.start.result) c.order.ensures.value
-    ∙ ap (rounds_since facts entries league.order) c.start.ensures in
+    let leagues = c.requires.kept.0 in
+    let lawful : ArePlayers facts.players = subst ArePlayers c.players.ensures c.len-count.ensures.lawful in
+    let one : 1 ≤ c.start.result = search rules in
+    let first : 1 ≤ league.start = subst (λ s. 1 ≤ s) c.start.ensures one in
     let rows =
-    c.deref.ensures.value ∙ c.in_ok-rows.ensures.value
-    ∙ ap (λ those. map (head_row_at those league) league.members) rounds
-    ∙ rows_same facts entries league in
-    head_made facts entries league c.in_ok-copy.field-0 c.start-2.result c.in_ok-head_named.field-0 (c.in_ok-copy.ensures ∙ c.name.ensures) c.start-2.ensures
+    c.deref.ensures.value ∙ c.in_ok-rows.ensures.value (books_seen facts managers leagues) c.requires.kept.2.evaluated c.requires.kept.1
+    ∙ rows_are facts managers leagues entries lawful c.rows_tell.ensures c.requires.profile are league first in
+    head_made facts entries league c.in_ok-copy.field-0 c.start.result c.in_ok-head_named.field-0 (c.in_ok-copy.ensures ∙ c.name.ensures) c.start.ensures
     (c.in_ok-head_named.ensures facts.players entries are
     ∙ ap (map (head_ranked_shown entries)) (c.deref-2.ensures.value ∙ c.in_ok-table.ensures.value ∙ ap head_table_of rows))

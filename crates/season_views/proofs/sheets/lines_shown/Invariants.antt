@@ -1,6 +1,10 @@
-use Rattle.std.proofs.Common.{◌≡◌, map, take, zip}
+use Rattle.std.proofs.Common.{◌≡◌, ◌≤◌, ◌+◌, map, take}
+use Rattle.rule_book.specs.MatchFacts.{lines_of}
 use Rattle.season_book.specs.Views.{line_shown}
 use Rattle.season_views.proofs.sheets.lines_shown.Given as goal
 
-abbrev pub invariant-loop-place : goal.invariant-loop-place
-invariant-loop-place g l = l.shown ≡ map (line_shown l.season l.fixture) (take l.place (zip l.players l.lines))
+abbrev pub invariant-loop-player : goal.invariant-loop-player
+invariant-loop-player g l = record {
+  value : l.shown ≡ map (line_shown l.season l.fixture) (take l.player-index (lines_of l.season.matches l.fixture));
+  cost : l.steps ≤ l.fn.steps + (1 + l.player-index);
+}

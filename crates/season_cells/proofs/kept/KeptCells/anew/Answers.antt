@@ -10,14 +10,14 @@ pub evaluate_all-requires : goal.evaluate_all-requires
 evaluate_all-requires g c =
     let rise : (f : ℕ) → Rising (players_in (lines_of c.args.season.now.matches f)) = subst (λ (m : MatchFacts). (f : ℕ) → Rising (players_in (lines_of m f))) c.matches.ensures c.rising.ensures in
     subst IsSeason (sym c.books_of.ensures)
-    (is_season c.args.season.now c.args.managers.now c.keeps_facts.ensures.calendar rise c.keeps_facts.ensures.ranges c.keeps_facts.ensures.there)
+    (is_season c.args.season.now c.args.managers.now c.args.leagues.now c.keeps_facts.ensures.calendar rise c.keeps_facts.ensures.ranges c.keeps_facts.ensures.there c.orders_are_of_members.ensures)
 
 pub returns : goal.returns
 returns g c =
     let same = c.books_of.ensures in
     let rise : (f : ℕ) → Rising (players_in (lines_of c.args.season.now.matches f)) = subst (λ (m : MatchFacts). (f : ℕ) → Rising (players_in (lines_of m f))) c.matches.ensures c.rising.ensures in
     record {
-      season = is_season c.args.season.now c.args.managers.now c.keeps_facts.ensures.calendar rise c.keeps_facts.ensures.ranges c.keeps_facts.ensures.there;
+      season = is_season c.args.season.now c.args.managers.now c.args.leagues.now c.keeps_facts.ensures.calendar rise c.keeps_facts.ensures.ranges c.keeps_facts.ensures.there c.orders_are_of_members.ensures;
       index = subst (λ (b : SeasonFacts). IsIndex b (holders_in c.in_ok-cells.index)) same c.in_ok-cells.ensures.index;
       evaluated = subst (λ (b : SeasonFacts). AreEvaluated b c.in_ok-cells.cells) same c.in_ok-cells.ensures.cells;
     }

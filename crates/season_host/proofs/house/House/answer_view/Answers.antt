@@ -1,5 +1,13 @@
+use Rattle.std.proofs.Common.{arith, subst, sym}
 use Rattle.season_book.specs.declared.request.View.TheVariants as view
+use Rattle.season_book.specs.Book.{Facts}
+use Rattle.season_book.specs.Verdict.{view_answer}
+use Rattle.season_views.specs.Cells.{AreKept}
+use Rattle.season_views.proofs.Counted.{eight}
+use Rattle.season_running.specs.Changed.{played_by}
 use Rattle.season_running.proofs.HostFacts.{gameweek_shown, seen_answered, stood_for}
+use Rattle.season_host.proofs.Followed.{kept_of}
+use Rattle.season_host.proofs.ViewReads.{seen_reads}
 use Rattle.season_host.proofs.house.House.answer_view.Goals as goal
 
 pub returns-in-EntryGameweek-clause-shown : goal.returns-in-EntryGameweek-clause-shown
@@ -23,3 +31,41 @@ returns-in-Cup-clause-shown g c =
     let running = c.in-Some.running in
     let plays = stood_for c.args.self.now c.self.inside.operator c.self.inside.running c.self.inside.lasts running book c.self.view_is c.in-Some.is stands in
     seen_answered book c.args.caller.now (view.Cup c.in-Cup.cup) running.facts c.cup.result plays.facts (c.cup.ensures.seen c.args.caller.now book plays))
+
+pub answer_shown-requires : goal.answer_shown-requires
+answer_shown-requires g c =
+    let running = c.in-Some.running in
+    let managers = played_by running.facts.profile running.managers in (
+      managers,
+      running.leagues,
+      subst (λ (f : Facts). AreKept f managers running.leagues c.cells-cells.result.now) (sym c.season.ensures)
+          (subst (λ cells. AreKept running.facts managers running.leagues cells) (sym c.cells-cells.ensures)
+          (kept_of c.self.inside.operator c.self.inside.lasts c.args.self.now c.self.inside.running running c.args.cells.now c.in-Some-cells.kept
+          c.self.view_is c.in-Some.is c.in-Some-cells.is c.requires)),
+    )
+
+pub returns-in-Me-clause-cost : goal.returns-in-Me-clause-cost
+returns-in-Me-clause-cost g c = λ book stands.
+    let most = eight (view_answer book c.args.caller.now c.args.view) in
+    let few = c.my_entry.ensures.cost in
+    omega (arith, most, few)
+
+pub returns-in-EntryGameweek-clause-cost : goal.returns-in-EntryGameweek-clause-cost
+returns-in-EntryGameweek-clause-cost g c = λ book stands.
+    let most = eight (view_answer book c.args.caller.now c.args.view) in
+    let few = c.entry_gameweek.ensures.cost in
+    omega (arith, most, few)
+
+pub returns-in-League-clause-cost : goal.returns-in-League-clause-cost
+returns-in-League-clause-cost g c =
+    rw c.in-League.is (λ book stands.
+    let running = c.in-Some.running in
+    let plays = stood_for c.args.self.now c.self.inside.operator c.self.inside.running c.self.inside.lasts running book c.self.view_is c.in-Some.is stands in
+    seen_reads book c.args.caller.now (view.League c.in-League.league) running.facts c.args.steps.now c.league.new.steps plays.facts (c.league.ensures.cost c.args.caller.now book plays))
+
+pub returns-in-Cup-clause-cost : goal.returns-in-Cup-clause-cost
+returns-in-Cup-clause-cost g c =
+    rw c.in-Cup.is (λ book stands.
+    let running = c.in-Some.running in
+    let plays = stood_for c.args.self.now c.self.inside.operator c.self.inside.running c.self.inside.lasts running book c.self.view_is c.in-Some.is stands in
+    seen_reads book c.args.caller.now (view.Cup c.in-Cup.cup) running.facts c.args.steps.now c.cup.new.steps plays.facts (c.cup.ensures.cost c.args.caller.now book plays))

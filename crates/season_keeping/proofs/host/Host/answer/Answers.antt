@@ -4,9 +4,12 @@ use Rattle.season_book.specs.Verdict.{Failures, MayAnswer, pass}
 use Rattle.season_book.specs.declared.answer.Answer.{Answer}
 use Rattle.season_records.specs.Commits.{HoldsLeft}
 use Rattle.season_running.specs.Standing.{HostRows}
-use Rattle.season_keeping.specs.Answering.{IsCaused, MayEnd, WouldChange}
+use Rattle.season_host.specs.Accepted.{locks_more}
+use Rattle.season_keeping.specs.Answering.{IsCaused, MayEnd, MayRest, ReadsFew, WouldChange}
+use Rattle.season_keeping.proofs.Counting.{cheap_from, few_from}
 use Rattle.season_keeping.proofs.Acting.{backs_between, left_of_commit, left_of_ending, stands_between, then_leads}
 use Rattle.season_keeping.proofs.Ending.{caused_fault, caused_over, change_of_act, change_of_lock, fails_by, leads_map, may_behind, may_of_lock}
+use Rattle.season_keeping.proofs.Leading.{is_fresh}
 use Rattle.season_keeping.proofs.host.Host.answer.Goals as goal
 
 pub returns-in-Ok-clause-answered : goal.returns-in-Ok-clause-answered
@@ -75,7 +78,25 @@ returns-in-Ok-clause-late g c = λ is book stands.
     let one = c.in-Ok.ensures.locked book stands in
     let stood = stands_between _ g.K.Keeper.tells g.K.Keeper.serves g.K.Keeper.holds g.K.Keeper.passes first middle last old mid new book here
     c.in-Ok.ensures.ok c.answer_locked.ensures.told c.answer_locked.ensures.served one in
-    subst (λ (operator : List ℕ). IsOutLate operator here c.args.caller c.args.now c.args.request.now c.answer_locked.result) own (c.answer_locked.ensures.late is here stood)
+    subst (λ (operator : List ℕ). IsOutLate operator here c.args.caller c.args.now c.args.request.now c.answer_locked.result) own (c.answer_locked.ensures.late here stood)
+
+pub returns-in-Ok-clause-granted : goal.returns-in-Ok-clause-granted
+returns-in-Ok-clause-granted g c = λ is book stands.
+    let old = c.args.self.now in
+    let mid = c.lock.new.self in
+    let new = c.answer_locked.new.self in
+    let first = c.args.keeper.now in
+    let middle = c.lock.new.keeper in
+    let last = c.answer_locked.new.keeper in
+    let here = pass book c.args.now in
+    let own = ap (λ (rows : HostRows). rows.operator) c.lock.ensures.rows in
+    let one = c.in-Ok.ensures.locked book stands in
+    let stood = stands_between _ g.K.Keeper.tells g.K.Keeper.serves g.K.Keeper.holds g.K.Keeper.passes first middle last old mid new book here
+    c.in-Ok.ensures.ok c.answer_locked.ensures.told c.answer_locked.ensures.served one in
+    subst (λ (operator : List ℕ). IsOutLate operator here c.args.caller c.args.now c.args.request.now c.answer_locked.result) own (c.answer_locked.ensures.late here stood)
+
+pub returns-in-Err-clause-granted : goal.returns-in-Err-clause-granted
+returns-in-Err-clause-granted g c = λ is book stands. is_fresh (locks_more c.args.self.now.rows.facts c.args.now) c.in-Err.ensures.more is
 
 pub returns-in-Ok-clause-changes : goal.returns-in-Ok-clause-changes
 returns-in-Ok-clause-changes g c = λ is book stands.
@@ -129,3 +150,45 @@ returns-in-Err-clause-caused g c =
     let failures : Failures = record { before = g.K.Keeper.faults c.args.keeper.now; behind = g.K.Keeper.faults c.lock.new.keeper } in
     subst (λ (a : Answer). IsCaused failures a) (sym c.fault_answer.ensures)
     (caused_fault c.lock.result c.in-Err.fault (g.K.Keeper.faults c.args.keeper.now) (g.K.Keeper.faults c.lock.new.keeper) c.in-Err.is c.lock.ensures.cause)
+
+pub returns-in-Ok-clause-cheap : goal.returns-in-Ok-clause-cheap
+returns-in-Ok-clause-cheap g c = λ is fresh.
+    cheap_from c.args.self.now.rows c.lock.new.self.rows c.answer_locked.new.self.rows c.args.request.now c.args.steps.now c.lock.new.steps c.answer_locked.new.steps
+    (c.lock.ensures.unlocked is).1 (c.lock.ensures.still is) (c.answer_locked.ensures.cheap fresh)
+
+pub returns-in-Ok-clause-refused : goal.returns-in-Ok-clause-refused
+returns-in-Ok-clause-refused g c = λ is some book stands rest.
+    let old = c.args.self.now in
+    let mid = c.lock.new.self in
+    let new = c.answer_locked.new.self in
+    let here = pass book c.args.now in
+    let own = ap (λ (rows : HostRows). rows.operator) c.lock.ensures.rows in
+    let one = c.in-Ok.ensures.locked book stands in
+    let stood = stands_between _ g.K.Keeper.tells g.K.Keeper.serves g.K.Keeper.holds g.K.Keeper.passes c.args.keeper.now c.lock.new.keeper c.answer_locked.new.keeper old mid new book here
+    c.in-Ok.ensures.ok c.answer_locked.ensures.told c.answer_locked.ensures.served one in
+    few_from c.args.request.now c.args.steps.now c.lock.new.steps c.answer_locked.new.steps (c.lock.ensures.still is)
+    (c.answer_locked.ensures.refused some here stood
+    (subst (λ (operator : List ℕ). MayRest operator here c.args.caller c.args.now c.args.request.now) (sym own) rest))
+
+pub returns-in-Err-clause-refused : goal.returns-in-Err-clause-refused
+returns-in-Err-clause-refused g c = λ is some book stands rest. is_fresh (locks_more c.args.self.now.rows.facts c.args.now) c.in-Err.ensures.more is
+
+pub returns-in-Err-clause-cheap : goal.returns-in-Err-clause-cheap
+returns-in-Err-clause-cheap g c = λ is fresh. is_fresh (locks_more c.args.self.now.rows.facts c.args.now) c.in-Err.ensures.more is
+
+pub returns-in-Ok-clause-views : goal.returns-in-Ok-clause-views
+returns-in-Ok-clause-views g c = λ is book stands.
+    let old = c.args.self.now in
+    let mid = c.lock.new.self in
+    let new = c.answer_locked.new.self in
+    let first = c.args.keeper.now in
+    let middle = c.lock.new.keeper in
+    let last = c.answer_locked.new.keeper in
+    let here = pass book c.args.now in
+    let one = c.in-Ok.ensures.locked book stands in
+    let stood = stands_between _ g.K.Keeper.tells g.K.Keeper.serves g.K.Keeper.holds g.K.Keeper.passes first middle last old mid new book here
+    c.in-Ok.ensures.ok c.answer_locked.ensures.told c.answer_locked.ensures.served one in
+    subst (λ (n : ℕ). ReadsFew here c.args.caller c.args.request.now n c.answer_locked.new.steps) (c.lock.ensures.still is) (c.answer_locked.ensures.views here stood)
+
+pub returns-in-Err-clause-views : goal.returns-in-Err-clause-views
+returns-in-Err-clause-views g c = λ is book stands. is_fresh (locks_more c.args.self.now.rows.facts c.args.now) c.in-Err.ensures.more is

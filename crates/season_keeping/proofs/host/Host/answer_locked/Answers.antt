@@ -30,3 +30,22 @@ returns-in-Command-clause-acts g c = rw c.in-Command.is c.answer_command.ensures
 pub returns-in-View-clause-caused : goal.returns-in-View-clause-caused
 returns-in-View-clause-caused g c =
     caused_storeless (record { before = g.K.Keeper.faults c.args.keeper.now; behind = g.K.Keeper.faults c.args.keeper.now }) c.answer_view.result c.answer_view.ensures.storeless
+
+pub returns-in-View-clause-cheap : goal.returns-in-View-clause-cheap
+returns-in-View-clause-cheap g c = rw c.in-View.is (λ fresh. tt)
+
+pub returns-in-View-clause-refused : goal.returns-in-View-clause-refused
+returns-in-View-clause-refused g c = rw c.in-View.is (λ some book stands rest. tt)
+
+pub returns-in-Command-clause-cheap : goal.returns-in-Command-clause-cheap
+returns-in-Command-clause-cheap g c = rw c.in-Command.is c.answer_command.ensures.cheap
+
+pub returns-in-Command-clause-refused : goal.returns-in-Command-clause-refused
+returns-in-Command-clause-refused g c = rw c.in-Command.is c.answer_command.ensures.refused
+
+pub returns-in-View-clause-views : goal.returns-in-View-clause-views
+returns-in-View-clause-views g c = rw c.in-View.is (λ book stands.
+    c.answer_view.ensures.cost book (subst (λ (rows : HostRows). StandsIn rows book) (sym (ap (λ (h : Housed). h.rows) c.self.view_is)) stands))
+
+pub returns-in-Command-clause-views : goal.returns-in-Command-clause-views
+returns-in-Command-clause-views g c = rw c.in-Command.is (λ book stands. tt)

@@ -1,29 +1,37 @@
-use Rattle.std.proofs.Common.{◌∙◌, ap, refl, subst, sym}
+use Rattle.std.proofs.Common.{◌≡◌, ◌∙◌, ◌⊎◌, true, inl, ap, refl, sym}
+use Rattle.season_book.specs.Verdict.{pass}
 use Rattle.season_host.specs.Accepted.{locks_more}
 use Rattle.season_keeping.specs.Housed.{Housed}
 use Rattle.season_running.specs.Standing.{passed}
-use Rattle.season_keeping.proofs.Locking.{locked_leads, locked_stops, locks_of, stays_of, unlocked_leads}
+use Rattle.season_keeping.proofs.Locking.{locked_leads, locked_stops, stays_of, unlocked_leads}
+use Rattle.season_keeping.proofs.Wanting.{wanting_leads}
 use Rattle.season_keeping.proofs.host.Host.lock.Goals as goal
 
-pub returns-then-locks-clause-locked : goal.returns-then-locks-clause-locked
-returns-then-locks-clause-locked g c =
-    let mid : Housed = record { rows = c.pass-locks.new.self; stale = c.self.inside.stale; reread = c.self.inside.reread } in
+pub returns-then-passed-clause-locked : goal.returns-then-passed-clause-locked
+returns-then-passed-clause-locked g c =
+    let mid : Housed = record { rows = c.pass-passed.new.house; cells = c.pass-passed.new.cells; stale = c.self.inside.stale; reread = c.self.inside.reread } in
     locked_leads c.books_are_early.ensures.moment c.books_are_in_order.ensures.moment c.items_stay.ensures.lock _ g.K.Keeper.tells g.K.Keeper.serves g.K.Keeper.holds g.K.Keeper.passes
-    c.args.keeper.now c.commit.new.keeper c.args.self.now mid c.commit.new.self c.args.now (c.pass-locks.ensures.rows ∙ ap (λ (h : Housed). passed c.args.now h.rows) c.self.view_is)
+    c.args.keeper.now c.commit.new.keeper c.args.self.now mid c.commit.new.self c.args.now (c.pass-passed.ensures.rows ∙ ap (λ (h : Housed). passed c.args.now h.rows) c.self.view_is)
     c.locks_keep_records.ensures.keep c.rows_tell_records.ensures.tell c.slots_tell_items.ensures.look _ c.keeps_order.ensures c.commit.result c.commit.ensures.commits
 
-pub returns-then-locks-clause-stops : goal.returns-then-locks-clause-stops
-returns-then-locks-clause-stops g c =
-    let mid : Housed = record { rows = c.pass-locks.new.self; stale = c.self.inside.stale; reread = c.self.inside.reread } in
+pub returns-then-passed-clause-stops : goal.returns-then-passed-clause-stops
+returns-then-passed-clause-stops g c =
+    let mid : Housed = record { rows = c.pass-passed.new.house; cells = c.pass-passed.new.cells; stale = c.self.inside.stale; reread = c.self.inside.reread } in
     locked_stops c.books_are_early.ensures.moment c.books_are_in_order.ensures.moment c.items_stay.ensures.lock _ g.K.Keeper.tells g.K.Keeper.serves g.K.Keeper.holds g.K.Keeper.passes
-    c.args.keeper.now c.commit.new.keeper c.args.self.now mid c.commit.new.self c.args.now (c.pass-locks.ensures.rows ∙ ap (λ (h : Housed). passed c.args.now h.rows) c.self.view_is)
+    c.args.keeper.now c.commit.new.keeper c.args.self.now mid c.commit.new.self c.args.now (c.pass-passed.ensures.rows ∙ ap (λ (h : Housed). passed c.args.now h.rows) c.self.view_is)
     c.locks_keep_records.ensures.keep c.rows_tell_records.ensures.tell c.slots_tell_items.ensures.look _ c.keeps_order.ensures c.commit.result c.commit.ensures.commits c.requires.fresh
 
-pub returns-else-locks-clause-locked : goal.returns-else-locks-clause-locked
-returns-else-locks-clause-locked g c =
-    let mid : Housed = record { rows = c.pass-locks.new.self; stale = c.self.inside.stale; reread = c.self.inside.reread } in
+pub returns-else-passed-clause-locked : goal.returns-else-passed-clause-locked
+returns-else-passed-clause-locked g c =
+    let mid : Housed = record { rows = c.pass-passed.new.house; cells = c.pass-passed.new.cells; stale = c.self.inside.stale; reread = c.self.inside.reread } in
     unlocked_leads c.books_are_early.ensures.moment c.books_are_in_order.ensures.moment c.items_stay.ensures.lock _ g.K.Keeper.tells g.K.Keeper.serves g.K.Keeper.holds g.K.Keeper.passes
-    c.args.keeper.now c.args.keeper.now c.args.self.now mid mid c.args.now (c.pass-locks.ensures.rows ∙ ap (λ (h : Housed). passed c.args.now h.rows) c.self.view_is)
+    c.args.keeper.now c.args.keeper.now c.args.self.now mid mid c.args.now (c.pass-passed.ensures.rows ∙ ap (λ (h : Housed). passed c.args.now h.rows) c.self.view_is)
     refl (sym (ap (λ (h : Housed). h.stale) c.self.view_is))
     (stays_of c.locks_keep_records.ensures.none c.args.self.now.rows c.args.now
-    (ap (λ (h : Housed). locks_more h.rows.facts c.args.now) (sym c.self.view_is) ∙ sym c.pass-locks.ensures.more ∙ c.if-locks.false))
+    (ap (λ (h : Housed). locks_more h.rows.facts c.args.now) (sym c.self.view_is) ∙ sym c.pass-passed.ensures.more ∙ c.if-passed.false))
+
+pub returns-then-not-passed-clause-locked : goal.returns-then-not-passed-clause-locked
+returns-then-not-passed-clause-locked g c = λ book stands.
+    let new : Housed = record { rows = c.pass-passed.new.house; cells = c.pass-passed.new.cells; stale = true; reread = c.self.inside.reread } in
+    wanting_leads _ g.K.Keeper.tells g.K.Keeper.serves g.K.Keeper.holds g.K.Keeper.passes c.args.keeper.now c.args.self.now new refl book
+    (λ left. (left ≡ book) ⊎ (left ≡ pass book c.args.now)) (inl refl)

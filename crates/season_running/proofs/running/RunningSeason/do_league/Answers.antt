@@ -22,7 +22,7 @@ returns-clause-changed c =
     let before : Running = record { facts = c.self.inside.season; managers = c.self.inside.managers.managers; leagues = c.self.inside.leagues; cups = c.self.inside.cups } in
     let after : Running = record before { leagues = c.do_league.new.leagues } in
     on_ok c.do_league.result c.do_league.ensures.done (λ same. subst (λ (r : Running). IsChangedBy c.args.caller.now c.args.command.now r after) c.self.view_is
-    (leagues_changed c.args.caller.now c.args.command.now before c.do_league.new.leagues c.requires.part))
+    (leagues_changed c.args.caller.now c.args.command.now before c.do_league.new.leagues c.requires.part same))
 
 pub invariant_of-self : goal.invariant_of-self
 invariant_of-self c =

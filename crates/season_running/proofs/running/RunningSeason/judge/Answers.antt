@@ -8,7 +8,7 @@ pub returns-in-Deeds-clause-ruled : goal.returns-in-Deeds-clause-ruled
 returns-in-Deeds-clause-ruled g c = λ book plays. c.judge_deed.ensures.ruled c.args.operator.now c.args.now book plays
 
 pub returns-in-Facts-clause-refusal : goal.returns-in-Facts-clause-refusal
-returns-in-Facts-clause-refusal g c = weighed_refusal c.self.inside.season c.args.now c.args.command.now c.judge.result c.judge.ensures
+returns-in-Facts-clause-refusal g c = weighed_refusal c.self.inside.season c.args.now c.args.command.now c.judge.result c.judge.ensures.weighed
 
 pub returns-in-Leagues-clause-ruled : goal.returns-in-Leagues-clause-ruled
 returns-in-Leagues-clause-ruled g c = λ book plays. c.judge_league.ensures.ruled c.args.operator.now c.args.now book plays

@@ -13,7 +13,9 @@ use Rattle.season_book.specs.declared.answer.Answer.TheVariants as answer
 use Rattle.season_book.specs.declared.shown.Shown.TheVariants as shown
 use Rattle.season_entries.proofs.Placing.{have_positions}
 use Rattle.season_entries.proofs.Times.{in_time_at}
+use Rattle.season_running.specs.Kept.{AreKeptBy}
 use Rattle.season_running.specs.Standing.{Plays, Running}
+use Rattle.season_running.proofs.KeptFacts.{kept_in}
 use Rattle.season_running.proofs.RuledFacts.{me_seen, me_unseen}
 use Rattle.season_running.proofs.running.RunningSeason.my_entry.Goals as goal
 
@@ -42,7 +44,7 @@ returns-in-Some-clause-seen g c = λ book plays is_last.
     let seen : Answer = answer.Shown (shown.Me c.in-Some.shown) in
     subst (λ (r : Running). seen ≡ my_answer book r.facts c.args.caller.now (entry_in book.entries (caller_number c.args.caller.now))) c.self.view_is
     (me_seen book running.facts c.args.caller.now c.in-Entry.entry c.args.last there.0 there.1 (ap caller_number c.in-Entry.is) is_last c.in-Some.shown
-    (sym (c.my_entry.ensures there.0.history stands) ∙ c.in-Some.is))
+    (sym (c.my_entry.ensures.value there.0.history stands) ∙ c.in-Some.is))
 
 pub returns-in-None-clause-seen : goal.returns-in-None-clause-seen
 returns-in-None-clause-seen g c = λ book plays is_last.
@@ -56,4 +58,9 @@ returns-in-None-clause-seen g c = λ book plays is_last.
     let seen : Answer = answer.Rule rule.NotRegistered in
     subst (λ (r : Running). seen ≡ my_answer book r.facts c.args.caller.now (entry_in book.entries (caller_number c.args.caller.now))) c.self.view_is
     (me_unseen book running.facts c.args.caller.now c.in-Entry.entry c.args.last there.0 there.1 (ap caller_number c.in-Entry.is) is_last
-    (sym (c.my_entry.ensures there.0.history stands) ∙ c.in-None.is))
+    (sym (c.my_entry.ensures.value there.0.history stands) ∙ c.in-None.is))
+
+pub my_entry-requires-clause-kept : goal.my_entry-requires-clause-kept
+my_entry-requires-clause-kept g c =
+    kept_in c.self.inside.season c.self.inside.managers c.self.inside.leagues c.args.cells.now c.self.invariant.profile
+    (subst (λ (r : Running). AreKeptBy r c.args.cells.now) (sym c.self.view_is) c.requires)

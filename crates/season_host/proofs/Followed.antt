@@ -1,0 +1,194 @@
+-- Cells that follow what a host became.
+use Rattle.std.proofs.Common.{◌≡◌, ◌∙◌, ℕ, List, [], Option, None, Some, inl, refl, ap, subst, sym}
+use Rattle.std.specs.Option.{option_map, option_map_or, unwrap_or}
+use Rattle.std.proofs.lemmas.Option.{same_Some}
+use Rattle.manager_book.specs.declared.manager.Manager.{Manager}
+use Rattle.manager_book.specs.Managers.{Managers}
+use Rattle.rule_book.specs.declared.cup.Bracket.{Bracket}
+use Rattle.rule_book.specs.Leagues.{LeagueFacts}
+use Rattle.rule_book.specs.Calendar.{IsCalendar}
+use Rattle.season_book.specs.Book.{Facts, Last}
+use Rattle.season_book.specs.Verdict.{locked_at}
+use Rattle.season_cells.specs.Correcting.{IsCorrected}
+use Rattle.season_cells.specs.Kept.{AreCellsOf, CellRows, season_seen}
+use Rattle.season_views.specs.Cells.{books_seen}
+use Rattle.season_cells.specs.Leading.{LeadsTo}
+use Rattle.season_cells.specs.declared.plan.Plan.{Plan}
+use Rattle.season_graph.specs.BookChanges.{MomentPasses}
+use Rattle.season_graph.specs.Changes.{DifferInLocks, IsSame}
+use Rattle.season_nodes.specs.BookFacts.{facts_with}
+use Rattle.season_nodes.specs.Held.{SeasonRows}
+use Rattle.season_nodes.specs.Season.{IsSeason, SeasonFacts}
+use Rattle.season_nodes.specs.declared.nodes.Node.{Node}
+use Rattle.season_nodes.specs.declared.nodes.Node.TheVariants as node
+use Rattle.season_running.specs.Kept.{AreKeptBy}
+use Rattle.season_running.specs.Standing.{HostRows, Running, host_rows, passed}
+use Rattle.season_host.specs.Cells.{AreCellsNow, AreCellsOfHost, AreCorrectedNow, LeadsNow, Locks, LocksNow, running_in, running_seen}
+
+-- a season and its managers are seen as the season that runs
+pub seen_is : (r : Running) (f : Facts) (m : Managers) (l : List LeagueFacts) → f ≡ r.facts → m.managers ≡ r.managers → m.profile ≡ r.facts.profile → l ≡ r.leagues
+    → books_seen f m l ≡ running_seen r
+seen_is r f m l same rows profile leagues =
+    λ i. facts_with (same i).profile (same i).calendar (same i).players (same i).matches (record { profile = profile i; managers = rows i }) (leagues i)
+
+-- the cells of a season that runs are those of the host in which it runs
+of_running : (operator : List ℕ) (lasts : List (ℕ × Last)) (running : Option Running) (cells : Option CellRows)
+    → AreCellsNow running cells → AreCellsOfHost (host_rows operator running lasts) cells
+of_running operator lasts None cells are = are
+of_running operator lasts (Some r) None are = are
+of_running operator lasts (Some r) (Some cells) are = are
+
+pub of_host : (host : HostRows) (running : Option Running) (cells : Option CellRows) → host ≡ host_rows host.operator running host.lasts
+    → AreCellsNow running cells → AreCellsOfHost host cells
+of_host host running cells is are = subst (λ (h : HostRows). AreCellsOfHost h cells) (sym is) (of_running host.operator host.lasts running cells are)
+
+-- what leads to the season of a host leads to the one that runs in it
+leads_running : (operator : List ℕ) (lasts : List (ℕ × Last)) (before running : Option Running) (plan : Plan)
+    → LeadsNow before (running_in (host_rows operator running lasts)) plan → LeadsNow before running plan
+leads_running operator lasts None None plan leads = leads
+leads_running operator lasts None (Some r) plan leads = leads
+leads_running operator lasts (Some b) None plan leads = leads
+leads_running operator lasts (Some b) (Some r) plan leads = leads
+
+pub leads_host : (host : HostRows) (before running : Option Running) (plan : Plan) → host ≡ host_rows host.operator running host.lasts
+    → LeadsNow before (running_in host) plan → LeadsNow before running plan
+leads_host host before running plan is leads =
+    leads_running host.operator host.lasts before running plan (subst (λ (h : HostRows). LeadsNow before (running_in h) plan) is leads)
+
+-- the facts of the season that ran, or of this one where none did
+abbrev pub seen_or : Option Running → Running → SeasonFacts
+seen_or before running = option_map_or running_seen before (running_seen running)
+
+pub cells_then : (before : Option Running) (running : Running) (cells : CellRows) → AreCellsNow before (Some cells) → AreCellsOf (seen_or before running) cells
+cells_then None running cells are = cc
+cells_then (Some b) running cells are = are
+
+pub leads_then : (before : Option Running) (running : Running) (plan : Plan) (cells : CellRows) → AreCellsNow before (Some cells)
+    → LeadsNow before (Some running) plan → LeadsTo (seen_or before running) (running_seen running) plan
+leads_then None running plan cells are leads = absurd leads
+leads_then (Some b) running plan cells are leads = leads are.season
+
+-- a plan leads nowhere where no season runs, before or behind it
+pub leads_nowhere : {X : Type 0} (before : Option Running) (plan : Plan) → LeadsNow before None plan → X
+leads_nowhere None plan leads = absurd leads
+leads_nowhere (Some b) plan leads = absurd leads
+
+pub leads_from_none : {X : Type 0} (before : Option Running) (running : Running) (plan : Plan) → AreCellsNow before None → LeadsNow before (Some running) plan → X
+leads_from_none None running plan are leads = absurd leads
+leads_from_none (Some b) running plan are leads = absurd are
+
+-- What is corrected.
+
+pub corrected_then : (before : Option Running) (running : Running) (plan : Plan) (old new : CellRows) → LeadsNow before (Some running) plan
+    → IsCorrected (seen_or before running) (running_seen running) old.cells new.cells → AreCorrectedNow before (Some running) (Some old) (Some new)
+corrected_then None running plan old new leads is = absurd leads
+corrected_then (Some b) running plan old new leads is = is
+
+corrected_running : (operator : List ℕ) (lasts : List (ℕ × Last)) (before running : Option Running) (old new : Option CellRows)
+    → AreCorrectedNow before running old new → AreCorrectedNow before (running_in (host_rows operator running lasts)) old new
+corrected_running operator lasts None running old new is = tt
+corrected_running operator lasts (Some b) None old new is = tt
+corrected_running operator lasts (Some b) (Some r) None new is = tt
+corrected_running operator lasts (Some b) (Some r) (Some old) None is = tt
+corrected_running operator lasts (Some b) (Some r) (Some old) (Some new) is = is
+
+pub corrected_host : (host : HostRows) (before running : Option Running) (old new : Option CellRows) → host ≡ host_rows host.operator running host.lasts
+    → AreCorrectedNow before running old new → AreCorrectedNow before (running_in host) old new
+corrected_host host before running old new is corrected =
+    subst (λ (h : HostRows). AreCorrectedNow before (running_in h) old new) (sym is) (corrected_running host.operator host.lasts before running old new corrected)
+
+-- a node is the same in facts that are the same
+same_self : (b : SeasonFacts) (n : Node) → IsSame b b n
+same_self b (node.Line f p) = (refl, refl, refl)
+same_self b (node.Bonus f) = (refl, refl)
+same_self b (node.PlayerGw p g) = refl
+same_self b (node.TeamGw e g) = (refl, refl, refl, refl)
+same_self b (node.Total e s) = refl
+same_self b (node.Average l g) = (refl, λ e a. refl)
+same_self b (node.Match l g i) = (refl, refl, λ e a. refl)
+same_self b (node.HeadRow l e) = (refl, refl, refl)
+
+-- where nothing changed, nothing is touched, and no cell has to be another
+unchanged : (b : SeasonFacts) (cells : SeasonRows) → IsCorrected b b cells cells
+unchanged b cells = record {
+  others = λ n stays unreached. refl;
+  touched = λ n live touched. absurd (touched.1 (refl, λ is. same_self b n));
+  once = λ n stays. inl refl;
+}
+
+pub stays_corrected : (running : Option Running) (cells : Option CellRows) → AreCorrectedNow running running cells cells
+stays_corrected None cells = tt
+stays_corrected (Some r) None = tt
+stays_corrected (Some r) (Some cells) = unchanged (running_seen r) cells.cells
+
+-- nothing is asked of cells that were made where no season ran
+pub begun_corrected : (before after : Option Running) (old new : Option CellRows) → before ≡ None → AreCorrectedNow before after old new
+begun_corrected None after old new is = tt
+begun_corrected (Some b) after old new is = cc
+
+-- Moments.
+
+-- the season before a moment, or this one where none ran
+abbrev pub season_then : Option Running → Running → Running
+season_then before running = unwrap_or before running
+
+pub locks_then : (before : Option Running) (running : Running) (first : ℕ) → LocksNow before (Some running) first → Locks (season_then before running) running first
+locks_then None running first locks = absurd locks
+locks_then (Some b) running first locks = locks
+
+pub cells_at : (before : Option Running) (running : Running) (first : ℕ) (cells : CellRows) → AreCellsNow before (Some cells) → LocksNow before (Some running) first
+    → AreCellsOf (running_seen (season_then before running)) cells
+cells_at None running first cells are locks = absurd locks
+cells_at (Some b) running first cells are locks = are
+
+pub none_then : (before : Option Running) (first : ℕ) (cells : Option CellRows) → AreCellsNow before cells → LocksNow before None first → AreCellsNow None cells
+none_then None first cells are locks = are
+none_then (Some b) first cells are locks = absurd locks
+
+pub some_then : {X : Type 0} (before : Option Running) (running : Running) (first : ℕ) → AreCellsNow before None → LocksNow before (Some running) first → X
+some_then None running first are locks = absurd locks
+some_then (Some b) running first are locks = absurd are
+
+-- the season of a moment differs in its locks from the one before
+pub locked_season : MomentPasses → (before running : Running) (first : ℕ) (books : SeasonFacts) → books ≡ running_seen running → Locks before running first
+    → IsSeason (running_seen before) → IsCalendar running.facts.calendar → IsSeason books × DifferInLocks (running_seen before) books first
+locked_season passes before running first books same locks season calendar =
+    let after : SeasonFacts = season_seen (locked_at locks.now before.facts) before.managers before.leagues in
+    let made = passes (running_seen before) locks.now season (subst (λ (f : Facts). IsCalendar f.calendar) locks.facts calendar) in
+    let is : after ≡ books = sym (same ∙ (λ i. season_seen (locks.facts i) (locks.managers i) (locks.leagues i))) in (
+      subst IsSeason is made.0,
+      subst (λ (f : SeasonFacts). DifferInLocks (running_seen before) f first) is
+          (subst (λ n. DifferInLocks (running_seen before) after n) (sym locks.before) made.1),
+    )
+
+locks_case : (facts : Option Facts) (managers : List Manager) (leagues : List LeagueFacts) (cups : List Bracket) (running : Option Running) (now first : ℕ)
+    → option_map (λ r. r.facts) running ≡ option_map (locked_at now) facts → option_map_or (λ r. r.managers) running [] ≡ managers → option_map_or (λ r. r.leagues) running [] ≡ leagues
+    → first ≡ option_map_or (λ f. f.calendar.locked) facts 0
+    → LocksNow (option_map (λ f. record { facts = f; managers = managers; leagues = leagues; cups = cups }) facts) running first
+locks_case None managers leagues cups None now first facts_are managers_are leagues_are is = tt
+locks_case None managers leagues cups (Some r) now first facts_are managers_are leagues_are is = cc
+locks_case (Some f) managers leagues cups None now first facts_are managers_are leagues_are is = cc
+locks_case (Some f) managers leagues cups (Some r) now first facts_are managers_are leagues_are is =
+    record { now = now; facts = same_Some r.facts (locked_at now f) facts_are; managers = managers_are; leagues = leagues_are; before = is }
+
+-- a host on which a moment passed
+pub locks_host : (before old after : HostRows) (running : Option Running) (now first : ℕ) → old ≡ before → after ≡ host_rows after.operator running after.lasts
+    → after ≡ passed now old → first ≡ option_map_or (λ f. f.calendar.locked) old.facts 0 → LocksNow (running_in before) running first
+locks_host before old after running now first same runs passes is =
+    subst (λ (h : HostRows). LocksNow (running_in h) running first) same
+    (locks_case old.facts old.managers old.leagues old.cups running now first
+    (sym (ap (λ (h : HostRows). h.facts) runs) ∙ ap (λ (h : HostRows). h.facts) passes)
+    (sym (ap (λ (h : HostRows). h.managers) runs) ∙ ap (λ (h : HostRows). h.managers) passes)
+    (sym (ap (λ (h : HostRows). h.leagues) runs) ∙ ap (λ (h : HostRows). h.leagues) passes) is)
+
+-- the cells of a host are kept of the season that runs in it
+kept_case : (running : Running) (cells : CellRows) → AreCellsOf (running_seen running) cells → AreKeptBy running cells.cells
+kept_case running cells are = record { season = are.season; evaluated = are.evaluated }
+
+pub kept_of : (operator : List ℕ) (lasts : List (ℕ × Last)) (host : HostRows) (here : Option Running) (running : Running) (all : Option CellRows) (cells : CellRows)
+    → host_rows operator here lasts ≡ host → here ≡ Some running → all ≡ Some cells → AreCellsOfHost host all → AreKeptBy running cells.cells
+kept_of operator lasts host here running all cells view runs kept are =
+    kept_case running cells
+    (subst (λ (o : Option Running). AreCellsOfHost (host_rows operator o lasts) (Some cells)) runs
+    (subst (λ (o : Option CellRows). AreCellsOfHost (host_rows operator here lasts) o) kept
+    (subst (λ (h : HostRows). AreCellsOfHost h all) (sym view) are)))

@@ -1,0 +1,4 @@
+use Rattle.season_host.proofs.following.follow_in.Given as goal
+
+abbrev pub ghost-follow : goal.ghost-follow
+ghost-follow g a = g.before

@@ -1,0 +1,26 @@
+-- The reads of a request behind a moment that locks nothing.
+use Rattle.std.proofs.Common.{◌≡◌, ◌≤◌, ◌+◌, ◌*◌, ℕ, List, Option, subst}
+use Rattle.fpl_base.specs.declared.kinds.Caller.{Caller}
+use Rattle.season_book.specs.Book.{Book}
+use Rattle.season_book.specs.declared.request.Request.{Request}
+use Rattle.season_book.specs.declared.request.Request.TheVariants as request
+use Rattle.season_host.specs.Cells.{IsCheapCommand, IsCheapNow, lines_in, running_in}
+use Rattle.season_running.specs.Standing.{HostRows, Running}
+use Rattle.season_keeping.specs.Answering.{CountsFew, IsCheapRequest, MayRest, WouldAct}
+
+-- a request that was cheap in the season that runs behind the moment was cheap in the one before, which is the same
+pub cheap_from : (first before after : HostRows) (asked : Request) (start old new : ℕ) → running_in before ≡ running_in first → old ≡ start
+    → IsCheapRequest before after asked old new → IsCheapRequest first after asked start new
+cheap_from first before after (request.Command number command) start old new same still cheap =
+    subst (λ k. IsCheapCommand first after command k new) still
+    (subst (λ (o : Option Running). IsCheapNow o (running_in after) (old + 2 * lines_in o command + 8) new) same cheap)
+cheap_from first before after (request.View view) start old new same still cheap = tt
+
+pub few_from : (asked : Request) (start old new : ℕ) → old ≡ start → CountsFew asked old new → CountsFew asked start new
+few_from (request.Command number command) start old new still few = subst (λ k. new ≤ k + 8) still few
+few_from (request.View view) start old new still few = tt
+
+-- what would act does not rest
+pub acts_never_rest : {X : Type 0} (operator : List ℕ) (book : Book) (caller : Caller) (now : ℕ) (asked : Request)
+    → WouldAct operator book caller now asked → MayRest operator book caller now asked → X
+acts_never_rest operator book caller now asked act rest = absurd (act rest.0 rest.1 rest.2)
