@@ -1,2 +1,4 @@
+pub mod Answered
 pub mod Desks
 pub mod Kept
+pub mod Looks

@@ -12,7 +12,8 @@ ghost use Rattle.season_keeping.specs.Opening.{Opens, Withholds};
 ghost use Rattle.season_opening.specs.declared.loading.OpenFault.{OpenFault};
 ghost use Rattle.season_opening.specs.declared.loading.OpenFault.TheVariants as fault;
 ghost use Rattle.fpl_desk.specs.Desks.{Asks, IsFaultReply, RepliesAs};
-ghost use Rattle.fpl_desk.specs.Kept.{IsStoodByRows, IsStoodByStops, Kept, Leads, StandsByRecords, asked_in, caller_in};
+ghost use Rattle.fpl_desk.specs.Kept.{IsStoodByRows, IsStoodByStops, Leads, StandsByRecords, asked_in, caller_in};
+ghost use Rattle.fpl_desk.specs.Looks.{Counted, CountsAs, CountsLooks};
 ghost use Rattle.fpl_replies.specs.Replying.{IsReplyUntil, Judges, asked_by, reply_of, unless_malformed};
 ghost use Rattle.fpl_replies.specs.Whole.{IsKeptReply};
 
@@ -151,6 +152,9 @@ fn answered<K: Keeper, C: Clock, L: Ledger>(
         (record { host = host.old.host; moments = C.left clock.old; failed = K.faults keeper.old; keeper = keeper.old })
         (record { host = host.new.host; moments = C.left clock.new; failed = K.faults keeper.new; keeper = keeper.new })
         (λ served behind. RepliesAs (asked_in host.old.host.rows (request_seen message.now) route ids.now) served (answer_in result) behind) }
+    ensures counts { CountsAs (asked_in host.old.host.rows (request_seen message.now) route ids.now)
+        (record { kept = record { host = host.old.host; moments = C.left clock.old; failed = K.faults keeper.old; keeper = keeper.old }; reads = steps.old })
+        (record { kept = record { host = host.new.host; moments = C.left clock.new; failed = K.faults keeper.new; keeper = keeper.new }; reads = steps.new }) }
 {
     match asked_by(alloc, &host.host, &mut host.scratch, message, route, ids)? {
         Asked::Refused(reply) => Ok(reply),
@@ -185,6 +189,9 @@ fn judged<K: Keeper, C: Clock, L: Ledger>(
         (record { host = host.old; moments = C.left clock.old; failed = K.faults keeper.old; keeper = keeper.old })
         (record { host = host.new; moments = C.left clock.new; failed = K.faults keeper.new; keeper = keeper.new })
         (λ served behind. Judges served caller request.now (answer_in result) behind) }
+    ensures counts { CountsAs (Ok (caller, request.now))
+        (record { kept = record { host = host.old; moments = C.left clock.old; failed = K.faults keeper.old; keeper = keeper.old }; reads = steps.old })
+        (record { kept = record { host = host.new; moments = C.left clock.new; failed = K.faults keeper.new; keeper = keeper.new }; reads = steps.new }) }
 {
     let now = clock.now();
     let answer = host.answer(keeper, caller, now, request, steps);
@@ -253,13 +260,14 @@ fn unready(alloc: Global, fault: OpenFault) -> Result<Reply, Memory>
 }
 
 impl<K: Keeper, C: Clock, L: Ledger> Service<HostWithScratch, K, C, L> for Desk {
-    ghost State = { Kept K };
+    ghost State = { Counted K };
 
-    ghost see = { λ now. record { host = now.0.host; moments = C.left now.2; failed = K.faults now.1; keeper = now.1 } };
+    ghost see = { λ now. record { kept = record { host = now.0.host; moments = C.left now.2; failed = K.faults now.1; keeper = now.1 }; reads = now.3 } };
 
-    ghost answers = { λ _. Both (LiftsWhile (λ _. ⊤) IsStoodByRows IsReplyUntil)
-        (Both (LiftsWhile (λ kept. K.tells kept.keeper) (IsStoodByStops K.holds K.passes) IsReplyUntil)
-        (LiftsWhile (λ kept. K.tells kept.keeper × K.serves kept.keeper) (StandsByRecords K.holds K.passes) IsKeptReply)) };
+    // How many reads are counted; and what is answered by the rows, with what a stop leaves, and by the keeper's records.
+    ghost answers = { λ _. Both CountsLooks (Both (LiftsWhile (λ _. ⊤) (λ now. IsStoodByRows now.kept) IsReplyUntil)
+        (Both (LiftsWhile (λ now. K.tells now.kept.keeper) (λ now. IsStoodByStops K.holds K.passes now.kept) IsReplyUntil)
+        (LiftsWhile (λ now. K.tells now.kept.keeper × K.serves now.kept.keeper) (λ now. StandsByRecords K.holds K.passes now.kept) IsKeptReply))) };
 
     ghost ready = { λ _ _. ⊤ };
 

@@ -2,7 +2,9 @@
 #![tactic(auto)]
 
 mod desk;
+mod laws;
 mod standing;
 
 pub use desk::{Desk, HostWithScratch, opened};
-pub use standing::{ByRecords, ByRows, ByStops, RowsFirst, StopsFirst};
+pub use laws::{looks_read_few, sessions_answer};
+pub use standing::{ByRecords, ByRows, ByStops, ReadsFirst, RowsFirst, StopsFirst};

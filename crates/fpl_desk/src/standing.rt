@@ -1,6 +1,7 @@
 // What the host and its keeper stand for, of which the promises of a session speak: three views of it.
 ghost use Rattle.std.specs.Prelude.{Option, ⊤};
-ghost use Rattle.fpl_desk.specs.Kept.{IsStoodByRows, IsStoodByStops, Kept, StandsByRecords};
+ghost use Rattle.fpl_desk.specs.Kept.{IsStoodByRows, IsStoodByStops, StandsByRecords};
+ghost use Rattle.fpl_desk.specs.Looks.{Counted, CountsLooks};
 ghost use Rattle.fpl_replies.specs.Replying.{IsReplyUntil, Served};
 ghost use Rattle.fpl_replies.specs.Whole.{IsKeptReply};
 ghost use Rattle.fpl_session.specs.Lifts.{LiftsWhile};
@@ -16,13 +17,13 @@ pub struct ByRows<K: Keeper> {
 }
 
 impl<K: Keeper> Standing for ByRows<K> {
-    ghost Kept = { Kept K };
+    ghost Kept = { Counted K };
 
     ghost State = { Option Served };
 
     ghost follows = { λ _. ⊤ };
 
-    ghost stands = { IsStoodByRows };
+    ghost stands = { λ now. IsStoodByRows now.kept };
 
     ghost answers = { IsReplyUntil };
 }
@@ -34,13 +35,13 @@ pub struct ByStops<K: Keeper> {
 }
 
 impl<K: Keeper> Standing for ByStops<K> {
-    ghost Kept = { Kept K };
+    ghost Kept = { Counted K };
 
     ghost State = { Option Served };
 
-    ghost follows = { λ kept. K.tells kept.keeper };
+    ghost follows = { λ now. K.tells now.kept.keeper };
 
-    ghost stands = { IsStoodByStops K.holds K.passes };
+    ghost stands = { λ now. IsStoodByStops K.holds K.passes now.kept };
 
     ghost answers = { IsReplyUntil };
 }
@@ -52,30 +53,46 @@ pub struct ByRecords<K: Keeper> {
 }
 
 impl<K: Keeper> Standing for ByRecords<K> {
-    ghost Kept = { Kept K };
+    ghost Kept = { Counted K };
 
     ghost State = { Served };
 
-    ghost follows = { λ kept. K.tells kept.keeper × K.serves kept.keeper };
+    ghost follows = { λ now. K.tells now.kept.keeper × K.serves now.kept.keeper };
 
-    ghost stands = { StandsByRecords K.holds K.passes };
+    ghost stands = { λ now. StandsByRecords K.holds K.passes now.kept };
 
     ghost answers = { IsKeptReply };
 }
 
-/// What a desk answers, as its promises speak of it: by the rows, and by the other two.
+/// What a desk answers, as its promises speak of it: how many reads are counted, and what the host and its keeper stand for.
+#[derive(Drop)]
+pub struct ReadsFirst<K: Keeper> {
+    keeper: K,
+}
+
+impl<K: Keeper> Answering for ReadsFirst<K> {
+    ghost State = { Counted K };
+
+    ghost one = { CountsLooks };
+
+    ghost other = { Both (LiftsWhile (λ _. ⊤) (λ now. IsStoodByRows now.kept) IsReplyUntil)
+        (Both (LiftsWhile (λ now. K.tells now.kept.keeper) (λ now. IsStoodByStops K.holds K.passes now.kept) IsReplyUntil)
+        (LiftsWhile (λ now. K.tells now.kept.keeper × K.serves now.kept.keeper) (λ now. StandsByRecords K.holds K.passes now.kept) IsKeptReply)) };
+}
+
+/// What they stand for: by the rows, and by the other two.
 #[derive(Drop)]
 pub struct RowsFirst<K: Keeper> {
     keeper: K,
 }
 
 impl<K: Keeper> Answering for RowsFirst<K> {
-    ghost State = { Kept K };
+    ghost State = { Counted K };
 
-    ghost one = { LiftsWhile (λ _. ⊤) IsStoodByRows IsReplyUntil };
+    ghost one = { LiftsWhile (λ _. ⊤) (λ now. IsStoodByRows now.kept) IsReplyUntil };
 
-    ghost other = { Both (LiftsWhile (λ kept. K.tells kept.keeper) (IsStoodByStops K.holds K.passes) IsReplyUntil)
-        (LiftsWhile (λ kept. K.tells kept.keeper × K.serves kept.keeper) (StandsByRecords K.holds K.passes) IsKeptReply) };
+    ghost other = { Both (LiftsWhile (λ now. K.tells now.kept.keeper) (λ now. IsStoodByStops K.holds K.passes now.kept) IsReplyUntil)
+        (LiftsWhile (λ now. K.tells now.kept.keeper × K.serves now.kept.keeper) (λ now. StandsByRecords K.holds K.passes now.kept) IsKeptReply) };
 }
 
 /// The other two: with what a stop leaves, and by the keeper's records.
@@ -85,9 +102,9 @@ pub struct StopsFirst<K: Keeper> {
 }
 
 impl<K: Keeper> Answering for StopsFirst<K> {
-    ghost State = { Kept K };
+    ghost State = { Counted K };
 
-    ghost one = { LiftsWhile (λ kept. K.tells kept.keeper) (IsStoodByStops K.holds K.passes) IsReplyUntil };
+    ghost one = { LiftsWhile (λ now. K.tells now.kept.keeper) (λ now. IsStoodByStops K.holds K.passes now.kept) IsReplyUntil };
 
-    ghost other = { LiftsWhile (λ kept. K.tells kept.keeper × K.serves kept.keeper) (StandsByRecords K.holds K.passes) IsKeptReply };
+    ghost other = { LiftsWhile (λ now. K.tells now.kept.keeper × K.serves now.kept.keeper) (λ now. StandsByRecords K.holds K.passes now.kept) IsKeptReply };
 }

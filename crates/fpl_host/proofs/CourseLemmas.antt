@@ -12,10 +12,19 @@ use Rattle.season_book.specs.Book.{Book, empty_book}
 use Rattle.season_running.specs.Standing.{StandsIn}
 use Rattle.season_keeping.specs.Opening.{Opens}
 use Rattle.fpl_desk.specs.Kept.{Agrees, IsStoodByRows, IsStoodByStops, Kept, LeadsAll, StandsByRecords, StandsByRows, StandsByStops}
+use Rattle.fpl_desk.specs.Answered.{SessionsAnswer}
+use Rattle.fpl_desk.specs.Looks.{Counted, CountsLooks, RunsReadFew, SessionReadsFew}
 use Rattle.fpl_replies.specs.Replying.{IsLeftAt, IsReplyUntil, Served}
 use Rattle.fpl_replies.specs.Whole.{IsKeptReply}
 use Rattle.fpl_host.specs.Keeping.{IsBehind, Runs, opened}
 use Rattle.fpl_host.specs.Pipe.{IsSession}
+
+-- what the messages count that a session answered
+pub session_reads_few : (K : Type 0) → SessionsAnswer (CountsLooks {K = K}) → RunsReadFew K → (first last : Counted K) (left now before after : Option (List ℕ)) (ending : Ending)
+    → SessionOf (Speaks CountsLooks) left now first last before after ending → SessionReadsFew left now first last
+session_reads_few K answer few first last left now before after ending session =
+    let told = answer left now first last before after ending session in
+    (told.got, told.taken, (told.messages, told.leads, few first last told.messages told.texts told.run))
 
 module _ (K : Type 0) (tells serves : K → Type 0) (holds passes : K → Map → Type 0) where
   -- ---- one thing after another
@@ -63,24 +72,25 @@ module _ (K : Type 0) (tells serves : K → Type 0) (holds passes : K → Map �
 
   -- ---- a session of the desk
 
-  abbrev Rows : Kept K → Request → ℕ × List ℕ → Kept K → Type 0
-  Rows = LiftsWhile (λ (_ : Kept K). ⊤) IsStoodByRows IsReplyUntil
+  abbrev Rows : Counted K → Request → ℕ × List ℕ → Counted K → Type 0
+  Rows = LiftsWhile (λ (_ : Counted K). ⊤) (λ (now : Counted K). IsStoodByRows now.kept) IsReplyUntil
 
-  abbrev Stops : Kept K → Request → ℕ × List ℕ → Kept K → Type 0
-  Stops = LiftsWhile (λ (kept : Kept K). tells kept.keeper) (IsStoodByStops holds passes) IsReplyUntil
+  abbrev Stops : Counted K → Request → ℕ × List ℕ → Counted K → Type 0
+  Stops = LiftsWhile (λ (now : Counted K). tells now.kept.keeper) (λ (now : Counted K). IsStoodByStops holds passes now.kept) IsReplyUntil
 
-  abbrev Records : Kept K → Request → ℕ × List ℕ → Kept K → Type 0
-  Records = LiftsWhile (λ (kept : Kept K). tells kept.keeper × serves kept.keeper) (StandsByRecords holds passes) IsKeptReply
+  abbrev Records : Counted K → Request → ℕ × List ℕ → Counted K → Type 0
+  Records = LiftsWhile (λ (now : Counted K). tells now.kept.keeper × serves now.kept.keeper) (λ (now : Counted K). StandsByRecords holds passes now.kept) IsKeptReply
 
-  pub session_leads : SessionsSplit Rows (Both Stops Records) → SessionsSplit Stops Records
-      → SessionsLift (λ (_ : Kept K). ⊤) IsStoodByRows IsReplyUntil
-      → SessionsLift (λ (kept : Kept K). tells kept.keeper) (IsStoodByStops holds passes) IsReplyUntil
-      → SessionsLift (λ (kept : Kept K). tells kept.keeper × serves kept.keeper) (StandsByRecords holds passes) IsKeptReply
-      → (first last : Kept K) (left now before after : Option (List ℕ)) (ending : Ending)
-      → SessionOf (Speaks (Both Rows (Both Stops Records))) left now first last before after ending
-      → LeadsAll tells serves holds passes first last (IsSession IsReplyUntil left now before after ending) (IsSession IsKeptReply left now before after ending)
-  session_leads apart asunder by_rows by_stops by_records first last left now before after ending session =
-      let one = apart left now first last before after ending session in
+  pub session_leads : SessionsSplit CountsLooks (Both Rows (Both Stops Records)) → SessionsSplit Rows (Both Stops Records) → SessionsSplit Stops Records
+      → SessionsLift (λ (_ : Counted K). ⊤) (λ (now : Counted K). IsStoodByRows now.kept) IsReplyUntil
+      → SessionsLift (λ (now : Counted K). tells now.kept.keeper) (λ (now : Counted K). IsStoodByStops holds passes now.kept) IsReplyUntil
+      → SessionsLift (λ (now : Counted K). tells now.kept.keeper × serves now.kept.keeper) (λ (now : Counted K). StandsByRecords holds passes now.kept) IsKeptReply
+      → (first last : Counted K) (left now before after : Option (List ℕ)) (ending : Ending)
+      → SessionOf (Speaks (Both CountsLooks (Both Rows (Both Stops Records)))) left now first last before after ending
+      → LeadsAll tells serves holds passes first.kept last.kept (IsSession IsReplyUntil left now before after ending) (IsSession IsKeptReply left now before after ending)
+  session_leads uncounted apart asunder by_rows by_stops by_records first last left now before after ending session =
+      let all = (uncounted left now first last before after ending session).1 in
+      let one = apart left now first last before after ending all in
       let two = asunder left now first last before after ending one.1 in
       record {
         by_rows = λ state stands. let a = (by_rows left now first last before after ending state one.0 tt).1 stands in (a.0, a.1, (a.2, a.3));
@@ -89,6 +99,12 @@ module _ (K : Type 0) (tells serves : K → Type 0) (holds passes : K → Map �
         told = λ tell. (by_stops left now first last before after ending None two.0 tell).0;
         served = λ tell serve. (by_records left now first last before after ending (opened [] empty_book None 0) two.1 (tell, serve)).0.1;
       }
+
+  -- and what it counts
+  pub session_counts : SessionsSplit CountsLooks (Both Rows (Both Stops Records)) → (first last : Counted K) (left now before after : Option (List ℕ)) (ending : Ending)
+      → SessionOf (Speaks (Both CountsLooks (Both Rows (Both Stops Records)))) left now first last before after ending
+      → SessionOf (Speaks CountsLooks) left now first last before after ending
+  session_counts uncounted first last left now before after ending session = (uncounted left now first last before after ending session).0
 
   -- ---- from the book that was opened
 

@@ -9,6 +9,7 @@ mod requests;
 mod run;
 mod score;
 mod serve;
+mod talk;
 
 ghost use Rattle.std.specs.Prelude.{◌≡◌, ◌<◌, None};
 

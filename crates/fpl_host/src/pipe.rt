@@ -4,10 +4,11 @@ ghost use Rattle.fpl_base.specs.Causes.{Rose};
 ghost use Rattle.fpl_host.specs.Pipe.{Pipes, status_of};
 
 use crate::opening::unopened;
+use crate::talk::talk;
 use fpl_asking::status::{CUT, DONE, MEMORY, READ_FAULT, REFUSED, TOO_LONG, WRITE_FAULT};
 use fpl_base::{Clock, Keeper, Key, Sink, Source, Steps};
-use fpl_desk::{ByRecords, ByRows, ByStops, RowsFirst, StopsFirst, opened};
-use fpl_session::{Ending, session, sessions_lift, sessions_split};
+use fpl_desk::opened;
+use fpl_session::Ending;
 use std::alloc::Global;
 use std::sync::ledger::Ledger;
 
@@ -28,13 +29,8 @@ pub fn pipe<S: Source, W: Sink, C: Clock, K: Keeper, L: Ledger>(
     ensures no_doors { result ≡ 8 → ⊥ }
     ensures no_shelf { result ≡ 9 → ⊥ }
 {
-    sessions_split::<RowsFirst<K>>();
-    sessions_split::<StopsFirst<K>>();
-    sessions_lift::<ByRows<K>>();
-    sessions_lift::<ByStops<K>>();
-    sessions_lift::<ByRecords<K>>();
     match opened(alloc, key, keeper, steps) {
-        Ok((desk, mut host)) => ended(session(
+        Ok((desk, mut host)) => ended(talk(
             alloc, &desk, &mut host, keeper, input, output, clock, steps,
         )),
         Err(fault) => unopened(alloc, fault, output),

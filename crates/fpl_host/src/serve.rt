@@ -7,10 +7,11 @@ ghost use Rattle.fpl_replies.specs.Whole.{IsKeptReply};
 ghost use Rattle.fpl_host.specs.Serve.{IsAskedOnce, OneFewer, Serves, ServesOn};
 
 use crate::opening::unopened;
+use crate::talk::talk;
 use fpl_asking::status::{DONE, DOORS, MEMORY};
 use fpl_base::{Clock, Doors, Failed, Keeper, Key, Sink, Steps};
-use fpl_desk::{ByRecords, ByRows, ByStops, Desk, HostWithScratch, RowsFirst, StopsFirst, opened};
-use fpl_session::{Ending, session, sessions_lift, sessions_split};
+use fpl_desk::{Desk, HostWithScratch, opened};
+use fpl_session::Ending;
 use std::alloc::Global;
 use std::sync::ledger::Ledger;
 
@@ -111,13 +112,8 @@ fn serve_one<C: Clock, K: Keeper, D: Doors, L: Ledger>(
     ensures kept { OnOk result (D.faults doors.new ≡ D.faults doors.old) }
     ensures cause { OnErr result (Rose (D.faults doors.old) (D.faults doors.new)) }
 {
-    sessions_split::<RowsFirst<K>>();
-    sessions_split::<StopsFirst<K>>();
-    sessions_lift::<ByRows<K>>();
-    sessions_lift::<ByStops<K>>();
-    sessions_lift::<ByRecords<K>>();
     let (mut source, mut sink) = doors.next()?;
-    let ending = session(
+    let ending = talk(
         alloc,
         desk,
         host,

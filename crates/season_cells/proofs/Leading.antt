@@ -1,22 +1,29 @@
 -- What the plan of a command says is so.
-use Rattle.std.proofs.Common.{◌≡◌, ◌≢◌, ⊎_elim, ℕ, ◌==◌, if◌then◌else◌, arith, Bool, true, false, cond, List, Option, Some, None, is_some, IsSomeAnd, refl, sym, ◌∙◌, ap, subst}
+use Rattle.std.proofs.Common.{◌≡◌, ◌≢◌, ⊎_elim, ◌<◌, ◌++◌, ◌∷◌, [], ℕ, ◌==◌, nat_le, nat_lt, length, if◌then◌else◌, arith, Bool, true, false, cond, List, Option, Some, None, is_some, IsSomeAnd, refl, sym, ◌∙◌, ap, subst}
+use Rattle.std.specs.Option.{option_map_or}
 use Rattle.std.proofs.lemmas.Bool.{and_parts, false≢true}
 use Rattle.std.proofs.lemmas.Bool.Decides.{nat_tests}
 use Rattle.std.proofs.lemmas.Option.{none-some}
 use Rattle.fpl_base.specs.declared.kinds.Caller.{Caller}
 use Rattle.fpl_base.specs.declared.rule.Rule.{Rule}
+use Rattle.fpl_base.specs.declared.rule.Rule.TheVariants as rule
+use Rattle.rule_book.specs.declared.cup.Bracket.{Bracket}
 use Rattle.rule_book.specs.declared.line.Line.{Line}
 use Rattle.rule_book.specs.declared.player.Player.{Player}
 use Rattle.rule_book.specs.declared.season.Fixture.{Fixture}
 use Rattle.rule_book.specs.Calendar.{IsCalendar, next_gameweek, stands_in}
+use Rattle.rule_book.specs.CupCalls.{cup_refusal, most_cups}
+use Rattle.rule_book.specs.Cups.{is_cup, wrong_cup}
 use Rattle.rule_book.specs.Entries.{entry_in}
 use Rattle.rule_book.specs.LeagueCalls.{new_league}
 use Rattle.rule_book.specs.Leagues.{LeagueFacts}
 use Rattle.rule_book.specs.MatchCalls.{drop_line, put_line, put_sheet, set_finished}
 use Rattle.rule_book.specs.MatchFacts.{Lines, MatchFacts, Sheet, by_player, is_finished, line_in, line_of, lines_of, sheet_of, with_line, with_sheet, without_line}
+use Rattle.rule_book.specs.Refusals.{first_broken, unless}
 use Rattle.rule_book.specs.Repeats.{first_repeat}
 use Rattle.rule_book.specs.Players.{player_of}
 use Rattle.classic_leagues.specs.Books.{Rise}
+use Rattle.cup_rounds.specs.Shapes.{HasShape}
 use Rattle.match_facts.specs.Laws.{LinesAreAMap, LinesGo, SheetsAreAMap, SheetsHaveTheirLines}
 use Rattle.manager_book.specs.declared.manager.Manager.{Manager}
 use Rattle.manager_book.specs.Managers.{AreRisen, manager_in}
@@ -29,10 +36,11 @@ use Rattle.season_book.specs.declared.command.Command.{Command}
 use Rattle.season_book.specs.declared.command.Command.TheVariants as command
 use Rattle.season_book.specs.declared.part.Part.{Part}
 use Rattle.season_book.specs.declared.part.Part.TheVariants as part
+use Rattle.season_competitions.specs.Cups.{IsCupGranted, cups_after}
 use Rattle.season_entries.specs.Deeds.{rows_refused_in}
 use Rattle.season_entries.specs.Earlier.{EarlierRowsTell}
 use Rattle.season_facts.proofs.KeptFacts.{among_lines, line_in_range, ranged_lines, sheet_parts}
-use Rattle.season_graph.specs.BookChanges.{AreOthers, AreSheetLines, ClubChanges, DeadlineMoves, FixtureComes, FixtureMoves, GoneChanges, LeagueIsDrawn, LeagueIsJoined, LeagueIsMade, LineIsDropped, LineIsPut, ManagersChange, MarkIsSet, PlayerComes, PriceChanges, SheetIsPut}
+use Rattle.season_graph.specs.BookChanges.{AreOthers, AreSheetLines, ClubChanges, CupIsDrawn, DeadlineMoves, FixtureComes, FixtureMoves, GoneChanges, LeagueIsDrawn, LeagueIsJoined, LeagueIsMade, LineIsDropped, LineIsPut, ManagersChange, MarkIsSet, PlayerComes, PriceChanges, SheetIsPut}
 use Rattle.season_graph.specs.Changes.{AreAlike, EntriesStay, DifferInLeague, DifferInLine, DifferInMark, DifferInPlace, DifferInSheet, SameIsAlike}
 use Rattle.season_graph.specs.Touched.{is_other}
 use Rattle.season_nodes.specs.Season.{IsSeason, SeasonFacts}
@@ -65,6 +73,8 @@ pub record AreLaws : Type 0 where
   pub made : LeagueIsMade
   pub joined : LeagueIsJoined
   pub drawn : LeagueIsDrawn
+  pub cup : CupIsDrawn
+  pub shape : (b : Bracket) (gameweeks locked : ℕ) → wrong_cup b gameweeks locked ≡ None → HasShape b
   pub alike : SameIsAlike
   pub tell : EarlierRowsTell
   pub sheets : SheetsAreAMap
@@ -75,6 +85,26 @@ pub record AreLaws : Type 0 where
 first_test : (t : Bool) (rule : Rule) (more : Option Rule) → cond t (Some rule) more ≡ None → t ≡ false
 first_test true rule more e = cc
 first_test false rule more e = refl
+
+-- a draw that nothing refuses breaks no rule of cups
+second_none : (t : Bool) (broken : Rule) (wrong : Option Rule) (more : List (Option Rule)) → first_broken (unless t broken ∷ wrong ∷ more) ≡ None → wrong ≡ None
+second_none true broken None more e = refl
+second_none true broken (Some other) more e = e
+second_none false broken wrong more e = absurd (none-some broken (sym e))
+
+not_wrong : (count : ℕ) (b : Bracket) (gameweeks locked : ℕ) → cup_refusal (λ number. true) count b gameweeks locked ≡ None → wrong_cup b gameweeks locked ≡ None
+not_wrong count b gameweeks locked e = second_none (nat_lt count most_cups) rule.CupsFull (wrong_cup b gameweeks locked) _ e
+
+-- and its start is open
+open_case : (t : Bool) (broken : Rule) (more : Option Rule) → (if t then Some broken else more) ≡ None → t ≡ false
+open_case true broken more e = cc
+open_case false broken more e = refl
+
+not_by : (m n : ℕ) → nat_le m n ≡ false → n < m
+not_by m n e = grind (arith, nat_tests, e)
+
+is_open : (b : Bracket) (gameweeks locked : ℕ) → wrong_cup b gameweeks locked ≡ None → locked < b.start
+is_open b gameweeks locked e = not_by b.start locked (open_case (nat_le b.start locked) (rule.StartPassed b.start) (if is_cup b gameweeks then None else Some rule.DrawWrong) e)
 
 is_not_other : (x y : Bool) → is_other x y ≡ false → x ≡ y
 is_not_other true true e = refl
@@ -184,12 +214,12 @@ module _ (laws : AreLaws) where
   nothing_leads b d made e h = subst (λ x. LeadsTo b d x) (sym e) (record { season = h.0; differ = h.1 })
 
   -- a command on the facts
-  module _ (f : Facts) (managers : List Manager) (leagues : List LeagueFacts) (now : ℕ) where
+  module _ (f : Facts) (managers : List Manager) (leagues : List LeagueFacts) (cups : List Bracket) (now : ℕ) where
     abbrev b : SeasonFacts
-    b = season_seen f managers leagues
+    b = season_seen f managers leagues cups
 
     abbrev behind : Command → SeasonFacts
-    behind command = season_seen (changed_by f command) managers leagues
+    behind command = season_seen (changed_by f command) managers leagues cups
 
     sheet_leads : (k : ℕ) (lines : Lines) (finished : Bool) (made : Plan) → IsSeason b → IsGranted f now (command.Sheet k lines finished)
         → IsSheet k (lines_of f.matches k) (is_finished f.matches k) lines finished made → LeadsTo b (behind (command.Sheet k lines finished)) made
@@ -261,12 +291,12 @@ module _ (laws : AreLaws) where
     facts_lead (command.Cup start slots coins) made e is granted h lawful = absurd cc
 
   -- a command on the leagues
-  module _ (f : Facts) (managers : List Manager) (leagues : List LeagueFacts) (e : ℕ) where
+  module _ (f : Facts) (managers : List Manager) (leagues : List LeagueFacts) (cups : List Bracket) (e : ℕ) where
     abbrev among : SeasonFacts
-    among = season_seen f managers leagues
+    among = season_seen f managers leagues cups
 
     abbrev after : Command → SeasonFacts
-    after command = season_seen f managers (leagues_after leagues e command)
+    after command = season_seen f managers (leagues_after leagues e command) cups
 
     -- the members of a league that is planned ascend
     planned_rise : (l : ℕ) (made : Plan) → is_some (entry_in leagues l) ≡ true → IsLeagued leagues l made → (league : LeagueFacts) → entry_in leagues l ≡ Some league → Rise league.members
@@ -308,14 +338,26 @@ module _ (laws : AreLaws) where
         (laws.drawn among l order is (λ league at. can_be_drawn leagues l order f.calendar.locked league at (planned_rise l made known h league at) unbroken)) known h
     leagues_lead (command.Cup start slots coins) made i is there unbroken h = absurd cc
 
-  -- a manager's command, a key, and what changes neither facts, managers nor leagues
-  managers_lead : (f : Facts) (leagues : List LeagueFacts) (olds news : List Manager) (made : Plan) → made ≡ plan.Nothing → IsSeason (season_seen f olds leagues)
-      → EntriesStay (season_seen f olds leagues) (season_seen f news leagues) → LeadsTo (season_seen f olds leagues) (season_seen f news leagues) made
-  managers_lead f leagues olds news made e is stay =
-      nothing_leads (season_seen f olds leagues) (season_seen f news leagues) made e (laws.managers (season_seen f olds leagues) (record { profile = f.profile; managers = news }) is stay)
+  -- a manager's command, and a key
+  managers_lead : (f : Facts) (leagues : List LeagueFacts) (cups : List Bracket) (olds news : List Manager) (made : Plan) → made ≡ plan.Nothing → IsSeason (season_seen f olds leagues cups)
+      → EntriesStay (season_seen f olds leagues cups) (season_seen f news leagues cups) → LeadsTo (season_seen f olds leagues cups) (season_seen f news leagues cups) made
+  managers_lead f leagues cups olds news made e is stay =
+      nothing_leads (season_seen f olds leagues cups) (season_seen f news leagues cups) made e (laws.managers (season_seen f olds leagues cups) (record { profile = f.profile; managers = news }) is stay)
 
-  same_stays : (f : Facts) (managers : List Manager) (leagues : List LeagueFacts) → EntriesStay (season_seen f managers leagues) (season_seen f managers leagues)
-  same_stays f managers leagues = record { begun = λ e g w. refl; team = λ e g l. refl; cost = λ e g l. refl }
+  same_stays : (f : Facts) (managers : List Manager) (leagues : List LeagueFacts) (cups : List Bracket) → EntriesStay (season_seen f managers leagues cups) (season_seen f managers leagues cups)
+  same_stays f managers leagues cups = record { begun = λ e g w. refl; team = λ e g l. refl; cost = λ e g l. refl }
+
+  -- a cup that is drawn, which has not started
+  cups_lead : (f : Facts) (managers : List Manager) (leagues : List LeagueFacts) (cups : List Bracket) (command : Command) (made : Plan) → made ≡ plan.Nothing → IsSeason (season_seen f managers leagues cups)
+      → IsCupGranted f cups command → LeadsTo (season_seen f managers leagues cups) (season_seen f managers leagues (cups_after cups command)) made
+  cups_lead f managers leagues cups command made e is granted =
+      let bracket : Bracket = granted.0 in
+      let wrong = not_wrong (length cups) bracket (length f.calendar.deadlines) f.calendar.locked granted.2 in
+      let behind : cups_after cups command ≡ cups ++ bracket ∷ [] = ap (λ o. option_map_or (λ b. cups ++ b ∷ []) o cups) granted.1 in
+      subst (λ cs. LeadsTo (season_seen f managers leagues cups) (season_seen f managers leagues cs) made) (sym behind)
+      (nothing_leads (season_seen f managers leagues cups) (season_seen f managers leagues (cups ++ bracket ∷ [])) made e
+      (laws.cup (season_seen f managers leagues cups) bracket is (laws.shape bracket (length f.calendar.deadlines) f.calendar.locked wrong)
+      (is_open bracket (length f.calendar.deadlines) f.calendar.locked wrong)))
 
   -- a command on no facts and no leagues changes nothing that cells hang on
   nothing_of : (f : Facts) (leagues : List LeagueFacts) (command : Command) (made : Plan) → (part_of command ≡ part.Facts → ⊥) → (part_of command ≡ part.Leagues → ⊥)
@@ -344,48 +386,48 @@ module _ (laws : AreLaws) where
   nothing_of f leagues (command.Cup start slots coins) made other another h = h
 
   -- a key adds a manager who did nothing, and no other command adds one
-  with_stays : (f : Facts) (managers : List Manager) (leagues : List LeagueFacts) (command : Command) → EntriesStay (season_seen f managers leagues) (season_seen f (managers_with managers command) leagues)
-  with_stays f managers leagues (command.Season profile deadlines split clubs) = same_stays f managers leagues
-  with_stays f managers leagues (command.Deadline g t) = same_stays f managers leagues
-  with_stays f managers leagues (command.Player id name position club price) = same_stays f managers leagues
-  with_stays f managers leagues (command.Price p price) = same_stays f managers leagues
-  with_stays f managers leagues (command.Club p club) = same_stays f managers leagues
-  with_stays f managers leagues (command.Gone p gone) = same_stays f managers leagues
-  with_stays f managers leagues (command.Fixture id home away g kickoff) = same_stays f managers leagues
-  with_stays f managers leagues (command.Move k g kickoff) = same_stays f managers leagues
-  with_stays f managers leagues (command.Sheet k lines finished) = same_stays f managers leagues
-  with_stays f managers leagues (command.Line k p line) = same_stays f managers leagues
-  with_stays f managers leagues (command.Drop k p) = same_stays f managers leagues
-  with_stays f managers leagues (command.Finished k finished) = same_stays f managers leagues
-  with_stays f managers leagues (command.Key key name) = key_stays f leagues managers key name
-  with_stays f managers leagues (command.Squad players captain vice) = same_stays f managers leagues
-  with_stays f managers leagues (command.Transfers swaps) = same_stays f managers leagues
-  with_stays f managers leagues (command.Lineup players captain vice) = same_stays f managers leagues
-  with_stays f managers leagues (command.Chip chip) = same_stays f managers leagues
-  with_stays f managers leagues command.CancelChip = same_stays f managers leagues
-  with_stays f managers leagues (command.League kind name code start) = same_stays f managers leagues
-  with_stays f managers leagues (command.Join league code) = same_stays f managers leagues
-  with_stays f managers leagues (command.Draw league order) = same_stays f managers leagues
-  with_stays f managers leagues (command.Cup start slots coins) = same_stays f managers leagues
+  with_stays : (f : Facts) (managers : List Manager) (leagues : List LeagueFacts) (cups : List Bracket) (command : Command) → EntriesStay (season_seen f managers leagues cups) (season_seen f (managers_with managers command) leagues cups)
+  with_stays f managers leagues cups (command.Season profile deadlines split clubs) = same_stays f managers leagues cups
+  with_stays f managers leagues cups (command.Deadline g t) = same_stays f managers leagues cups
+  with_stays f managers leagues cups (command.Player id name position club price) = same_stays f managers leagues cups
+  with_stays f managers leagues cups (command.Price p price) = same_stays f managers leagues cups
+  with_stays f managers leagues cups (command.Club p club) = same_stays f managers leagues cups
+  with_stays f managers leagues cups (command.Gone p gone) = same_stays f managers leagues cups
+  with_stays f managers leagues cups (command.Fixture id home away g kickoff) = same_stays f managers leagues cups
+  with_stays f managers leagues cups (command.Move k g kickoff) = same_stays f managers leagues cups
+  with_stays f managers leagues cups (command.Sheet k lines finished) = same_stays f managers leagues cups
+  with_stays f managers leagues cups (command.Line k p line) = same_stays f managers leagues cups
+  with_stays f managers leagues cups (command.Drop k p) = same_stays f managers leagues cups
+  with_stays f managers leagues cups (command.Finished k finished) = same_stays f managers leagues cups
+  with_stays f managers leagues cups (command.Key key name) = key_stays f leagues cups managers key name
+  with_stays f managers leagues cups (command.Squad players captain vice) = same_stays f managers leagues cups
+  with_stays f managers leagues cups (command.Transfers swaps) = same_stays f managers leagues cups
+  with_stays f managers leagues cups (command.Lineup players captain vice) = same_stays f managers leagues cups
+  with_stays f managers leagues cups (command.Chip chip) = same_stays f managers leagues cups
+  with_stays f managers leagues cups command.CancelChip = same_stays f managers leagues cups
+  with_stays f managers leagues cups (command.League kind name code start) = same_stays f managers leagues cups
+  with_stays f managers leagues cups (command.Join league code) = same_stays f managers leagues cups
+  with_stays f managers leagues cups (command.Draw league order) = same_stays f managers leagues cups
+  with_stays f managers leagues cups (command.Cup start slots coins) = same_stays f managers leagues cups
 
   next_there : (o : Option ℕ) (judged : ℕ → Option Rule) → in_next o judged ≡ None → (n : ℕ) × (o ≡ Some n)
   next_there None judged e = absurd (none-some _ (sym e))
   next_there (Some n) judged e = (n, refl)
 
   -- a command of each part
-  module _ (caller : Caller) (now : ℕ) (command : Command) (old new : Running) (made : Plan) (is : IsSeason (season_seen old.facts old.managers old.leagues)) (planned : IsPlanOf old.facts old.leagues command made)
+  module _ (caller : Caller) (now : ℕ) (command : Command) (old new : Running) (made : Plan) (is : IsSeason (season_seen old.facts old.managers old.leagues old.cups)) (planned : IsPlanOf old.facts old.leagues command made)
       (lawful : IsCalendar new.facts.calendar) (up_old : AreRisen old.managers) (up_new : AreRisen new.managers) where
     abbrev Goal : Type 0
-    Goal = LeadsTo (season_seen old.facts old.managers old.leagues) (season_seen new.facts new.managers new.leagues) made
+    Goal = LeadsTo (season_seen old.facts old.managers old.leagues old.cups) (season_seen new.facts new.managers new.leagues new.cups) made
 
     in_part : (p : Part) → part_of command ≡ p → IsGrantedIn p old (caller_number caller) now command → IsChangedIn p (caller_number caller) command old new → Goal
     in_part part.Facts e granted changed =
-        subst (λ (r : Running). LeadsTo (season_seen old.facts old.managers old.leagues) (season_seen r.facts r.managers r.leagues) made) (sym changed)
-        (facts_lead old.facts old.managers old.leagues now command made e is granted planned (subst (λ (r : Running). IsCalendar r.facts.calendar) changed lawful))
+        subst (λ (r : Running). LeadsTo (season_seen old.facts old.managers old.leagues old.cups) (season_seen r.facts r.managers r.leagues r.cups) made) (sym changed)
+        (facts_lead old.facts old.managers old.leagues old.cups now command made e is granted planned (subst (λ (r : Running). IsCalendar r.facts.calendar) changed lawful))
     in_part part.Entries e granted changed =
-        subst (λ (r : Running). LeadsTo (season_seen old.facts old.managers old.leagues) (season_seen r.facts r.managers r.leagues) made) (sym changed)
-        (managers_lead old.facts old.leagues old.managers (managers_with old.managers command) made
-        (nothing_of old.facts old.leagues command made (λ i. entries_apart (sym e ∙ i)) (λ i. leagues_apart (sym e ∙ i)) planned) is (with_stays old.facts old.managers old.leagues command))
+        subst (λ (r : Running). LeadsTo (season_seen old.facts old.managers old.leagues old.cups) (season_seen r.facts r.managers r.leagues r.cups) made) (sym changed)
+        (managers_lead old.facts old.leagues old.cups old.managers (managers_with old.managers command) made
+        (nothing_of old.facts old.leagues command made (λ i. entries_apart (sym e ∙ i)) (λ i. leagues_apart (sym e ∙ i)) planned) is (with_stays old.facts old.managers old.leagues old.cups command))
       where
         entries_apart : part.Entries ≡ part.Facts → ⊥
         entries_apart i = cc
@@ -394,11 +436,12 @@ module _ (laws : AreLaws) where
         leagues_apart i = cc
     in_part part.Deeds e granted changed =
         let next = next_there (next_gameweek old.facts.calendar) (rows_refused_in old.facts (manager_in old.managers (caller_number caller)).season command) granted.2.unbroken in
-        let stay = deed_stays laws.tell old.facts old.leagues next.0 (caller_number caller) old.managers new.managers next.1 (changed.others old.facts.profile) (changed.earlier old.facts.profile) up_old up_new in
-        subst (λ f. LeadsTo (season_seen old.facts old.managers old.leagues) (season_seen f new.managers new.leagues) made) (sym changed.facts)
-        (subst (λ ls. LeadsTo (season_seen old.facts old.managers old.leagues) (season_seen old.facts new.managers ls) made) (sym changed.leagues)
-        (managers_lead old.facts old.leagues old.managers new.managers made
-        (nothing_of old.facts old.leagues command made (λ i. deeds_apart (sym e ∙ i)) (λ i. leagues_apart (sym e ∙ i)) planned) is stay))
+        let stay = deed_stays laws.tell old.facts old.leagues old.cups next.0 (caller_number caller) old.managers new.managers next.1 (changed.others old.facts.profile) (changed.earlier old.facts.profile) up_old up_new in
+        subst (λ f. LeadsTo (season_seen old.facts old.managers old.leagues old.cups) (season_seen f new.managers new.leagues new.cups) made) (sym changed.facts)
+        (subst (λ ls. LeadsTo (season_seen old.facts old.managers old.leagues old.cups) (season_seen old.facts new.managers ls new.cups) made) (sym changed.leagues)
+        (subst (λ cs. LeadsTo (season_seen old.facts old.managers old.leagues old.cups) (season_seen old.facts new.managers old.leagues cs) made) (sym changed.cups)
+        (managers_lead old.facts old.leagues old.cups old.managers new.managers made
+        (nothing_of old.facts old.leagues command made (λ i. deeds_apart (sym e ∙ i)) (λ i. leagues_apart (sym e ∙ i)) planned) is stay)))
       where
         deeds_apart : part.Deeds ≡ part.Facts → ⊥
         deeds_apart i = cc
@@ -406,14 +449,12 @@ module _ (laws : AreLaws) where
         leagues_apart : part.Deeds ≡ part.Leagues → ⊥
         leagues_apart i = cc
     in_part part.Leagues e granted changed =
-        subst (λ (r : Running). LeadsTo (season_seen old.facts old.managers old.leagues) (season_seen r.facts r.managers r.leagues) made) (sym changed)
-        (leagues_lead old.facts old.managers old.leagues (caller_number caller) command made e is granted.there granted.unbroken planned)
+        subst (λ (r : Running). LeadsTo (season_seen old.facts old.managers old.leagues old.cups) (season_seen r.facts r.managers r.leagues r.cups) made) (sym changed)
+        (leagues_lead old.facts old.managers old.leagues old.cups (caller_number caller) command made e is granted.there granted.unbroken planned)
     in_part part.Cups e granted changed =
-        subst (λ f. LeadsTo (season_seen old.facts old.managers old.leagues) (season_seen f new.managers new.leagues) made) (sym changed.facts)
-        (subst (λ ms. LeadsTo (season_seen old.facts old.managers old.leagues) (season_seen old.facts ms new.leagues) made) (sym changed.managers)
-        (subst (λ ls. LeadsTo (season_seen old.facts old.managers old.leagues) (season_seen old.facts old.managers ls) made) (sym changed.leagues)
-        (managers_lead old.facts old.leagues old.managers old.managers made
-        (nothing_of old.facts old.leagues command made (λ i. cups_apart (sym e ∙ i)) (λ i. leagues_apart (sym e ∙ i)) planned) is (same_stays old.facts old.managers old.leagues))))
+        subst (λ (r : Running). LeadsTo (season_seen old.facts old.managers old.leagues old.cups) (season_seen r.facts r.managers r.leagues r.cups) made) (sym changed)
+        (cups_lead old.facts old.managers old.leagues old.cups command made
+        (nothing_of old.facts old.leagues command made (λ i. cups_apart (sym e ∙ i)) (λ i. leagues_apart (sym e ∙ i)) planned) is granted)
       where
         cups_apart : part.Cups ≡ part.Facts → ⊥
         cups_apart i = cc

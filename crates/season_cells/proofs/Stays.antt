@@ -5,6 +5,7 @@ use Rattle.std.specs.Prelude.{slice_index_or}
 use Rattle.std.proofs.lemmas.Bool.Decides.{nat_tests}
 use Rattle.std.proofs.lemmas.List.{length-map}
 use Rattle.std.proofs.lemmas.Option.{same_Some}
+use Rattle.rule_book.specs.declared.cup.Bracket.{Bracket}
 use Rattle.rule_book.specs.Calendar.{CalendarFacts, next_gameweek}
 use Rattle.rule_book.specs.Leagues.{LeagueFacts}
 use Rattle.season_ledger.specs.declared.row.Row.{Row}
@@ -49,7 +50,7 @@ and_same a b true u x y e = ap₂ (λ p q. p && q) (e refl).0 (e refl).1
 and_same a b false u x y e = refl
 
 -- a manager's command
-module _ (tell : EarlierRowsTell) (facts : Facts) (leagues : List LeagueFacts) (n e : ℕ) (olds news : List Manager) (next : next_gameweek facts.calendar ≡ Some n)
+module _ (tell : EarlierRowsTell) (facts : Facts) (leagues : List LeagueFacts) (cups : List Bracket) (n e : ℕ) (olds news : List Manager) (next : next_gameweek facts.calendar ≡ Some n)
     (same : IsSameBut e (played_by facts.profile olds) (played_by facts.profile news))
     (earlier : RowsStayBefore (next_gameweek facts.calendar) e (played_by facts.profile olds) (played_by facts.profile news))
     (up_old : AreRisen olds) (up_new : AreRisen news) where
@@ -75,16 +76,16 @@ module _ (tell : EarlierRowsTell) (facts : Facts) (leagues : List LeagueFacts) (
   as_many : length olds ≡ length news
   as_many = sym (length-map olds (λ m. (m.key, m.name))) ∙ ap length (sym same.keys) ∙ length-map news (λ m. (m.key, m.name))
 
-  pub deed_stays : EntriesStay (season_seen facts olds leagues) (season_seen facts news leagues)
+  pub deed_stays : EntriesStay (season_seen facts olds leagues cups) (season_seen facts news leagues cups)
   deed_stays = record {
     begun = λ k g w. and_same (nat_le k (length olds)) (nat_le k (length news)) (nat_le 1 k) false _ _
         (λ low. (
           ap (nat_le k) as_many,
           first_test (rows_old k) g ∙ sym (alike k g (at_most 1 k low) (locked_before facts.calendar n g next (second_of (nat_le 1 g) (nat_le g facts.calendar.locked) w))).begun ∙ sym (first_test (rows_new k) g),
         ));
-    team = λ k g l. let live = team_alive (season_seen facts olds leagues) k g l in
+    team = λ k g l. let live = team_alive (season_seen facts olds leagues cups) k g l in
         ap (λ s. unwrap_or (team_in s) no_team) (sym (alike k g live.0 (locked_before facts.calendar n g next live.3)).standing);
-    cost = λ k g l. let live = team_alive (season_seen facts olds leagues) k g l in
+    cost = λ k g l. let live = team_alive (season_seen facts olds leagues cups) k g l in
         sym (alike k g live.0 (locked_before facts.calendar n g next live.3)).cost;
   }
 
@@ -128,14 +129,14 @@ length_pushed : (xs : List Manager) (x : Manager) → length (xs ++ x ∷ []) �
 length_pushed [] x = refl
 length_pushed (y ∷ ys) x = let more : length (ys ++ x ∷ []) ≡ length ys + 1 = length_pushed ys x in omega (arith, more)
 
-module _ (facts : Facts) (leagues : List LeagueFacts) (olds : List Manager) (key name : List ℕ) where
+module _ (facts : Facts) (leagues : List LeagueFacts) (cups : List Bracket) (olds : List Manager) (key name : List ℕ) where
   abbrev news : List Manager
   news = olds ++ new_manager key name ∷ []
 
   rows_same : (k : ℕ) → (manager_in news k).season ≡ (manager_in olds k).season
   rows_same k = index_pushed olds (new_manager key name) (k - 1) refl
 
-  begun_same : (k g : ℕ) → has_begun (season_seen facts olds leagues) k g ≡ has_begun (season_seen facts news leagues) k g
+  begun_same : (k g : ℕ) → has_begun (season_seen facts olds leagues cups) k g ≡ has_begun (season_seen facts news leagues cups) k g
   begun_same k g = by_case (nat_le 1 k) refl
     where
       test : List Row → Bool
@@ -150,7 +151,7 @@ module _ (facts : Facts) (leagues : List LeagueFacts) (olds : List Manager) (key
       by_case false high =
           ap (λ t. (t && nat_le k (length olds)) && test (manager_in olds k).season) high ∙ sym (ap (λ t. (t && nat_le k (length news)) && test (manager_in news k).season) high)
 
-  pub key_stays : EntriesStay (season_seen facts olds leagues) (season_seen facts news leagues)
+  pub key_stays : EntriesStay (season_seen facts olds leagues cups) (season_seen facts news leagues cups)
   key_stays = record {
     begun = λ k g w. begun_same k g;
     team = λ k g l. ap (λ rows. unwrap_or (team_in (standing_at rows g)) no_team) (sym (rows_same k));

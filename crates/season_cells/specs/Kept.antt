@@ -1,5 +1,6 @@
 -- The cells of a running season.
 use Rattle.std.specs.Prelude.{List}
+use Rattle.rule_book.specs.declared.cup.Bracket.{Bracket}
 use Rattle.rule_book.specs.Leagues.{LeagueFacts}
 use Rattle.manager_book.specs.declared.manager.Manager.{Manager}
 use Rattle.season_book.specs.Book.{Facts}
@@ -9,9 +10,9 @@ use Rattle.season_nodes.specs.IndexFacts.{IndexRows, IsIndex, holders_in}
 use Rattle.season_nodes.specs.Season.{IsSeason, SeasonFacts}
 use Rattle.season_views.specs.Cells.{books_seen}
 
--- a season, managers who play by its rules, and leagues, as cells see them
-abbrev pub season_seen : Facts → List Manager → List LeagueFacts → SeasonFacts
-season_seen facts managers leagues = books_seen facts (record { profile = facts.profile; managers = managers }) leagues
+-- a season, managers who play by its rules, leagues and cups, as cells see them
+abbrev pub season_seen : Facts → List Manager → List LeagueFacts → List Bracket → SeasonFacts
+season_seen facts managers leagues cups = books_seen facts (record { profile = facts.profile; managers = managers }) leagues cups
 
 -- cells, and who holds whom, as contracts see them
 pub record CellRows : Type 0 where

@@ -38,6 +38,6 @@ module _ (b d : SeasonFacts) where
 -- behind a command stands a season, which differs as its plan says
 abbrev pub PlansLead : Type 0
 PlansLead = (caller : Caller) (now : ℕ) (command : Command) (old new : Running) (plan : Plan)
-    → IsSeason (season_seen old.facts old.managers old.leagues) → IsGrantedTo old caller now command → IsPlanOf old.facts old.leagues command plan
+    → IsSeason (season_seen old.facts old.managers old.leagues old.cups) → IsGrantedTo old caller now command → IsPlanOf old.facts old.leagues command plan
     → IsChangedBy caller command old new → IsCalendar new.facts.calendar → AreRisen old.managers → AreRisen new.managers
-    → LeadsTo (season_seen old.facts old.managers old.leagues) (season_seen new.facts new.managers new.leagues) plan
+    → LeadsTo (season_seen old.facts old.managers old.leagues old.cups) (season_seen new.facts new.managers new.leagues new.cups) plan

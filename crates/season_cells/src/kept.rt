@@ -1,4 +1,4 @@
-// The cells of a season, its managers and its leagues.
+// The cells of a season, its managers, its leagues and its cups.
 ghost use Rattle.std.specs.Prelude.{◌≡◌, ℕ, IfOk, OnOk};
 ghost use Rattle.rule_book.specs.MatchFacts.{lines_of, players_in};
 ghost use Rattle.season_graph.specs.Changes.{DifferInLocks};
@@ -13,6 +13,7 @@ ghost use Rattle.season_cells.specs.Leading.{DifferAs, LeadsTo};
 
 use crate::plan::Plan;
 use classic_leagues::Leagues;
+use cup_rounds::Cups;
 use fpl_base::{Memory, Steps};
 use manager_book::ManagerBook;
 use match_facts::MatchFacts;
@@ -22,13 +23,13 @@ use season_graph::{
     gameweeks_locked, index_stays, league_changed, mark_changed, player_added, settle_season,
     sheet_changed,
 };
-use season_nodes::orders_are_of_members;
+use season_nodes::{cups_are_brackets, orders_are_of_members};
 use std::alloc::Global;
 use std::marker::Model;
 use std::sync::ledger::Ledger;
 
-/// The cells of a season, its managers and its leagues, with who holds whom in the locked gameweeks. After want of memory
-/// in a call that changes them they are those of no season, and have to be made anew.
+/// The cells of a season, its managers, its leagues and its cups, with who holds whom in the locked gameweeks. After want of
+/// memory in a call that changes them they are those of no season, and have to be made anew.
 #[derive(Drop)]
 pub struct KeptCells {
     cells: SeasonCells,
@@ -43,9 +44,14 @@ impl Model for KeptCells {
     ghost view = { λ k. record { cells = k.cells; index = k.index } };
 }
 
-// The books of a season, its managers and its leagues, lent.
-fn books_of<'a>(season: &'a Season, managers: &'a ManagerBook, leagues: &'a Leagues) -> Books<'a>
-    ensures { facts_of result ≡ books_seen season.now managers.now leagues.now }
+// The books of a season, its managers, its leagues and its cups, lent.
+fn books_of<'a>(
+    season: &'a Season,
+    managers: &'a ManagerBook,
+    leagues: &'a Leagues,
+    cups: &'a Cups,
+) -> Books<'a>
+    ensures { facts_of result ≡ books_seen season.now managers.now leagues.now cups.now }
 {
     Books {
         profile: season.profile(),
@@ -54,6 +60,7 @@ fn books_of<'a>(season: &'a Season, managers: &'a ManagerBook, leagues: &'a Leag
         matches: season.matches(),
         managers,
         leagues,
+        cups,
     }
 }
 
@@ -68,21 +75,24 @@ fn rising(matches: &MatchFacts)
 }
 
 impl KeptCells {
-    /// The cells of a season, its managers and its leagues, made of them alone.
+    /// The cells of a season, its managers, its leagues and its cups, made of them alone.
     pub fn anew<L: Ledger>(
         alloc: Global,
         season: &Season,
         managers: &ManagerBook,
         leagues: &Leagues,
+        cups: &Cups,
         steps: &mut Steps<L>,
     ) -> Result<Self, Memory>
-        ensures { IfOk result (λ kept. AreCellsOf (books_seen season.now managers.now leagues.now) kept) }
+        ensures { IfOk result (λ kept. AreCellsOf (books_seen season.now managers.now leagues.now cups.now) kept) }
     {
         // The laws by which the facts are those of a season, for the prover.
         season.keeps_facts();
         rising(season.matches());
         orders_are_of_members(leagues);
-        let (cells, index) = evaluate_all(alloc, &books_of(season, managers, leagues), steps)?;
+        cups_are_brackets(cups);
+        let books = books_of(season, managers, leagues, cups);
+        let (cells, index) = evaluate_all(alloc, &books, steps)?;
         Ok(KeptCells { cells, index })
     }
 
@@ -100,19 +110,20 @@ impl KeptCells {
         season: &Season,
         managers: &ManagerBook,
         leagues: &Leagues,
+        cups: &Cups,
         steps: &mut Steps<L>,
     ) -> Result<(), Memory>
         ghost before: { SeasonFacts }
         requires cells { AreCellsOf before self.old }
-        requires leads { LeadsTo before (books_seen season.now managers.now leagues.now) plan.now }
-        ensures cells { OnOk result (AreCellsOf (books_seen season.now managers.now leagues.now) self.new) }
-        ensures corrected { OnOk result (IsCorrected before (books_seen season.now managers.now leagues.now) self.old.cells self.new.cells) }
-        ensures cost { OnOk result (IsCheap before (books_seen season.now managers.now leagues.now) steps.old steps.new) }
+        requires leads { LeadsTo before (books_seen season.now managers.now leagues.now cups.now) plan.now }
+        ensures cells { OnOk result (AreCellsOf (books_seen season.now managers.now leagues.now cups.now) self.new) }
+        ensures corrected { OnOk result (IsCorrected before (books_seen season.now managers.now leagues.now cups.now) self.old.cells self.new.cells) }
+        ensures cost { OnOk result (IsCheap before (books_seen season.now managers.now leagues.now cups.now) steps.old steps.new) }
     {
         // The law that the index stays right where no gameweek is locked, for the prover.
         index_stays();
         let rules = SeasonRules {
-            books: books_of(season, managers, leagues),
+            books: books_of(season, managers, leagues, cups),
             index: &self.index,
         };
         mark(&mut self.cells, &rules, plan)?;
@@ -127,15 +138,16 @@ impl KeptCells {
         season: &Season,
         managers: &ManagerBook,
         leagues: &Leagues,
+        cups: &Cups,
         steps: &mut Steps<L>,
     ) -> Result<(), Memory>
         ghost before: { SeasonFacts }
         requires cells { AreCellsOf before self.old }
-        requires season { IsSeason (books_seen season.now managers.now leagues.now) }
-        requires locks { DifferInLocks before (books_seen season.now managers.now leagues.now) first }
-        ensures cells { OnOk result (AreCellsOf (books_seen season.now managers.now leagues.now) self.new) }
+        requires season { IsSeason (books_seen season.now managers.now leagues.now cups.now) }
+        requires locks { DifferInLocks before (books_seen season.now managers.now leagues.now cups.now) first }
+        ensures cells { OnOk result (AreCellsOf (books_seen season.now managers.now leagues.now cups.now) self.new) }
     {
-        let books = books_of(season, managers, leagues);
+        let books = books_of(season, managers, leagues, cups);
         gameweeks_locked(&mut self.index, &mut self.cells, &books, first)?;
         let rules = SeasonRules {
             books,

@@ -1,10 +1,11 @@
 // What follows from the definitions alone.
 ghost use Rattle.season_cells.specs.Leading.{PlansLead};
 
+use cup_rounds::unbroken_cups_have_shape;
 use match_facts::facts_are_maps;
 use season_entries::earlier_rows_tell;
 use season_graph::{
-    calendar_changes, leagues_change, managers_change, matches_change, players_change,
+    calendar_changes, cups_change, leagues_change, managers_change, matches_change, players_change,
     same_is_alike,
 };
 
@@ -13,13 +14,15 @@ use season_graph::{
 pub fn plans_lead()
     ensures { PlansLead }
 {
-    // The laws of the facts, of which this is made.
+    // The laws of the facts and of draws, of which this is made.
     facts_are_maps();
     matches_change();
     calendar_changes();
     players_change();
     managers_change();
     leagues_change();
+    cups_change();
+    unbroken_cups_have_shape();
     same_is_alike();
     earlier_rows_tell();
 }

@@ -1,5 +1,5 @@
 -- Facts that differ in nothing that a node hangs on keep all nodes.
-use Rattle.std.proofs.Common.{◌≡◌, ℕ, ◌&&◌, nat_le, ◌⊎◌, inl, [], Option, Some, None, is_some, refl, sym, ◌∙◌, ap}
+use Rattle.std.proofs.Common.{◌≡◌, ℕ, ◌&&◌, nat_le, true, false, ◌⊎◌, inl, ⊎_elim, [], Option, Some, None, is_some, refl, sym, ◌∙◌, ap}
 use Rattle.std.specs.List.{filter, list_all}
 use Rattle.std.specs.Option.{option_map, option_map_or, unwrap_or}
 use Rattle.fpl_base.specs.declared.kinds.Position.{Position}
@@ -20,7 +20,11 @@ use Rattle.season_nodes.proofs.RisingFacts.{players_same}
 use Rattle.season_graph.proofs.ChangedFacts.{change_exact, change_sound, some_lines}
 use Rattle.season_graph.proofs.RefreshedFacts.{refreshed_nothing}
 use Rattle.season_graph.proofs.RoundFacts.{average_stays, match_stays, row_stays}
+use Rattle.season_graph.proofs.CupFacts.{tie_stays}
 use Rattle.season_graph.proofs.TeamFacts.{team_kept, total_kept}
+
+clash : true ≡ false → ⊥
+clash e = cc
 
 abbrev place : Option Player → Option Position
 place o = option_map (λ x. x.position) o
@@ -53,6 +57,10 @@ module _ (b d : SeasonFacts) (c : AreAlike b d) where
     alike_kept (node.Average l g) = inl (average_stays b d c.entries c.locked c.leagues l g)
     alike_kept (node.Match l g i) = inl (match_stays b d c.entries c.locked c.leagues l g i)
     alike_kept (node.HeadRow l e) = inl (row_stays b d c.entries c.locked c.leagues l e)
+    alike_kept (node.Tie k r i) = inl (⊎_elim
+        (λ same. tie_stays b d c.entries c.locked k same r i)
+        (λ idle. let none = idle r i in (none.0 ∙ sym none.1, λ live. absurd (clash (sym live ∙ none.1))))
+        (c.cups k))
 
     pub alike_follows : (s : State Node Value) → Follows b d s s
     alike_follows s sound = change_sound b d is_b is_d [] alike_kept s s sound (refreshed_nothing (is_live d) s)

@@ -22,6 +22,7 @@ use Rattle.rescore_graph.specs.States.{State, is_dirty, IsDirty}
 use Rattle.rescore_graph.specs.Settling.{Sound, SoundBut}
 use Rattle.rescore_graph.proofs.ChangeFacts.{Untouched, sound_start}
 use Rattle.season_graph.specs.Changes.{IsSame, IsKept, IsTouched, DifferInLine, Follows, MarksTouched}
+use Rattle.season_nodes.specs.Brackets.{bracket_in}
 use Rattle.season_nodes.specs.declared.nodes.Node.{Node}
 use Rattle.season_nodes.specs.declared.nodes.Node.TheVariants as node
 use Rattle.season_nodes.specs.declared.nodes.Value.{Value}
@@ -36,6 +37,7 @@ use Rattle.season_nodes.proofs.DependentFacts.{stands_there, there_stands}
 use Rattle.season_nodes.proofs.Lists.{listed_test}
 use Rattle.season_graph.proofs.RefreshedFacts.{refreshed_listed, refreshed_sound, refreshed_exact}
 use Rattle.season_graph.proofs.RoundFacts.{average_alike, average_reads, average_stays, match_alike, match_reads, match_stays, row_stays}
+use Rattle.season_graph.proofs.CupFacts.{tie_alike, tie_reads, tie_stays}
 use Rattle.season_graph.proofs.TeamFacts.{team_kept, total_kept}
 use Rattle.season_nodes.proofs.RisingFacts.{players_same}
 
@@ -193,6 +195,14 @@ module _ (b d : SeasonFacts) where
             (place_of (order x) e) []));
         values = λ m a. refl;
       }
+  kept_untouched s (node.Tie c r i) k alive =
+      let same = k.1 alive in record {
+        live = k.0 ∙ alive;
+        cell = refl;
+        inputs = tie_reads b d c same.0 r i same.1;
+        own = λ v. ap value.Tie (sym (tie_alike b d c same.0 r i same.1 v));
+        values = λ m a. refl;
+      }
 
   -- after a change of the facts all is sound but for what the change does not keep
   pub changed_start : IsSeason b → (X : Node → Type 0) (s : State Node Value) → Sound (season_graph b) s → ((n : Node) → IsKept b d n ⊎ X n) → SoundBut (season_graph d) X s
@@ -294,6 +304,7 @@ module _ (b d : SeasonFacts) (is : IsSeason b) (is_d : IsSeason d) (f p : ℕ) (
   line_listed (node.Average l g) = inl (average_stays b d c.entries (ap (λ x. x.locked) c.calendar) c.leagues l g)
   line_listed (node.Match l g i) = inl (match_stays b d c.entries (ap (λ x. x.locked) c.calendar) c.leagues l g i)
   line_listed (node.HeadRow l e) = inl (row_stays b d c.entries (ap (λ x. x.locked) c.calendar) c.leagues l e)
+  line_listed (node.Tie k r i) = inl (tie_stays b d c.entries (ap (λ x. x.locked) c.calendar) k (λ x. bracket_in (c.cups x) k) r i)
 
   listed_same : players_of b f ≡ players_of d f → has_line b p f ≡ has_line d p f
   listed_same e = sym (listed_test (lines_of b.matches f) p) ∙ ap (list_any (λ q. q == p)) e ∙ listed_test (lines_of d.matches f) p

@@ -11,6 +11,7 @@ use Rattle.fpl_base.specs.declared.kinds.Position.TheVariants.{Keeper}
 use Rattle.rescore_graph.specs.Graph.{Among}
 use Rattle.rescore_graph.specs.States.{State}
 use Rattle.season_graph.specs.Changes.{IsKept, IsTouched, DifferInPlayer, Follows, MarksTouched}
+use Rattle.season_nodes.specs.Brackets.{bracket_in}
 use Rattle.season_nodes.specs.declared.nodes.Node.{Node}
 use Rattle.season_nodes.specs.declared.nodes.Node.TheVariants as node
 use Rattle.season_nodes.specs.declared.nodes.Value.{Value}
@@ -24,6 +25,7 @@ use Rattle.season_graph.specs.Touched.{coming_nodes, holding_nodes, player_nodes
 use Rattle.season_graph.proofs.ChangedFacts.{among_or_not, at_node, change_exact, change_sound, same_or_not}
 use Rattle.season_graph.proofs.GameweekFacts.{from_gameweeks, from_numbered, gameweek_among, numbered_among}
 use Rattle.season_graph.proofs.RoundFacts.{average_stays, match_stays, row_stays}
+use Rattle.season_graph.proofs.CupFacts.{tie_stays}
 use Rattle.season_graph.proofs.TeamFacts.{team_alive, team_dead, team_kept, total_kept}
 
 clash : true ≡ false → ⊥
@@ -101,6 +103,7 @@ module _ (b d : SeasonFacts) (is_b : IsSeason b) (p : ℕ) (c : DifferInPlayer b
   coming_listed (node.Average l g) = inl (average_stays b d c.entries (ap (λ x. x.locked) c.calendar) c.leagues l g)
   coming_listed (node.Match l g i) = inl (match_stays b d c.entries (ap (λ x. x.locked) c.calendar) c.leagues l g i)
   coming_listed (node.HeadRow l e) = inl (row_stays b d c.entries (ap (λ x. x.locked) c.calendar) c.leagues l e)
+  coming_listed (node.Tie k r i) = inl (tie_stays b d c.entries (ap (λ x. x.locked) c.calendar) k (λ x. bracket_in (c.cups x) k) r i)
 
   -- a team that holds him has him now, and did not
   team_touched : (n : Node) → Among theirs n → is_live d n ≡ true → IsTouched b d n

@@ -46,11 +46,11 @@ module _ {X : Type 0} where
   changed_there change (y ∷ ys) (suc l) x e = changed_there change ys l x e
 
   -- the entries of other numbers stay where one is added, or changed
-  entry_pushed : (xs : List X) (x : X) (k : ℕ) → k ≢ length xs + 1 → entry_in xs k ≡ entry_in (xs ++ x ∷ []) k
+  pub entry_pushed : (xs : List X) (x : X) (k : ℕ) → k ≢ length xs + 1 → entry_in xs k ≡ entry_in (xs ++ x ∷ []) k
   entry_pushed xs x k n = entry_case (k == 0) (slice_get xs (k - 1)) (slice_get (xs ++ x ∷ []) (k - 1))
       (λ t. let low = below_1 k t in pushed xs x (k - 1) (λ e. n (omega (arith, low, e))))
 
-  entry_past : (xs : List X) → entry_in xs (length xs + 1) ≡ None
+  pub entry_past : (xs : List X) → entry_in xs (length xs + 1) ≡ None
   entry_past xs = none_case ((length xs + 1) == 0) (slice_get xs ((length xs + 1) - 1)) (slice_get_past xs ((length xs + 1) - 1) (omega arith))
 
   entry_changed : (change : X → X) (xs : List X) (l k : ℕ) → k ≢ l → entry_in xs k ≡ entry_in (changed_in change xs l) k
@@ -66,7 +66,7 @@ entry_there change leagues l league e =
     ∙ subst (λ n. slice_get (changed_in change leagues n) (l - 1) ≡ Some (change league)) place (changed_there change leagues (l - 1) league at.1)
 
 season_stays : (b : SeasonFacts) (leagues : List LeagueFacts) → IsSeason b → AreOrders leagues → IsSeason (with_leagues b leagues)
-season_stays b leagues is orders = record { calendar = is.calendar; ascending = is.ascending; ranges = is.ranges; there = is.there; orders = orders }
+season_stays b leagues is orders = record { calendar = is.calendar; ascending = is.ascending; ranges = is.ranges; there = is.there; orders = orders; brackets = is.brackets }
 
 nobody_moves : (b : SeasonFacts) (leagues : List LeagueFacts) → EntriesStay b (with_leagues b leagues)
 nobody_moves b leagues = record { begun = λ e g w. refl; team = λ e g l. refl; cost = λ e g l. refl }
@@ -96,6 +96,7 @@ league_is_made b league is none =
         players = refl;
         matches = refl;
         others = entry_pushed b.leagues league;
+        cups = refl;
         goes_on = λ old at. absurd (none-some old (sym (entry_past b.leagues) ∙ at));
         entries = nobody_moves b leagues;
       },
@@ -134,6 +135,7 @@ league_changes b change l on is =
         players = refl;
         matches = refl;
         others = entry_changed change b.leagues l;
+        cups = refl;
         goes_on = λ old at. subst (λ o. IsSomeAnd o (GoesOn old)) (sym (entry_there change b.leagues l old at)) (on old at).0;
         entries = nobody_moves b leagues;
       },

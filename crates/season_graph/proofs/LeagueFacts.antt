@@ -15,6 +15,7 @@ use Rattle.rule_book.specs.Totals.{gameweeks}
 use Rattle.rescore_graph.specs.Graph.{Among}
 use Rattle.rescore_graph.specs.States.{State}
 use Rattle.season_graph.specs.Changes.{DifferInLeague, Follows, GoesOn, IsKept, IsTouched, MarksTouched}
+use Rattle.season_nodes.specs.Brackets.{bracket_in}
 use Rattle.season_nodes.specs.declared.nodes.Node.{Node}
 use Rattle.season_nodes.specs.declared.nodes.Node.TheVariants as node
 use Rattle.season_nodes.specs.declared.nodes.Value.{Value}
@@ -26,6 +27,7 @@ use Rattle.season_nodes.specs.SeasonLaws.{second_true, total_alive, total_lives}
 use Rattle.season_graph.specs.Touched.{head_nodes, is_other, league_nodes, member_nodes, members_in}
 use Rattle.season_graph.proofs.ChangedFacts.{bool_case, change_exact, change_sound, iff_same, other_same, same_or_not}
 use Rattle.season_graph.proofs.RoundFacts.{average_dead, average_head, average_kept, match_dead, match_head, match_kept, row_dead, row_head, row_kept}
+use Rattle.season_graph.proofs.CupFacts.{tie_stays}
 use Rattle.season_graph.proofs.TeamFacts.{begun_same, counted_same, team_kept}
 
 clash : true ≡ false → ⊥
@@ -282,6 +284,7 @@ module _ (b d : SeasonFacts) (is_b : IsSeason b) (is_d : IsSeason d) (l : ℕ) (
         (λ i. subst (λ m. IsKept b d (node.HeadRow m e) ⊎ Among (league_nodes d was l) (node.HeadRow m e)) (sym i) (row_here e))
         (λ n. inl (row_same k e (other_order k n) (other_start k n)))
         (same_or_not k l)
+    league_listed (node.Tie k r i) = inl (tie_stays b d c.entries locked k (λ x. bracket_in (c.cups x) k) r i)
 
     pub league_touched : (n : Node) → Among (league_nodes d was l) n → is_live d n ≡ true → IsTouched b d n
     league_touched n a live = (live, λ k. other_same (was n) (is_live d n) (had n ∙ k.0) (from_filter (λ m. is_other (was m) (is_live d m)) (member_nodes d l ++ head_nodes d l) n a).1)

@@ -1,6 +1,8 @@
 pub mod AlikeFacts
 pub mod ChangedFacts
 pub mod ComingFacts
+pub mod CupChanges
+pub mod CupFacts
 pub mod EndingFacts
 pub mod GameweekFacts
 pub mod IndexingFacts
@@ -18,5 +20,6 @@ pub mod SameFacts
 pub mod SheetFacts
 pub mod TeamFacts
 pub mod TestFacts
+pub mod TieHeld
 pub mod ToldFacts
 pub mod WholeFacts

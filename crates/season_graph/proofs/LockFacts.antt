@@ -2,6 +2,7 @@
 use Rattle.std.proofs.Common.{◌≡◌, ℕ, ◌+◌, ◌-◌, ◌<◌, ◌≤◌, max, Bool, true, false, ◌&&◌, cond, if◌then◌else◌, nat_le, nat_lt, ◌⊎◌, inl, inr, ⊎_elim, List, [], ◌∷◌, ◌++◌, Option, Some, is_some, length, refl, sym, ◌∙◌, ap, subst, arith, ◌==◌}
 use Rattle.std.specs.List.{filter, find, flat_map, list_all, list_any, range_with_len}
 use Rattle.std.proofs.lemmas.Bool.Decides.{nat_tests, leb_tells}
+use Rattle.rule_book.specs.declared.cup.Bracket.{Bracket}
 use Rattle.rule_book.specs.declared.player.Player.{Player}
 use Rattle.rule_book.specs.Calendar.{standing_among}
 use Rattle.rule_book.specs.LeagueCalls.{leagues_of}
@@ -13,16 +14,18 @@ use Rattle.rule_book.specs.Totals.{gameweeks}
 use Rattle.rescore_graph.specs.Graph.{Among}
 use Rattle.rescore_graph.specs.States.{State}
 use Rattle.season_graph.specs.Changes.{IsKept, IsTouched, DifferInLocks, Follows, MarksTouched}
+use Rattle.season_nodes.specs.Brackets.{bracket_in, ties_after}
 use Rattle.season_nodes.specs.declared.nodes.Node.{Node}
 use Rattle.season_nodes.specs.declared.nodes.Node.TheVariants as node
 use Rattle.season_nodes.specs.declared.nodes.Value.{Value}
 use Rattle.season_nodes.specs.Reading.{among_either, among_left, among_right, from_any, from_flat, from_map, from_range, to_flat, to_map, to_range}
 use Rattle.season_graph.specs.Refreshed.{Refreshed}
 use Rattle.season_nodes.specs.Rounds.{has_average, order_in, start_in}
-use Rattle.season_nodes.specs.Season.{SeasonFacts, IsSeason, classic_starts, counted_gameweeks, fixtures_of, has_begun, has_round, has_start, is_live, is_lower, players_of, starts_of}
-use Rattle.season_nodes.specs.SeasonLaws.{begun_later, first_true, from_counted, match_alive, round_within, second_true, to_counted, total_alive, total_lives}
-use Rattle.season_graph.specs.Touched.{entry_nodes, locked_entries, locked_leagues, locked_nodes, locked_players, locked_rounds, locked_scores, locked_totals, numbered_nodes, player_nodes, rounds_since, row_nodes, total_nodes}
+use Rattle.season_nodes.specs.Season.{SeasonFacts, IsSeason, bracket_of, classic_starts, counted_gameweeks, fixtures_of, has_begun, has_round, has_start, is_live, is_lower, players_of, round_of, starts_of}
+use Rattle.season_nodes.specs.SeasonLaws.{begun_later, first_true, from_counted, match_alive, round_within, second_true, tie_alive, to_counted, total_alive, total_lives}
+use Rattle.season_graph.specs.Touched.{cups_since, entry_nodes, locked_cups, locked_entries, locked_leagues, locked_nodes, locked_players, locked_rounds, locked_scores, locked_tables, locked_totals, numbered_nodes, player_nodes, rounds_since, row_nodes, ties_since, total_nodes}
 use Rattle.season_graph.proofs.ChangedFacts.{at_node, change_exact, change_sound, from_rest, iff_same, to_rest}
+use Rattle.season_graph.proofs.CupFacts.{from_ties, tie_kept, tie_since}
 use Rattle.season_graph.proofs.GameweekFacts.{numbered_among, from_numbered, from_gameweeks, gameweek_among}
 use Rattle.season_graph.proofs.RoundFacts.{average_drawn, average_kept, average_since, from_since, match_drawn, match_kept, match_since, numbered_league, row_drawn, row_kept, row_listed}
 use Rattle.season_graph.proofs.TeamFacts.{begun_issued, last_locked, team_alive, team_kept, total_kept}
@@ -127,6 +130,14 @@ locked_row d first l e more started live =
     (among_right rounds (if nat_le (start_in d.leagues l) d.calendar.locked then row_nodes d l else []) (node.HeadRow l e)
     (to_rest (nat_le (start_in d.leagues l) d.calendar.locked) (row_nodes d l) (node.HeadRow l e) (within (start_in d.leagues l) d.calendar.locked started) (row_listed d l e live))))
 
+-- and the ties behind them
+locked_tie : (d : SeasonFacts) (first k r i : ℕ) → first < round_of d k r → is_live d (node.Tie k r i) ≡ true → Among (locked_cups d first) (node.Tie k r i)
+locked_tie d first k r i behind live =
+    let played = (tie_alive d k r i live).0 in
+    let more : first < d.calendar.locked = omega (arith, behind, played) in
+    to_rest (nat_lt first d.calendar.locked) (cups_since d (first + 1)) (node.Tie k r i) (less first d.calendar.locked more)
+    (tie_since d k r i (first + 1) (omega (arith, behind)) live)
+
 round_false : (u v w : Bool) → v ≡ false → ((u && v) && w) ≡ false
 round_false true v w e = ap (λ t. t && w) e
 round_false false v w e = refl
@@ -218,6 +229,20 @@ module _ (b d : SeasonFacts) (first : ℕ) (c : DifferInLocks b d first) where
       apart : d.calendar.locked ≤ first → ⊥
       apart h = omega (arith, more, h)
 
+  bracket_same : (k : ℕ) → bracket_of b k ≡ bracket_of d k
+  bracket_same k = λ x. bracket_in (c.cups x) k
+
+  tie_not_yet : (k r i : ℕ) → first < round_of d k r → is_live b (node.Tie k r i) ≡ false
+  tie_not_yet k r i behind =
+      let test = nat_lt i (ties_after (bracket_of b k) r) in
+      ap (λ (x : Bracket). nat_le (x.start + r) b.calendar.locked && test) (bracket_same k) ∙ ap (λ t. t && test) (not_locked (round_of d k r) behind)
+
+  in_scores : (n : Node) → Among (locked_scores d first) n → Among (locked_nodes d first) n
+  in_scores n a = among_left (locked_tables d first) (locked_cups d first) n (among_left (locked_scores d first) (locked_leagues d first) n a)
+
+  in_leagues : (n : Node) → Among (locked_leagues d first) n → Among (locked_nodes d first) n
+  in_leagues n a = among_left (locked_tables d first) (locked_cups d first) n (among_right (locked_scores d first) (locked_leagues d first) n a)
+
   pub lock_listed : (n : Node) → IsKept b d n ⊎ Among (locked_nodes d first) n
   lock_listed (node.Line f p) = inl (ap (λ m. is_some (line_of m f p)) c.matches, λ l. (ap (λ m. line_of m f p) c.matches, c.profile, ap (λ ps. position_in ps p) c.players))
   lock_listed (node.Bonus f) = inl (ap (λ m. is_live (record b { matches = m }) (node.Bonus f)) c.matches, λ l. (ap (λ m. players_of (record b { matches = m }) f) c.matches, ap (λ m. is_finished m f) c.matches))
@@ -225,35 +250,35 @@ module _ (b d : SeasonFacts) (first : ℕ) (c : DifferInLocks b d first) where
       (λ a. inl ((λ i. is_some (player_of (c.players i) q) && (nat_le 1 h && before h a.1 i)), λ x. fixtures_same q h))
       (λ a. ⊎_elim
       (λ l. inl (not_yet q h a.1 ∙ sym l, λ x. fixtures_same q h))
-      (λ l. inr (among_left (locked_scores d first) (locked_leagues d first) (node.PlayerGw q h) (locked_among d first q h c.rises a.1 l)))
+      (λ l. inr (in_scores (node.PlayerGw q h) (locked_among d first q h c.rises a.1 l)))
       (false_or_true (is_live d (node.PlayerGw q h))))
       (leb_tells h first)
   lock_listed (node.TeamGw e h) = ⊎_elim
       (λ a. inl (team_kept b d c.entries e h (before h a.1) (λ i. list_all (is_finished (c.matches i)) (standing_among (c.fixtures i) h)) (λ q a i. is_some (player_of (c.players i) q))))
       (λ a. ⊎_elim
       (λ no. inl (team_not_yet e h a.1 ∙ sym no, λ l. absurd (clash (sym l ∙ no))))
-      (λ l. inr (among_left (locked_scores d first) (locked_leagues d first) (node.TeamGw e h) (locked_team d first e h c.rises a.1 l)))
+      (λ l. inr (in_scores (node.TeamGw e h) (locked_team d first e h c.rises a.1 l)))
       (false_or_true (is_live d (node.TeamGw e h))))
       (leb_tells h first)
   lock_listed (node.Total e s) = ⊎_elim
       (λ a. inl (total_kept b d c.entries (no_more a.1) c.leagues e s))
       (λ a. ⊎_elim
       (λ no. inl (iff_same (is_live b (node.Total e s)) (is_live d (node.Total e s)) (lives_on e s) (λ l. absurd (clash (sym l ∙ no))), λ l. absurd (clash (sym l ∙ no))))
-      (λ l. inr (among_left (locked_scores d first) (locked_leagues d first) (node.Total e s) (locked_total d first e s a.1 l)))
+      (λ l. inr (in_scores (node.Total e s) (locked_total d first e s a.1 l)))
       (false_or_true (is_live d (node.Total e s))))
       (leb_tells d.calendar.locked first)
   lock_listed (node.Average l h) = ⊎_elim
       (λ a. inl (average_kept b d l (order_same l) c.entries (start_same l) h (before h a.1)))
       (λ a. ⊎_elim
       (λ no. inl (average_not_yet l h a.1 ∙ sym no, λ live. absurd (clash (sym live ∙ no))))
-      (λ live. inr (among_right (locked_scores d first) (locked_leagues d first) (node.Average l h) (locked_average d first l h a.1 live)))
+      (λ live. inr (in_leagues (node.Average l h) (locked_average d first l h a.1 live)))
       (false_or_true (is_live d (node.Average l h))))
       (leb_tells h first)
   lock_listed (node.Match l h i) = ⊎_elim
       (λ a. inl (match_kept b d l (order_same l) c.entries (start_same l) h i (before h a.1)))
       (λ a. ⊎_elim
       (λ no. inl (match_not_yet l h i a.1 ∙ sym no, λ live. absurd (clash (sym live ∙ no))))
-      (λ live. inr (among_right (locked_scores d first) (locked_leagues d first) (node.Match l h i) (locked_match d first l h i a.1 live)))
+      (λ live. inr (in_leagues (node.Match l h i) (locked_match d first l h i a.1 live)))
       (false_or_true (is_live d (node.Match l h i))))
       (leb_tells h first)
   lock_listed (node.HeadRow l e) = ⊎_elim
@@ -261,11 +286,18 @@ module _ (b d : SeasonFacts) (first : ℕ) (c : DifferInLocks b d first) where
       (λ a. ⊎_elim
       (λ started. ⊎_elim
       (λ no. inl ((λ x. is_some (place_of (order_same l x) e)), λ live. absurd (clash (sym live ∙ no))))
-      (λ live. inr (among_right (locked_scores d first) (locked_leagues d first) (node.HeadRow l e) (locked_row d first l e a.1 started.1 live)))
+      (λ live. inr (in_leagues (node.HeadRow l e) (locked_row d first l e a.1 started.1 live)))
       (false_or_true (is_live d (node.HeadRow l e))))
       (λ late. inl (row_kept b d l (order_same l) c.entries (start_same l) e (unstarted l late.1)))
       (leb_tells (start_in d.leagues l) d.calendar.locked))
       (leb_tells d.calendar.locked first)
+  lock_listed (node.Tie k r i) = ⊎_elim
+      (λ a. inl (tie_kept b d k (bracket_same k) c.entries r i (before (round_of d k r) a.1)))
+      (λ a. ⊎_elim
+      (λ no. inl (tie_not_yet k r i a.1 ∙ sym no, λ live. absurd (clash (sym live ∙ no))))
+      (λ live. inr (among_right (locked_tables d first) (locked_cups d first) (node.Tie k r i) (locked_tie d first k r i a.1 live)))
+      (false_or_true (is_live d (node.Tie k r i))))
+      (leb_tells (round_of d k r) first)
 
   total_touched : (n : Node) → Among (locked_totals d first) n → is_live d n ≡ true → IsTouched b d n
   total_touched n a l =
@@ -315,9 +347,20 @@ module _ (b d : SeasonFacts) (first : ℕ) (c : DifferInLocks b d first) where
       (λ x. total_touched n x l)
       (among_either (locked_players d first ++ locked_entries d first) (locked_totals d first) n a)
 
+  cup_touched : (n : Node) → Among (locked_cups d first) n → is_live d n ≡ true → IsTouched b d n
+  cup_touched n a live =
+      let x = from_numbered (ties_since d (first + 1)) (length d.cups) n (from_rest (nat_lt first d.calendar.locked) (cups_since d (first + 1)) n a).1 in
+      let y = from_ties d (first + 1) x.0 n x.1 in
+      let up : first + 1 ≤ round_of d x.0 y.0 = y.1.1.0 in
+      (live, λ k. clash (sym live ∙ sym k.0 ∙ subst (λ z. is_live b z ≡ false) y.1.1.1 (tie_not_yet x.0 y.0 y.1.0 (omega (arith, up)))))
+
+  table_touched : (n : Node) → Among (locked_tables d first) n → is_live d n ≡ true → IsTouched b d n
+  table_touched n a l =
+      ⊎_elim (λ x. score_touched n x l) (λ x. league_touched n x l) (among_either (locked_scores d first) (locked_leagues d first) n a)
+
   pub lock_touched : (n : Node) → Among (locked_nodes d first) n → is_live d n ≡ true → IsTouched b d n
   lock_touched n a l =
-      ⊎_elim (λ x. score_touched n x l) (λ x. league_touched n x l) (among_either (locked_scores d first) (locked_leagues d first) n a)
+      ⊎_elim (λ x. table_touched n x l) (λ x. cup_touched n x l) (among_either (locked_tables d first) (locked_cups d first) n a)
 
   -- the cells follow
   module _ (is_b : IsSeason b) (is_d : IsSeason d) (s t : State Node Value) (r : Refreshed (is_live d) (Among (locked_nodes d first)) s t) where

@@ -8,6 +8,7 @@ use Rattle.rule_book.specs.Players.{player_of}
 use Rattle.rescore_graph.specs.Graph.{Among}
 use Rattle.rescore_graph.specs.States.{State}
 use Rattle.season_graph.specs.Changes.{IsKept, IsTouched, DifferInMark, Follows, MarksTouched}
+use Rattle.season_nodes.specs.Brackets.{bracket_in}
 use Rattle.season_nodes.specs.declared.nodes.Node.{Node}
 use Rattle.season_nodes.specs.declared.nodes.Node.TheVariants as node
 use Rattle.season_nodes.specs.declared.nodes.Value.{Value}
@@ -18,6 +19,7 @@ use Rattle.season_graph.specs.Touched.{mark_nodes}
 use Rattle.season_graph.proofs.ChangedFacts.{change_exact, change_sound, same_or_not, some_lines}
 use Rattle.season_graph.proofs.EndingFacts.{ending_listed, ending_touched}
 use Rattle.season_graph.proofs.RoundFacts.{average_stays, match_stays, row_stays}
+use Rattle.season_graph.proofs.CupFacts.{tie_stays}
 use Rattle.season_graph.proofs.TeamFacts.{total_kept}
 use Rattle.season_nodes.proofs.RisingFacts.{players_same}
 
@@ -37,6 +39,7 @@ module _ (b d : SeasonFacts) (is_b : IsSeason b) (is_d : IsSeason d) (f : ℕ) (
   mark_listed (node.Average l g) = inl (average_stays b d c.entries (ap (λ x. x.locked) c.calendar) c.leagues l g)
   mark_listed (node.Match l g i) = inl (match_stays b d c.entries (ap (λ x. x.locked) c.calendar) c.leagues l g i)
   mark_listed (node.HeadRow l e) = inl (row_stays b d c.entries (ap (λ x. x.locked) c.calendar) c.leagues l e)
+  mark_listed (node.Tie k r i) = inl (tie_stays b d c.entries (ap (λ x. x.locked) c.calendar) k (λ x. bracket_in (c.cups x) k) r i)
 
   pub mark_touched : is_finished b.matches f ≢ is_finished d.matches f → (n : Node) → Among (mark_nodes d f) n → is_live d n ≡ true → IsTouched b d n
   mark_touched differs n (inl e) l = (l, subst (λ x. ¬ IsKept b d x) e (λ k. differs (k.1 (subst (λ x. is_live d x ≡ true) (sym e) l)).1))

@@ -109,6 +109,7 @@ module _ (maps : SheetsAreAMap) (b : SeasonFacts) (f : ℕ) (sheet : Sheet) wher
         (λ n. is.there k p (ap is_some (lines_away k p n) ∙ h))
         (same_or_not k f);
     orders = is.orders;
+    brackets = is.brackets;
   }
 
 -- the lines of a fixture but one player's stay
@@ -131,6 +132,7 @@ module _ (maps : SheetsAreAMap) (b : SeasonFacts) (is : IsSeason b) (f p : ℕ) 
         (λ n. lines_away maps b f one_sheet k q n)
         (same_or_not k f);
     leagues = refl;
+    cups = refl;
     entries = record { begun = λ e g w. refl; team = λ e g l. refl; cost = λ e g l. refl };
   }
 
@@ -178,6 +180,7 @@ mark_is_set sheets b f finished is =
             (lines_away sheets b f sheet k q)
             (same_or_not k f);
         leagues = refl;
+        cups = refl;
         entries = record { begun = λ e g w. refl; team = λ e g l. refl; cost = λ e g l. refl };
       },
     )
@@ -201,6 +204,7 @@ sheet_is_put sheets own b f lines finished ps marked is are others =
             (λ n. lines_away sheets b f sheet k q n)
             (same_or_not k f);
         leagues = refl;
+        cups = refl;
         entries = record { begun = λ e g w. refl; team = λ e g l. refl; cost = λ e g l. refl };
       },
     )

@@ -119,14 +119,14 @@ found_moved (x ∷ xs) f k to kickoff n = moved_case f k to kickoff x (find (λ 
 -- a moved fixture, a new one, a passed moment and a moved deadline leave a season
 pub fixture_moves : FixtureMoves
 fixture_moves b f to kickoff is lawful = (
-  record { calendar = lawful; ascending = is.ascending; ranges = is.ranges; there = is.there; orders = is.orders },
-  record { profile = refl; locked = refl; players = refl; matches = refl; others = λ k n. ap (option_and_then (λ x. x.gw)) (sym (found_moved b.calendar.fixtures f k to kickoff n)); leagues = refl; entries = record { begun = λ e g w. refl; team = λ e g l. refl; cost = λ e g l. refl } },
+  record { calendar = lawful; ascending = is.ascending; ranges = is.ranges; there = is.there; orders = is.orders; brackets = is.brackets },
+  record { profile = refl; locked = refl; players = refl; matches = refl; others = λ k n. ap (option_and_then (λ x. x.gw)) (sym (found_moved b.calendar.fixtures f k to kickoff n)); leagues = refl; cups = refl; entries = record { begun = λ e g w. refl; team = λ e g l. refl; cost = λ e g l. refl } },
 )
 
 pub fixture_comes : FixtureComes
 fixture_comes b x is lawful = (
-  record { calendar = lawful; ascending = is.ascending; ranges = is.ranges; there = is.there; orders = is.orders },
-  record { profile = refl; locked = refl; players = refl; matches = refl; others = λ k n. ap (option_and_then (λ y. y.gw)) (sym (found_placed (λ y. y.id) b.calendar.fixtures x k n)); leagues = refl; entries = record { begun = λ e g w. refl; team = λ e g l. refl; cost = λ e g l. refl } },
+  record { calendar = lawful; ascending = is.ascending; ranges = is.ranges; there = is.there; orders = is.orders; brackets = is.brackets },
+  record { profile = refl; locked = refl; players = refl; matches = refl; others = λ k n. ap (option_and_then (λ y. y.gw)) (sym (found_placed (λ y. y.id) b.calendar.fixtures x k n)); leagues = refl; cups = refl; entries = record { begun = λ e g w. refl; team = λ e g l. refl; cost = λ e g l. refl } },
 )
 
 not_less : (n m : ℕ) → n ≤ max n m
@@ -134,14 +134,14 @@ not_less n m = omega arith
 
 pub moment_passes : MomentPasses
 moment_passes b now is lawful = (
-  record { calendar = lawful; ascending = is.ascending; ranges = is.ranges; there = is.there; orders = is.orders },
-  record { profile = refl; players = refl; matches = refl; fixtures = refl; before = refl; rises = not_less b.calendar.locked (passed_deadlines b.calendar.deadlines now); leagues = refl; entries = record { begun = λ e g w. refl; team = λ e g l. refl; cost = λ e g l. refl } },
+  record { calendar = lawful; ascending = is.ascending; ranges = is.ranges; there = is.there; orders = is.orders; brackets = is.brackets },
+  record { profile = refl; players = refl; matches = refl; fixtures = refl; before = refl; rises = not_less b.calendar.locked (passed_deadlines b.calendar.deadlines now); leagues = refl; cups = refl; entries = record { begun = λ e g w. refl; team = λ e g l. refl; cost = λ e g l. refl } },
 )
 
 pub deadline_moves : DeadlineMoves
 deadline_moves b g t is lawful = (
-  record { calendar = lawful; ascending = is.ascending; ranges = is.ranges; there = is.there; orders = is.orders },
-  record { profile = refl; locked = refl; stand = λ g. refl; lines = λ f q. refl; marks = λ f. refl; positions = λ q. refl; leagues = refl; entries = record { begun = λ e g w. refl; team = λ e g l. refl; cost = λ e g l. refl } },
+  record { calendar = lawful; ascending = is.ascending; ranges = is.ranges; there = is.there; orders = is.orders; brackets = is.brackets },
+  record { profile = refl; locked = refl; stand = λ g. refl; lines = λ f q. refl; marks = λ f. refl; positions = λ q. refl; leagues = refl; cups = λ k. inl refl; entries = record { begun = λ e g w. refl; team = λ e g l. refl; cost = λ e g l. refl } },
 )
 
 -- so does a new player
@@ -157,8 +157,9 @@ player_comes b x is new =
             (λ n. ap is_some (sym (others p n)) ∙ is.there f p h)
             (same_or_not p x.id);
         orders = is.orders;
+        brackets = is.brackets;
       },
-      record { profile = refl; calendar = refl; matches = refl; absent = new; there = is_placed (λ y. y.id) b.players x; others = others; leagues = refl; entries = record { begun = λ e g w. refl; team = λ e g l. refl; cost = λ e g l. refl } },
+      record { profile = refl; calendar = refl; matches = refl; absent = new; there = is_placed (λ y. y.id) b.players x; others = others; leagues = refl; cups = refl; entries = record { begun = λ e g w. refl; team = λ e g l. refl; cost = λ e g l. refl } },
     )
 
 abbrev place : Option Player → Option Position
@@ -200,8 +201,9 @@ module _ (change : Player → Player) (same_id : (x : Player) → (change x).id 
       ranges = is.ranges;
       there = λ f q h. there_still (player_of (with_change change b.players p) q) (player_of b.players q) (places_stay b.players p q) ∙ is.there f q h;
       orders = is.orders;
+      brackets = is.brackets;
     },
-    record { profile = refl; locked = refl; stand = λ g. refl; lines = λ f q. refl; marks = λ f. refl; positions = λ q. sym (places_stay b.players p q); leagues = refl; entries = record { begun = λ e g w. refl; team = λ e g l. refl; cost = λ e g l. refl } },
+    record { profile = refl; locked = refl; stand = λ g. refl; lines = λ f q. refl; marks = λ f. refl; positions = λ q. sym (places_stay b.players p q); leagues = refl; cups = λ k. inl refl; entries = record { begun = λ e g w. refl; team = λ e g l. refl; cost = λ e g l. refl } },
   )
 
 pub price_changes : PriceChanges
@@ -216,6 +218,6 @@ gone_changes b p gone is = player_changes (λ x. record x { gone = gone }) (λ x
 -- a book of managers in which the locked gameweeks are as they were
 pub managers_change : ManagersChange
 managers_change b managers is stay = (
-  record { calendar = is.calendar; ascending = is.ascending; ranges = is.ranges; there = is.there; orders = is.orders },
-  record { profile = refl; locked = refl; stand = λ g. refl; lines = λ f q. refl; marks = λ f. refl; positions = λ q. refl; leagues = refl; entries = stay },
+  record { calendar = is.calendar; ascending = is.ascending; ranges = is.ranges; there = is.there; orders = is.orders; brackets = is.brackets },
+  record { profile = refl; locked = refl; stand = λ g. refl; lines = λ f q. refl; marks = λ f. refl; positions = λ q. refl; leagues = refl; cups = λ k. inl refl; entries = stay },
 )

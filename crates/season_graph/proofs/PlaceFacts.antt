@@ -9,6 +9,7 @@ use Rattle.rule_book.specs.Players.{player_of}
 use Rattle.rescore_graph.specs.Graph.{Among}
 use Rattle.rescore_graph.specs.States.{State}
 use Rattle.season_graph.specs.Changes.{IsKept, IsTouched, DifferInPlace, Follows, MarksTouched}
+use Rattle.season_nodes.specs.Brackets.{bracket_in}
 use Rattle.season_nodes.specs.declared.nodes.Node.{Node}
 use Rattle.season_nodes.specs.declared.nodes.Node.TheVariants as node
 use Rattle.season_nodes.specs.declared.nodes.Value.{Value}
@@ -20,6 +21,7 @@ use Rattle.season_graph.specs.Touched.{ending_nodes, gameweek_beside, moved_endi
 use Rattle.season_graph.proofs.ChangedFacts.{at_node, beside_at, change_exact, change_sound, from_beside, iff_same, place_or_not, same_or_not}
 use Rattle.season_graph.proofs.EndingFacts.{all_from, all_to, ended_others, ended_without, ending_among, false_or_true, from_ending, others_from, others_to, unfinished}
 use Rattle.season_graph.proofs.RoundFacts.{average_stays, match_stays, row_stays}
+use Rattle.season_graph.proofs.CupFacts.{tie_stays}
 use Rattle.season_graph.proofs.TeamFacts.{team_dead, team_kept, total_kept}
 use Rattle.season_nodes.proofs.RisingFacts.{rising_filter, rising_same}
 use Rattle.season_nodes.proofs.DependentFacts.{rising_head, rising_tail, stands_there, there_stands}
@@ -182,6 +184,7 @@ module _ (b d : SeasonFacts) (is_b : IsSeason b) (is_d : IsSeason d) (f : ℕ) (
   place_listed (node.Average l g) = inl (average_stays b d c.entries c.locked c.leagues l g)
   place_listed (node.Match l g i) = inl (match_stays b d c.entries c.locked c.leagues l g i)
   place_listed (node.HeadRow l e) = inl (row_stays b d c.entries c.locked c.leagues l e)
+  place_listed (node.Tie k r i) = inl (tie_stays b d c.entries c.locked k (λ x. bracket_in (c.cups x) k) r i)
 
   stays_there : (q g : ℕ) → has_line d q f ≡ true → fixtures_of b q g ≡ fixtures_of d q g → stands_in b.calendar f ≡ Some g → stands_in d.calendar f ≡ Some g
   stays_there q g h e i = stands_there d.calendar.fixtures f g is_d.calendar.ids_rise (from_filter (has_line d q) (standing d.calendar g) f

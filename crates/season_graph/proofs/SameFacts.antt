@@ -1,10 +1,11 @@
 -- A line, a mark or a place that is named and is the same is no difference.
-use Rattle.std.proofs.Common.{◌≡◌, ℕ, ⊎_elim, ap, subst, sym, ◌∙◌}
+use Rattle.std.proofs.Common.{◌≡◌, ℕ, inl, ⊎_elim, ap, subst, sym, ◌∙◌}
 use Rattle.std.specs.Option.{option_map}
 use Rattle.rule_book.specs.Calendar.{standing, stands_in}
 use Rattle.rule_book.specs.MatchFacts.{is_finished, line_of}
 use Rattle.rule_book.specs.Players.{player_of}
 use Rattle.season_graph.specs.Changes.{AreAlike, DifferInLine, DifferInMark, DifferInPlace, SameIsAlike}
+use Rattle.season_nodes.specs.Brackets.{bracket_in}
 use Rattle.season_nodes.specs.Season.{IsSeason, SeasonFacts}
 use Rattle.season_nodes.proofs.DependentFacts.{stands_there, there_stands}
 use Rattle.season_nodes.proofs.RisingFacts.{rising_same}
@@ -23,6 +24,7 @@ line_alike b d f p c same = record {
   marks = c.marks;
   positions = λ q. ap (λ ps. option_map (λ x. x.position) (player_of ps q)) c.players;
   leagues = c.leagues;
+  cups = λ k. inl (λ x. bracket_in (c.cups x) k);
   entries = c.entries;
 }
 
@@ -35,6 +37,7 @@ mark_alike b d f c same = record {
   marks = λ k. ⊎_elim (λ e. subst (λ x. is_finished b.matches x ≡ is_finished d.matches x) (sym e) same) (λ n. c.marks k n) (same_or_not k f);
   positions = λ q. ap (λ ps. option_map (λ x. x.position) (player_of ps q)) c.players;
   leagues = c.leagues;
+  cups = λ k. inl (λ x. bracket_in (c.cups x) k);
   entries = c.entries;
 }
 
@@ -54,6 +57,7 @@ place_alike b d f is_b is_d c same =
       marks = λ k. ap (λ m. is_finished m k) c.matches;
       positions = λ q. ap (λ ps. option_map (λ x. x.position) (player_of ps q)) c.players;
       leagues = c.leagues;
+      cups = λ k. inl (λ x. bracket_in (c.cups x) k);
       entries = c.entries;
     }
 

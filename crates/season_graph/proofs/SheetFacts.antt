@@ -8,6 +8,7 @@ use Rattle.rule_book.specs.Players.{player_of}
 use Rattle.rescore_graph.specs.Graph.{Among}
 use Rattle.rescore_graph.specs.States.{State}
 use Rattle.season_graph.specs.Changes.{IsKept, IsTouched, DifferInSheet, Follows, MarksTouched}
+use Rattle.season_nodes.specs.Brackets.{bracket_in}
 use Rattle.season_nodes.specs.declared.nodes.Node.{Node}
 use Rattle.season_nodes.specs.declared.nodes.Node.TheVariants as node
 use Rattle.season_nodes.specs.declared.nodes.Value.{Value}
@@ -18,6 +19,7 @@ use Rattle.season_graph.specs.Touched.{is_other, gameweek_beside, line_nodes, li
 use Rattle.season_graph.proofs.ChangedFacts.{among_or_not, beside_at, bool_case, at_node, change_exact, change_sound, other_same, from_beside, from_rest, iff_same, place_or_not, same_or_not, some_lines, to_rest}
 use Rattle.season_graph.proofs.EndingFacts.{ending_listed, ending_touched}
 use Rattle.season_graph.proofs.RoundFacts.{average_stays, match_stays, row_stays}
+use Rattle.season_graph.proofs.CupFacts.{tie_stays}
 use Rattle.season_graph.proofs.TeamFacts.{team_kept, total_kept}
 use Rattle.season_nodes.proofs.DependentFacts.{stands_there, there_stands}
 use Rattle.season_nodes.proofs.Lists.{listed_test}
@@ -104,6 +106,7 @@ module _ (b d : SeasonFacts) (is_b : IsSeason b) (is_d : IsSeason d) (f : ℕ) (
   sheet_listed (node.Average l g) = inl (average_stays b d c.entries (ap (λ x. x.locked) c.calendar) c.leagues l g)
   sheet_listed (node.Match l g i) = inl (match_stays b d c.entries (ap (λ x. x.locked) c.calendar) c.leagues l g i)
   sheet_listed (node.HeadRow l e) = inl (row_stays b d c.entries (ap (λ x. x.locked) c.calendar) c.leagues l e)
+  sheet_listed (node.Tie k r i) = inl (tie_stays b d c.entries (ap (λ x. x.locked) c.calendar) k (λ x. bracket_in (c.cups x) k) r i)
 
   listed_same : (p : ℕ) → players_of b f ≡ players_of d f → was p ≡ has_line d p f
   listed_same p e = sym (listed_test (lines_of b.matches f) p) ∙ ap (list_any (λ q. q == p)) e ∙ listed_test (lines_of d.matches f) p
@@ -162,6 +165,7 @@ line_in_nodes d f p q w (inl e) = ap player e
     player (node.Average l g) = 0
     player (node.Match l g i) = 0
     player (node.HeadRow l x) = 0
+    player (node.Tie k r i) = 0
 line_in_nodes d f p q w (inr a) = other (from_rest (is_other w (has_line d q f)) (node.Bonus f ∷ gameweek_beside q (stands_in d.calendar f)) (node.Line f p) a).1
   where
     other : Among (node.Bonus f ∷ gameweek_beside q (stands_in d.calendar f)) (node.Line f p) → q ≡ p

@@ -4,6 +4,7 @@ use Rattle.std.proofs.lemmas.Bool.{false≢true}
 use Rattle.std.proofs.lemmas.Option.{none-some}
 use Rattle.std.specs.List.{slice_get}
 use Rattle.std.specs.Result.{is_ok}
+use Rattle.rule_book.specs.declared.cup.Bracket.{Bracket}
 use Rattle.rule_book.specs.declared.line.Line.{Line}
 use Rattle.rule_book.specs.Entries.{entry_in}
 use Rattle.rule_book.specs.Figures.{IsLine}
@@ -13,6 +14,7 @@ use Rattle.rule_book.specs.MatchFacts.{MatchFacts}
 use Rattle.rule_book.specs.Players.{player_of}
 use Rattle.season_graph.specs.BookChanges.{LineIsPut, MarkIsSet, with_matches}
 use Rattle.season_graph.specs.Changes.{DifferInLine, DifferInMark}
+use Rattle.season_nodes.specs.Brackets.{AreBrackets}
 use Rattle.season_nodes.specs.Season.{SeasonFacts, AreOrders, IsSeason}
 
 -- what holds on Ok
@@ -39,3 +41,11 @@ no_orders leagues none l league at = absurd (nowhere l (l == 0) (sym (ap (λ all
     nowhere : (k : ℕ) (t : Bool) → (if t then None else slice_get [] (k - 1)) ≡ Some league → ⊥
     nowhere k true e = none-some league e
     nowhere k false e = none-some league e
+
+-- so has each of no cups the slots of its rounds
+pub no_brackets : (cups : List Bracket) → cups ≡ [] → AreBrackets cups
+no_brackets cups none c bracket at = absurd (nowhere c (c == 0) (sym (ap (λ all. entry_in all c) none) ∙ at))
+  where
+    nowhere : (k : ℕ) (t : Bool) → (if t then None else slice_get [] (k - 1)) ≡ Some bracket → ⊥
+    nowhere k true e = none-some bracket e
+    nowhere k false e = none-some bracket e

@@ -1,5 +1,5 @@
 -- Each node's own function of the values that the rule book tells gives the value that the rule book tells.
-use Rattle.std.proofs.Common.{◌≡◌, ℕ, zero, suc, ◌+◌, ◌-◌, ◌<◌, ◌≤◌, ◌==◌, max, ℤ, pos, ◌+ℤ◌, Bool, true, false, ◌&&◌, ◌||◌, cond, if◌then◌else◌, nat_le, inl, inr, ⊎_elim, List, [], ◌∷◌, ◌++◌, Option, Some, None, is_some, map, refl, sym, ◌∙◌, ap, ap₂, subst, arith, add_assoc, zero-add}
+use Rattle.std.proofs.Common.{◌≡◌, ℕ, zero, suc, ◌+◌, ◌-◌, ◌*◌, ◌<◌, ◌≤◌, ◌==◌, max, ℤ, pos, ◌+ℤ◌, Bool, true, false, ◌&&◌, ◌||◌, cond, if◌then◌else◌, nat_le, inl, inr, ⊎_elim, List, [], ◌∷◌, ◌++◌, Option, Some, None, is_some, map, refl, sym, ◌∙◌, ap, ap₂, subst, arith, add-one, add_assoc, zero-add}
 use Rattle.std.specs.List.{filter, flat_map, fold, list_any, range_with_len, slice_index, sum_by}
 use Rattle.std.specs.Option.{option_map_or, unwrap_or}
 use Rattle.std.proofs.lemmas.Bool.Decides.{leb_tells, nat_tests}
@@ -15,6 +15,7 @@ use Rattle.rule_book.specs.Calendar.{standing as standing_in}
 use Rattle.rule_book.specs.Figures.{figure}
 use Rattle.rule_book.specs.MatchFacts.{Lines, is_finished, line_in, line_of, lines_of, players_in}
 use Rattle.rule_book.specs.PlayerFigures.{appearance, bonus_at, line_beside, played_with, points_at, position_in}
+use Rattle.rule_book.specs.Cups.{winner}
 use Rattle.rule_book.specs.Entries.{entry_in}
 use Rattle.rule_book.specs.HeadToHead.{head_score, total_of}
 use Rattle.rule_book.specs.LeagueRows.{matches_of, place_of, points_against}
@@ -32,11 +33,12 @@ use Rattle.season_nodes.specs.declared.nodes.Value.TheVariants as value
 use Rattle.season_nodes.specs.Rounds.{order_in}
 use Rattle.season_nodes.specs.RowsTold.{HoldTheirOwn}
 use Rattle.season_graph.specs.Lines.{IsLineTold}
-use Rattle.season_nodes.specs.Season.{IsSeason, SeasonFacts, Rising, bonuses_in, ended, fixtures_of, gathered, has_line, head_by, is_there, is_live, matches_by, no_figures, no_worth, opponent_in, own_value, points_by, took_part, with_bonus, with_worth, worth_in, worth_of}
+use Rattle.season_nodes.specs.Season.{IsSeason, SeasonFacts, Rising, bonuses_in, bracket_of, comer_by, ended, fixtures_of, gathered, has_line, head_by, is_there, is_live, matches_by, no_figures, no_worth, opponent_in, own_value, points_by, side_by, tie_by, took_part, with_bonus, with_worth, worth_in, worth_of}
 use Rattle.season_nodes.specs.SeasonLaws.{first_true, total_alive}
-use Rattle.season_graph.specs.Told.{told, gameweek_figures, gameweek_score, head_told, net_told}
+use Rattle.season_graph.specs.Told.{told, gameweek_figures, gameweek_score, head_told, net_told, side_told, tie_told}
 use Rattle.season_nodes.proofs.DependentFacts.{below_or_above, same_test}
 use Rattle.season_nodes.proofs.RowFacts.{rows_are_told}
+use Rattle.season_nodes.proofs.TieFacts.{won}
 
 within : (h n : ℕ) → h ≤ n → nat_le h n ≡ true
 within h n e = ⊎_elim (λ a. a.0) (λ a. let x : n < h = a.1 in absurd (omega arith)) (leb_tells h n)
@@ -347,6 +349,14 @@ module _ (b : SeasonFacts) where
   pub head_always : (l e : ℕ) → (if is_live b (node.HeadRow l e) then head_told b l e else head_score []) ≡ head_told b l e
   head_always l e = rowless (is_some (place_of (order_in b.leagues l) e)) l e refl
 
+  -- who comes to a place of a round is told to have won it
+  comes : (c r i : ℕ) → comer_by b told_by c r i ≡ winner (bracket_of b c) (side_by b told_by) r i
+  comes c zero i = refl
+  comes c (suc r) i = ap (λ k. winner (bracket_of b c) (side_told b) k i) (add-one r)
+
+  tie_is_told : (c r i : ℕ) → is_live b (node.Tie c r i) ≡ true → tie_told b c r i ≡ tie_by b told_by c r i
+  tie_is_told c r i live = ap (λ k. winner (bracket_of b c) (side_told b) k i) (add-one r) ∙ sym (won b told_by c r i live (comes c r (2 * i)) (comes c r (2 * i + 1)))
+
   -- the value that the rule book tells of a node is its own function of those that it tells of its inputs
   pub own_told : ((f : ℕ) → Distinct (lines_of b.matches f)) → ((f p : ℕ) → has_line b p f ≡ true → is_there b p ≡ true) → (n : Node) → is_live b n ≡ true → Some (told b n) ≡ Some (own_value b n (λ m. Some (told b m)))
   own_told distinct there (node.Line f p) l = refl
@@ -363,6 +373,7 @@ module _ (b : SeasonFacts) where
   own_told distinct there (node.Match k g i) l =
       ap (λ points. Some (value.Match (net_told b (slice_index (order_in b.leagues k) i) g, points))) (against k g (opponent_in b k g i))
   own_told distinct there (node.HeadRow k e) l = ap (λ score. Some (value.HeadRow score)) (head_is_told k e)
+  own_told distinct there (node.Tie c r i) l = ap (λ entry. Some (value.Tie entry)) (tie_is_told c r i l)
 
   -- a line of a season
   pub line_told : IsSeason b → (f : ℕ) (row : ℕ × Line) → Among (lines_of b.matches f) row → IsLineTold b f row

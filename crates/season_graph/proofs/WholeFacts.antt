@@ -16,9 +16,10 @@ use Rattle.season_nodes.specs.declared.nodes.Value.{Value}
 use Rattle.season_nodes.specs.Reading.{among_left, among_right, to_flat, to_map}
 use Rattle.season_graph.specs.Refreshed.{refreshed, Refreshed}
 use Rattle.season_nodes.specs.Rounds.{order_in}
-use Rattle.season_nodes.specs.Season.{SeasonFacts, is_live, players_of, season_graph}
+use Rattle.season_nodes.specs.Season.{SeasonFacts, is_live, players_of, round_of, season_graph}
 use Rattle.season_nodes.specs.SeasonLaws.{first_true, has_listed, has_some, second_true, total_alive}
-use Rattle.season_graph.specs.Touched.{all_nodes, fixture_nodes, fixtures_nodes, head_nodes, heads_nodes, locked_scores}
+use Rattle.season_graph.specs.Touched.{all_nodes, cups_since, fixture_nodes, fixtures_nodes, head_nodes, heads_nodes, locked_scores}
+use Rattle.season_graph.proofs.CupFacts.{tie_since}
 use Rattle.season_graph.proofs.GameweekFacts.{numbered_among}
 use Rattle.season_graph.proofs.LockFacts.{locked_among, locked_team, locked_total}
 use Rattle.season_graph.proofs.RoundFacts.{average_drawn, average_head, match_drawn, match_head, numbered_league, row_drawn, row_head}
@@ -53,18 +54,21 @@ from_0 : (n : ℕ) → 0 ≤ n
 from_0 n = omega arith
 
 module _ (b : SeasonFacts) where
+  in_tables : (n : Node) → Among ((fixtures_nodes b ++ locked_scores b 0) ++ heads_nodes b) n → Among (all_nodes b) n
+  in_tables n a = among_left ((fixtures_nodes b ++ locked_scores b 0) ++ heads_nodes b) (cups_since b 0) n a
+
   in_fixture : (f : ℕ) (n : Node) → nat_lt 0 (length (lines_of b.matches f)) ≡ true → Among (fixture_nodes b f) n → Among (all_nodes b) n
   in_fixture f n e a =
-      among_left (fixtures_nodes b ++ locked_scores b 0) (heads_nodes b) n
-      (among_left (fixtures_nodes b) (locked_scores b 0) n (to_flat (fixture_nodes b) (keys_of b.matches) f n (with_lines b.matches f e) a))
+      in_tables n (among_left (fixtures_nodes b ++ locked_scores b 0) (heads_nodes b) n
+      (among_left (fixtures_nodes b) (locked_scores b 0) n (to_flat (fixture_nodes b) (keys_of b.matches) f n (with_lines b.matches f e) a)))
 
   in_scores : (n : Node) → Among (locked_scores b 0) n → Among (all_nodes b) n
-  in_scores n a = among_left (fixtures_nodes b ++ locked_scores b 0) (heads_nodes b) n (among_right (fixtures_nodes b) (locked_scores b 0) n a)
+  in_scores n a = in_tables n (among_left (fixtures_nodes b ++ locked_scores b 0) (heads_nodes b) n (among_right (fixtures_nodes b) (locked_scores b 0) n a))
 
   in_league : (l : ℕ) (n : Node) → 0 < length (order_in b.leagues l) → Among (head_nodes b l) n → Among (all_nodes b) n
   in_league l n some a =
       let number = numbered_league b l some in
-      among_right (fixtures_nodes b ++ locked_scores b 0) (heads_nodes b) n (numbered_among (head_nodes b) (length b.leagues) l n number.0 number.1 a)
+      in_tables n (among_right (fixtures_nodes b ++ locked_scores b 0) (heads_nodes b) n (numbered_among (head_nodes b) (length b.leagues) l n number.0 number.1 a))
 
   -- each live node is one of the season
   pub live_among : (n : Node) → is_live b n ≡ true → Among (all_nodes b) n
@@ -78,6 +82,8 @@ module _ (b : SeasonFacts) where
   live_among (node.Average l g) live = in_league l (node.Average l g) (average_drawn b l g live) (average_head b l g live)
   live_among (node.Match l g i) live = in_league l (node.Match l g i) (match_drawn b l g i live) (match_head b l g i live)
   live_among (node.HeadRow l e) live = in_league l (node.HeadRow l e) (row_drawn b l e live) (row_head b l e live)
+  live_among (node.Tie c r i) live =
+      among_right ((fixtures_nodes b ++ locked_scores b 0) ++ heads_nodes b) (cups_since b 0) (node.Tie c r i) (tie_since b c r i 0 (from_0 (round_of b c r)) live)
 
 -- a cell that was planted where its node is live
 planted_some : (l : Bool) (o : Option (Slot Value)) → o ≡ refreshed l None → is_some o ≡ l

@@ -1,6 +1,7 @@
 -- What the calls that change the books do to the facts: each leaves a season, which differs from the one before as the
 -- cells can follow it. And when an index stays right.
-use Rattle.std.specs.Prelude.{◌≡◌, ℕ, ◌+◌, Bool, true, false, List, [], ◌∷◌, ◌++◌, length, Option, Some, None, is_some}
+use Rattle.std.specs.Prelude.{◌≡◌, ◌<◌, ℕ, ◌+◌, Bool, true, false, List, [], ◌∷◌, ◌++◌, length, Option, Some, None, is_some}
+use Rattle.rule_book.specs.declared.cup.Bracket.{Bracket}
 use Rattle.rule_book.specs.declared.line.Line.{Line}
 use Rattle.rule_book.specs.declared.player.Player.{Player}
 use Rattle.rule_book.specs.declared.season.Fixture.{Fixture}
@@ -16,12 +17,14 @@ use Rattle.rule_book.specs.Repeats.{first_repeat}
 use Rattle.manager_book.specs.Managers.{Managers}
 use Rattle.rescore_graph.specs.Graph.{Among}
 use Rattle.season_graph.specs.Changes.{AreAlike, DifferInLeague, DifferInLine, DifferInLocks, DifferInMark, DifferInPlace, DifferInPlayer, DifferInSheet, EntriesStay}
+use Rattle.cup_rounds.specs.Shapes.{HasShape}
 use Rattle.season_nodes.specs.BookFacts.{facts_with}
+use Rattle.season_nodes.specs.Brackets.{AreBrackets}
 use Rattle.season_nodes.specs.IndexFacts.{IsIndex}
 use Rattle.season_nodes.specs.Season.{SeasonFacts, AreOrders, IsOrder, IsSeason}
 
 -- the facts with other lines and marks, with another calendar, with other players, with another book of managers, with
--- other leagues
+-- other leagues, with other cups
 abbrev pub with_matches : SeasonFacts → MatchFacts → SeasonFacts
 with_matches b matches = record b { matches = matches }
 
@@ -32,14 +35,17 @@ abbrev pub with_players : SeasonFacts → List Player → SeasonFacts
 with_players b players = record b { players = players }
 
 abbrev pub with_managers : SeasonFacts → Managers → SeasonFacts
-with_managers b managers = facts_with b.profile b.calendar b.players b.matches managers b.leagues
+with_managers b managers = facts_with b.profile b.calendar b.players b.matches managers b.leagues b.cups
 
 abbrev pub with_leagues : SeasonFacts → List LeagueFacts → SeasonFacts
 with_leagues b leagues = record b { leagues = leagues }
 
+abbrev pub with_cups : SeasonFacts → List Bracket → SeasonFacts
+with_cups b cups = record b { cups = cups }
+
 -- a season begins with no facts of its matches
 abbrev pub SeasonBegins : Type 0
-SeasonBegins = (b : SeasonFacts) → IsCalendar b.calendar → b.matches ≡ [] → AreOrders b.leagues → IsSeason b
+SeasonBegins = (b : SeasonFacts) → IsCalendar b.calendar → b.matches ≡ [] → AreOrders b.leagues → AreBrackets b.cups → IsSeason b
 
 -- a line is put in: it is in its ranges, and the player is there
 abbrev pub LineIsPut : Type 0
@@ -129,6 +135,11 @@ abbrev pub LeagueIsDrawn : Type 0
 LeagueIsDrawn = (b : SeasonFacts) (l : ℕ) (order : List ℕ) → IsSeason b
     → ((league : LeagueFacts) → entry_in b.leagues l ≡ Some league → CanBeDrawn order league)
     → let d = with_leagues b (changed_in (with_order order) b.leagues l) in IsSeason d × DifferInLeague b d l
+
+-- a cup is drawn, which has not started: no node is touched
+abbrev pub CupIsDrawn : Type 0
+CupIsDrawn = (b : SeasonFacts) (bracket : Bracket) → IsSeason b → HasShape bracket → b.calendar.locked < bracket.start
+    → let d = with_cups b (b.cups ++ bracket ∷ []) in IsSeason d × AreAlike b d
 
 -- an index stays right where no gameweek is locked and the entries are as they were in those that are
 abbrev pub IndexStays : Type 0

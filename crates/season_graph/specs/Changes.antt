@@ -15,13 +15,18 @@ use Rattle.rescore_graph.specs.Settling.{Sound}
 use Rattle.season_nodes.specs.declared.nodes.Value.{Value}
 use Rattle.season_nodes.specs.declared.nodes.Node.{Node}
 use Rattle.season_nodes.specs.declared.nodes.Node.TheVariants as node
+use Rattle.season_nodes.specs.Brackets.{part_of}
 use Rattle.season_nodes.specs.Rounds.{order_in, start_in}
-use Rattle.season_nodes.specs.Season.{SeasonFacts, IsSeason, counted_gameweeks, ended, fielded_in, fixtures_of, has_begun, is_live, is_there, players_of, season_graph}
+use Rattle.season_nodes.specs.Season.{SeasonFacts, IsSeason, bracket_of, counted_gameweeks, ended, fielded_in, fixtures_of, has_begun, is_live, is_there, players_of, round_of, season_graph}
 
 module _ (b d : SeasonFacts) where
   -- of those in the order of a league the same have a gameweek
   abbrev pub SameBegan : ℕ → ℕ → Type 0
   SameBegan l g = (e : ℕ) → Among (order_in d.leagues l) e → is_live b (node.TeamGw e g) ≡ is_live d (node.TeamGw e g)
+
+  -- of those who can reach a tie the same have a gameweek in its round
+  abbrev pub SameReach : ℕ → ℕ → ℕ → Type 0
+  SameReach c r i = (e : ℕ) → Among (part_of (bracket_of d c) r i) e → is_live b (node.TeamGw e (round_of d c r)) ≡ is_live d (node.TeamGw e (round_of d c r))
 
   -- a node's inputs and its own facts are the same in both
   abbrev pub IsSame : Node → Type 0
@@ -35,6 +40,7 @@ module _ (b d : SeasonFacts) where
   IsSame (node.HeadRow l e) =
       (order_in b.leagues l ≡ order_in d.leagues l) × (start_in b.leagues l ≡ start_in d.leagues l)
       × (gameweeks (start_in b.leagues l) b.calendar.locked ≡ gameweeks (start_in d.leagues l) d.calendar.locked)
+  IsSame (node.Tie c r i) = (bracket_of b c ≡ bracket_of d c) × SameReach c r i
 
   -- a node that the change from b to d leaves as it was
   abbrev pub IsKept : Node → Type 0
@@ -60,6 +66,7 @@ module _ (b d : SeasonFacts) where
     pub marks : (k : ℕ) → is_finished b.matches k ≡ is_finished d.matches k
     pub others : (k q : ℕ) → (k ≢ f) ⊎ (q ≢ p) → line_of b.matches k q ≡ line_of d.matches k q
     pub leagues : b.leagues ≡ d.leagues
+    pub cups : b.cups ≡ d.cups
     pub entries : EntriesStay b d
 
   -- they differ at most in the lines of some players in a fixture, and, if it is marked so, in its mark
@@ -70,6 +77,7 @@ module _ (b d : SeasonFacts) where
     pub marks : (k : ℕ) → (k ≢ f) ⊎ (marked ≡ false) → is_finished b.matches k ≡ is_finished d.matches k
     pub others : (k q : ℕ) → (k ≢ f) ⊎ (¬ Among ps q) → line_of b.matches k q ≡ line_of d.matches k q
     pub leagues : b.leagues ≡ d.leagues
+    pub cups : b.cups ≡ d.cups
     pub entries : EntriesStay b d
 
   -- they differ at most in the mark of a fixture
@@ -80,6 +88,7 @@ module _ (b d : SeasonFacts) where
     pub marks : (k : ℕ) → k ≢ f → is_finished b.matches k ≡ is_finished d.matches k
     pub lines : (k q : ℕ) → line_of b.matches k q ≡ line_of d.matches k q
     pub leagues : b.leagues ≡ d.leagues
+    pub cups : b.cups ≡ d.cups
     pub entries : EntriesStay b d
 
   -- they differ at most in where a fixture stands
@@ -90,6 +99,7 @@ module _ (b d : SeasonFacts) where
     pub matches : b.matches ≡ d.matches
     pub others : (k : ℕ) → k ≢ f → stands_in b.calendar k ≡ stands_in d.calendar k
     pub leagues : b.leagues ≡ d.leagues
+    pub cups : b.cups ≡ d.cups
     pub entries : EntriesStay b d
 
 -- a league goes on as another, which has the same kind and first gameweek, and all its members; and the same order, if it
@@ -110,6 +120,7 @@ module _ (b d : SeasonFacts) where
     pub there : is_there d p ≡ true
     pub others : (q : ℕ) → q ≢ p → player_of b.players q ≡ player_of d.players q
     pub leagues : b.leagues ≡ d.leagues
+    pub cups : b.cups ≡ d.cups
     pub entries : EntriesStay b d
 
   -- more gameweeks are locked than the first ones
@@ -121,6 +132,7 @@ module _ (b d : SeasonFacts) where
     pub before : b.calendar.locked ≡ first
     pub rises : first ≤ d.calendar.locked
     pub leagues : b.leagues ≡ d.leagues
+    pub cups : b.cups ≡ d.cups
     pub entries : EntriesStay b d
 
   -- they differ at most in a league, which is new, or goes on
@@ -131,9 +143,14 @@ module _ (b d : SeasonFacts) where
     pub matches : b.matches ≡ d.matches
     pub others : (k : ℕ) → k ≢ l → entry_in b.leagues k ≡ entry_in d.leagues k
     pub goes_on : (old : LeagueFacts) → entry_in b.leagues l ≡ Some old → IsSomeAnd (entry_in d.leagues l) (GoesOn old)
+    pub cups : b.cups ≡ d.cups
     pub entries : EntriesStay b d
 
-  -- they differ in nothing that a node hangs on
+  -- a cup has no tie in a locked gameweek in either
+  abbrev pub IsIdle : ℕ → Type 0
+  IsIdle c = (r i : ℕ) → (is_live b (node.Tie c r i) ≡ false) × (is_live d (node.Tie c r i) ≡ false)
+
+  -- they differ in nothing that a node hangs on: a cup is the same, or has no tie yet
   pub record AreAlike : Type 0 where
     pub profile : b.profile ≡ d.profile
     pub locked : b.calendar.locked ≡ d.calendar.locked
@@ -142,6 +159,7 @@ module _ (b d : SeasonFacts) where
     pub marks : (f : ℕ) → is_finished b.matches f ≡ is_finished d.matches f
     pub positions : (q : ℕ) → option_map (λ x. x.position) (player_of b.players q) ≡ option_map (λ x. x.position) (player_of d.players q)
     pub leagues : b.leagues ≡ d.leagues
+    pub cups : (c : ℕ) → (bracket_of b c ≡ bracket_of d c) ⊎ IsIdle c
     pub entries : EntriesStay b d
 
 -- a line, a mark or a place that is named and is the same is no difference

@@ -18,7 +18,7 @@ use Rattle.season_nodes.specs.IndexFacts.{IsIndex}
 use Rattle.season_nodes.specs.NodeOrder.{node_cmp}
 use Rattle.season_graph.specs.Refreshed.{Refreshed, refreshed}
 use Rattle.season_nodes.specs.Season.{SeasonFacts, IsSeason, is_live, season_graph}
-use Rattle.season_graph.specs.Touched.{chosen_of, coming_nodes, entry_nodes, league_nodes, line_nodes, lines_nodes, locked_entries, locked_leagues, locked_nodes, locked_players, locked_scores, locked_totals, mark_nodes, moved_nodes, others_of, player_nodes, presence_nodes, sheet_nodes}
+use Rattle.season_graph.specs.Touched.{chosen_of, coming_nodes, cups_since, entry_nodes, league_nodes, line_nodes, lines_nodes, locked_cups, locked_entries, locked_leagues, locked_nodes, locked_players, locked_scores, locked_tables, locked_totals, mark_nodes, moved_nodes, others_of, player_nodes, presence_nodes, sheet_nodes}
 
 -- whether a player's line in a fixture has a cell
 abbrev pub had_line : SeasonRows → ℕ → ℕ → Bool
@@ -157,6 +157,17 @@ module _ (b : Books) where
 
   abbrev pub LeaguesRefreshed : ℕ → SeasonRows → SeasonRows → Type 0
   LeaguesRefreshed first old new = Refreshes (locked_leagues (facts_of b) first) old new
+
+  abbrev pub TablesRefreshed : ℕ → SeasonRows → SeasonRows → Type 0
+  TablesRefreshed first old new = Refreshes (locked_tables (facts_of b) first) old new
+
+  -- the ties of the rounds of all cups in the locked gameweeks from one on
+  abbrev pub CupsRefreshed : ℕ → SeasonRows → SeasonRows → Type 0
+  CupsRefreshed from old new = Refreshes (cups_since (facts_of b) from) old new
+
+  -- those behind the first ones, where such are locked
+  abbrev pub LockedCupsRefreshed : ℕ → SeasonRows → SeasonRows → Type 0
+  LockedCupsRefreshed first old new = Refreshes (locked_cups (facts_of b) first) old new
 
   abbrev pub LocksRefreshed : ℕ → SeasonRows → SeasonRows → Type 0
   LocksRefreshed first old new = Refreshes (locked_nodes (facts_of b) first) old new

@@ -1,7 +1,8 @@
 -- The values of the nodes straight from the facts, by the rule book.
-use Rattle.std.specs.Prelude.{◌≡◌, ℕ, ℤ, pos, true, if◌then◌else◌, List, [], map, Option, Some, slice_index}
+use Rattle.std.specs.Prelude.{◌≡◌, ℕ, ◌+◌, ℤ, pos, true, if◌then◌else◌, List, [], map, Option, Some, slice_index}
 use Rattle.std.specs.Option.{option_map_or}
 use Rattle.rule_book.specs.Bonus.{standing}
+use Rattle.rule_book.specs.Cups.{winner}
 use Rattle.rule_book.specs.Entries.{entry_in}
 use Rattle.rule_book.specs.EntryScores.{score_in}
 use Rattle.rule_book.specs.HeadToHead.{head_score}
@@ -9,6 +10,7 @@ use Rattle.rule_book.specs.LeagueRows.{average_in, matches_of, points_against}
 use Rattle.rule_book.specs.MatchFacts.{is_finished, lines_of}
 use Rattle.rule_book.specs.PlayerFigures.{appearance, figures_in}
 use Rattle.rule_book.specs.Totals.{total_from}
+use Rattle.rule_book.specs.declared.cup.Side.{Side}
 use Rattle.rule_book.specs.declared.tables.HeadScore.{HeadScore}
 use Rattle.rule_book.specs.declared.team_score.Figures.{Figures}
 use Rattle.rule_book.specs.declared.team_score.TeamScore.{TeamScore}
@@ -16,8 +18,9 @@ use Rattle.season_nodes.specs.declared.nodes.Node.{Node}
 use Rattle.season_nodes.specs.declared.nodes.Node.TheVariants as node
 use Rattle.season_nodes.specs.declared.nodes.Value.{Value}
 use Rattle.season_nodes.specs.declared.nodes.Value.TheVariants as value
+use Rattle.season_nodes.specs.Brackets.{no_side, side_of}
 use Rattle.season_nodes.specs.Rounds.{order_in}
-use Rattle.season_nodes.specs.Season.{SeasonFacts, is_live, line_worth, opponent_in, with_bonus}
+use Rattle.season_nodes.specs.Season.{SeasonFacts, bracket_of, is_live, line_worth, opponent_in, with_bonus}
 
 module _ (b : SeasonFacts) where
   -- what a player did in a gameweek
@@ -57,6 +60,14 @@ module _ (b : SeasonFacts) where
   head_told l e =
       option_map_or (λ league. head_score (matches_of net_told b.calendar.locked league e)) (entry_in b.leagues l) (head_score [])
 
+  -- what an entry has in a gameweek; nothing where it has not begun
+  abbrev pub side_told : ℕ → ℕ → Side
+  side_told e g = if is_live b (node.TeamGw e g) then side_of (gameweek_score e g) else no_side
+
+  -- who wins a tie of a cup, after so many rounds
+  abbrev pub tie_told : ℕ → ℕ → ℕ → ℕ
+  tie_told c r i = winner (bracket_of b c) side_told (r + 1) i
+
   -- what is told of a node
   abbrev pub told : Node → Value
   told (node.Line f p) = value.Line (line_worth b f p)
@@ -67,6 +78,7 @@ module _ (b : SeasonFacts) where
   told (node.Average l g) = value.Average (average_told l g)
   told (node.Match l g i) = value.Match (match_told l g i)
   told (node.HeadRow l e) = value.HeadRow (head_told l e)
+  told (node.Tie c r i) = value.Tie (tie_told c r i)
 
   -- each live node has the value that is told of it
   abbrev pub IsTold : (Node → Option Value) → Type 0

@@ -10,9 +10,10 @@ use Rattle.rule_book.specs.MatchFacts.{is_finished}
 use Rattle.rule_book.specs.Totals.{gameweeks}
 use Rattle.season_nodes.specs.declared.nodes.Node.{Node}
 use Rattle.season_nodes.specs.declared.nodes.Node.TheVariants as node
+use Rattle.season_nodes.specs.Brackets.{ties_after}
 use Rattle.season_nodes.specs.Dependents.{average_if, gameweek_dependents}
 use Rattle.season_nodes.specs.Rounds.{order_in, start_in}
-use Rattle.season_nodes.specs.Season.{SeasonFacts, classic_start, has_line, is_live, players_of, starts_of}
+use Rattle.season_nodes.specs.Season.{SeasonFacts, bracket_of, classic_start, has_line, is_live, players_of, starts_of}
 
 -- whether two answers differ
 abbrev pub is_other : Bool → Bool → Bool
@@ -94,9 +95,33 @@ module _ (b : SeasonFacts) where
   abbrev pub locked_leagues : ℕ → List Node
   locked_leagues first = if nat_lt first b.calendar.locked then numbered_nodes (locked_rounds first) (length b.leagues) else []
 
-  -- the nodes that are touched when the gameweeks behind the first ones are locked
+  -- the ties of a round of a cup
+  abbrev pub tie_nodes : ℕ → ℕ → List Node
+  tie_nodes c r = map (node.Tie c r) (range_with_len 0 (ties_after (bracket_of b c) r))
+
+  -- those of its round in a gameweek
+  abbrev pub cup_round : ℕ → ℕ → List Node
+  cup_round c g = if nat_le (bracket_of b c).start g then tie_nodes c (g - (bracket_of b c).start) else []
+
+  -- those of its rounds in the locked gameweeks from one on
+  abbrev pub ties_since : ℕ → ℕ → List Node
+  ties_since from c = flat_map (cup_round c) (gameweeks from b.calendar.locked)
+
+  -- and those of all cups
+  abbrev pub cups_since : ℕ → List Node
+  cups_since from = numbered_nodes (ties_since from) (length b.cups)
+
+  -- the nodes of players, entries and leagues that are touched when the gameweeks behind the first ones are locked
+  abbrev pub locked_tables : ℕ → List Node
+  locked_tables first = locked_scores first ++ locked_leagues first
+
+  -- the ties of the gameweeks behind the first ones, where such are locked
+  abbrev pub locked_cups : ℕ → List Node
+  locked_cups first = if nat_lt first b.calendar.locked then cups_since (first + 1) else []
+
+  -- and all such nodes
   abbrev pub locked_nodes : ℕ → List Node
-  locked_nodes first = locked_scores first ++ locked_leagues first
+  locked_nodes first = locked_tables first ++ locked_cups first
 
   -- all that a league has from its start on: its rounds, and its rows
   abbrev pub head_since : ℕ → ℕ → List Node
@@ -193,4 +218,4 @@ module _ (b : SeasonFacts) where
 
   -- all nodes that can be live
   abbrev pub all_nodes : List Node
-  all_nodes = (fixtures_nodes ++ locked_scores 0) ++ heads_nodes
+  all_nodes = ((fixtures_nodes ++ locked_scores 0) ++ heads_nodes) ++ cups_since 0

@@ -1,12 +1,13 @@
 // Cells that are brought to the values that the rule book tells.
-ghost use Rattle.std.specs.Prelude.{◌≤◌, ◌+◌, ◌∷◌, [], IfOk, OnOk};
+ghost use Rattle.std.specs.Prelude.{◌≤◌, ◌+◌, ◌++◌, IfOk, OnOk};
 ghost use Rattle.std.specs.List.{sum_by};
 ghost use Rattle.season_nodes.specs.BookFacts.{facts_of};
 ghost use Rattle.season_graph.specs.Followed.{AreEvaluated, AreSound, HasRemained, HasSettled, Refreshes};
 ghost use Rattle.season_nodes.specs.IndexFacts.{IsIndex, holders_in};
 ghost use Rattle.season_nodes.specs.Season.{IsSeason, weight_of};
-ghost use Rattle.season_graph.specs.Touched.{all_nodes, fixture_nodes, fixtures_nodes};
+ghost use Rattle.season_graph.specs.Touched.{all_nodes, fixture_nodes, fixtures_nodes, heads_nodes, locked_scores};
 
+use crate::cups::refresh_cups;
 use crate::indexing::index_gameweeks;
 use crate::laws::replay_is_told;
 use crate::locks::refresh_scores;
@@ -84,6 +85,7 @@ fn cells_of<L: Ledger>(
             matches: books.matches,
             managers: books.managers,
             leagues: books.leagues,
+            cups: books.cups,
         },
         index,
     };
@@ -97,6 +99,16 @@ fn cells_of<L: Ledger>(
 fn refresh_all(cells: &mut SeasonCells, books: &Books) -> Result<(), Memory>
     ensures { OnOk result
         (Refreshes books.now (all_nodes (facts_of books.now)) cells.old cells.new) }
+{
+    refresh_but_ties(cells, books)?;
+    refresh_cups(cells, books, 0)?;
+    Ok(())
+}
+
+// The same but for the ties of cups.
+fn refresh_but_ties(cells: &mut SeasonCells, books: &Books) -> Result<(), Memory>
+    ensures { OnOk result
+        (Refreshes books.now ((fixtures_nodes (facts_of books.now) ++ locked_scores (facts_of books.now) 0) ++ heads_nodes (facts_of books.now)) cells.old cells.new) }
 {
     refresh_fixtures(cells, books)?;
     refresh_scores(cells, books, 0)?;

@@ -1,5 +1,5 @@
 ghost use Rattle.rescore_graph.specs.Graph.{replay};
-ghost use Rattle.season_graph.specs.BookChanges.{SeasonBegins, LineIsPut, LineIsDropped, MarkIsSet, SheetIsPut, FixtureMoves, FixtureComes, MomentPasses, PlayerComes, DeadlineMoves, PriceChanges, ClubChanges, GoneChanges, ManagersChange, LeagueIsMade, LeagueIsJoined, LeagueIsDrawn, IndexStays};
+ghost use Rattle.season_graph.specs.BookChanges.{CupIsDrawn, SeasonBegins, LineIsPut, LineIsDropped, MarkIsSet, SheetIsPut, FixtureMoves, FixtureComes, MomentPasses, PlayerComes, DeadlineMoves, PriceChanges, ClubChanges, GoneChanges, ManagersChange, LeagueIsMade, LeagueIsJoined, LeagueIsDrawn, IndexStays};
 ghost use Rattle.season_nodes.specs.BookFacts.{facts_of};
 ghost use Rattle.season_graph.specs.Changes.{SameIsAlike};
 ghost use Rattle.season_graph.specs.Followed.{AlikeFollowed, AlikeMarked};
@@ -16,7 +16,7 @@ use season_rules::{SeasonCells, SeasonRules};
 /// A law: the replay value of each live node is what the rule book tells straight from the facts. It is a line's worth,
 /// the bonus of a fixture, what a player did in a gameweek, what an entry's team scored there, or what an entry has over
 /// the locked gameweeks from one on; the points of the Average of a head-to-head league, what the two of a match scored,
-/// or what a member has of its matches.
+/// what a member has of its matches, or who wins a tie of a cup.
 pub fn replay_is_told(rules: &SeasonRules)
     requires season { IsSeason (facts_of rules.now.books) }
     requires index { IsIndex (facts_of rules.now.books) (holders_in rules.now.index.now) }
@@ -31,8 +31,8 @@ pub fn lines_are_told()
     ensures { LinesAreTold }
 {}
 
-/// A law: a lawful calendar, any players, no facts of the matches, any entries, and leagues of which each is drawn in an
-/// order of its members are a season.
+/// A law: a lawful calendar, any players, no facts of the matches, any entries, leagues of which each is drawn in an order
+/// of its members, and cups with the slots of their rounds are a season.
 pub fn season_begins()
     ensures { SeasonBegins }
 {}
@@ -78,6 +78,12 @@ pub fn leagues_change()
     ensures made { LeagueIsMade }
     ensures joined { LeagueIsJoined }
     ensures drawn { LeagueIsDrawn }
+{}
+
+/// A law: a cup that is drawn before its start leaves a season, which differs in nothing that a node hangs on. Its ties come
+/// with the locks of their gameweeks.
+pub fn cups_change()
+    ensures { CupIsDrawn }
 {}
 
 /// A law: an index stays right where no gameweek is locked and the entries are as they were in those that are.

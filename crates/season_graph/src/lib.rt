@@ -1,10 +1,11 @@
 //! The values of a season as cells, which follow each change of the books: what each player's line in a fixture is worth,
 //! the bonus of each fixture, what each player did in each locked gameweek, what each entry's team scored there, and what
-//! each entry has over them; and the Average, the matches and the rows of each head-to-head league that was drawn. For
-//! each change there is a call that brings up to date exactly the nodes that it touches.
+//! each entry has over them; the Average, the matches and the rows of each head-to-head league that was drawn; and who goes
+//! on from each tie of a cup in a locked gameweek. For each change there is a call that brings up to date exactly the nodes that it touches.
 #![tactic(auto)]
 
 mod changes;
+mod cups;
 mod endings;
 mod evaluation;
 mod holding;
@@ -24,10 +25,12 @@ pub use changes::{
 };
 pub use evaluation::{evaluate_all, settle_season};
 pub use laws::{
-    books_alike, calendar_changes, index_stays, leagues_change, lines_are_told, managers_change,
-    matches_change, players_change, replay_is_told, same_is_alike, season_begins,
+    books_alike, calendar_changes, cups_change, index_stays, leagues_change, lines_are_told,
+    managers_change, matches_change, players_change, replay_is_told, same_is_alike, season_begins,
 };
-pub use reading::{bonuses_held, gameweek_held, head_held, line_held, score_held, total_held};
+pub use reading::{
+    bonuses_held, gameweek_held, head_held, line_held, score_held, tie_held, total_held,
+};
 pub use season_nodes::{
     Bonuses, Books, GameweekFigures, GameweekScore, Index, LineWorth, Node, Value, is_same,
 };

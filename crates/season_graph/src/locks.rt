@@ -1,8 +1,9 @@
 // What locks of gameweeks do to the cells.
 ghost use Rattle.std.specs.Prelude.{◌<◌, ◌+◌, [], ◌∷◌, OnOk, IfSome, slice_get};
-ghost use Rattle.season_graph.specs.Followed.{EntriesRefreshed, EntryRefreshed, GameweeksRefreshed, LocksRefreshed, PlayersRefreshed, Refreshes, ScoresRefreshed, TotalsRefreshed};
+ghost use Rattle.season_graph.specs.Followed.{EntriesRefreshed, EntryRefreshed, GameweeksRefreshed, LocksRefreshed, PlayersRefreshed, Refreshes, ScoresRefreshed, TablesRefreshed, TotalsRefreshed};
 ghost use Rattle.season_nodes.specs.declared.nodes.Node.{Node};
 
+use crate::cups::refresh_cups_if;
 use crate::refreshing::refresh_one;
 use crate::rounds::refresh_leagues_if;
 use crate::totals::refresh_totals;
@@ -17,6 +18,15 @@ pub(crate) fn refresh_locked(
     first: u8,
 ) -> Result<(), Memory>
     ensures { OnOk result (LocksRefreshed books.now first cells.old cells.new) }
+{
+    refresh_tables(cells, books, first)?;
+    refresh_cups_if(cells, books, first)?;
+    Ok(())
+}
+
+// The same but for the ties of cups.
+fn refresh_tables(cells: &mut SeasonCells, books: &Books, first: u8) -> Result<(), Memory>
+    ensures { OnOk result (TablesRefreshed books.now first cells.old cells.new) }
 {
     refresh_scores(cells, books, first)?;
     refresh_leagues_if(cells, books, first)?;

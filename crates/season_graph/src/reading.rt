@@ -4,14 +4,14 @@ ghost use Rattle.rule_book.specs.FigureRange.{IsWithin};
 ghost use Rattle.rule_book.specs.HeadToHead.{head_score};
 ghost use Rattle.rule_book.specs.TeamScores.{IsModest};
 ghost use Rattle.season_graph.specs.Followed.{AreEvaluated};
-ghost use Rattle.season_graph.specs.Told.{bonuses_told, gameweek_figures, gameweek_score, head_told, total_since};
+ghost use Rattle.season_graph.specs.Told.{bonuses_told, gameweek_figures, gameweek_score, head_told, tie_told, total_since};
 ghost use Rattle.season_nodes.specs.Season.{SeasonFacts, is_live, line_worth, no_figures, no_worth};
 ghost use Rattle.season_nodes.specs.declared.nodes.Node.{Node};
 
-use fpl_base::{EntryId, FixtureId, Gw, LeagueId, PlayerId, Steps};
+use fpl_base::{CupId, EntryId, FixtureId, Gw, LeagueId, PlayerId, Steps};
 use rule_book::{Figures, HeadScore, TeamScore};
 use season_nodes::{LineWorth, Node, Value};
-use season_rules::{SeasonCells, figures_in, worth_in};
+use season_rules::{SeasonCells, figures_in, winner_in, worth_in};
 use std::sync::ledger::Ledger;
 
 /// What a player's line in a fixture is worth without bonus, as its cell holds it; nothing where he has no line there. It
@@ -119,6 +119,22 @@ pub fn head_held<L: Ledger>(
         Some(Value::HeadRow(score)) => *score,
         _ => no_matches(),
     }
+}
+
+/// The number of the entry that goes on from a tie of a cup, after so many rounds; 0 where there is no such tie, and where
+/// its gameweek is not locked.
+pub fn tie_held<L: Ledger>(
+    cells: &SeasonCells,
+    cup: CupId,
+    round: u8,
+    place: u16,
+    steps: &mut Steps<L>,
+) -> u32
+    ensures value { (b : SeasonFacts) → AreEvaluated b cells.now
+        → result ≡ (if is_live b (Node.Tie cup round place) then tie_told b cup round place else 0) }
+    ensures cost { steps.new ≡ steps.old + 1 }
+{
+    winner_in(cells.get(Node::Tie(cup, round, place), steps))
 }
 
 // What an entry has of no matches.

@@ -13,6 +13,7 @@ use crate::{
     matches_change, season_begins, settle_season,
 };
 use classic_leagues::Leagues;
+use cup_rounds::Cups;
 use fpl_base::{
     ClubId, FixtureId, Gw, Moment, Name, PlayerId, Position, Profile, Refused, Steps, Tenths,
 };
@@ -94,6 +95,27 @@ fn line(goals: u16, assists: u16, key_passes: u16) -> Line {
     line
 }
 
+// The same line, which is in its ranges.
+fn ranged(line: Line) -> Result<Line, Fail>
+    ensures { IfOk result (λ line. IsLine line) }
+{
+    match line_ok(&line) {
+        Ok(()) => Ok(line),
+        Err(_) => Err("a line")?,
+    }
+}
+
+// The player of a number, who is there.
+fn there(players: &Players, number: u32) -> Result<PlayerId, Fail>
+    ensures { IfOk result (λ player. is_some (player_of players.now player) ≡ true) }
+{
+    let player = id(number)?;
+    match players.get(player) {
+        Some(_) => Ok(player),
+        None => Err("no player")?,
+    }
+}
+
 // Puts a line in, and tells how many nodes were evaluated. So a change of the books, the cells that follow it, and their
 // evaluation fit together by their contracts.
 fn put_line<'a, L: Ledger>(
@@ -101,6 +123,7 @@ fn put_line<'a, L: Ledger>(
     players: &'a Players,
     managers: &'a ManagerBook,
     leagues: &'a Leagues,
+    cups: &'a Cups,
     matches: &'a mut MatchFacts,
     index: &'a Index,
     cells: &mut SeasonCells,
@@ -108,14 +131,14 @@ fn put_line<'a, L: Ledger>(
     line: &Line,
     steps: &mut Steps<L>,
 ) -> Result<usize, Fail>
-    requires season { IsSeason (facts_with profile.A calendar.now players.now matches.old managers.now leagues.now) }
-    requires index { IsIndex (facts_with profile.A calendar.now players.now matches.old managers.now leagues.now) (holders_in index.now) }
-    requires sound { AreSound (facts_with profile.A calendar.now players.now matches.old managers.now leagues.now) cells.old }
+    requires season { IsSeason (facts_with profile.A calendar.now players.now matches.old managers.now leagues.now cups.now) }
+    requires index { IsIndex (facts_with profile.A calendar.now players.now matches.old managers.now leagues.now cups.now) (holders_in index.now) }
+    requires sound { AreSound (facts_with profile.A calendar.now players.now matches.old managers.now leagues.now cups.now) cells.old }
     requires ranges { IsLine line.now }
     requires there { is_some (player_of players.now player) ≡ true }
-    ensures season { OnOk result (IsSeason (facts_with profile.A calendar.now players.now matches.new managers.now leagues.now)) }
-    ensures index { OnOk result (IsIndex (facts_with profile.A calendar.now players.now matches.new managers.now leagues.now) (holders_in index.now)) }
-    ensures sound { OnOk result (AreSound (facts_with profile.A calendar.now players.now matches.new managers.now leagues.now) cells.new) }
+    ensures season { OnOk result (IsSeason (facts_with profile.A calendar.now players.now matches.new managers.now leagues.now cups.now)) }
+    ensures index { OnOk result (IsIndex (facts_with profile.A calendar.now players.now matches.new managers.now leagues.now cups.now) (holders_in index.now)) }
+    ensures sound { OnOk result (AreSound (facts_with profile.A calendar.now players.now matches.new managers.now leagues.now cups.now) cells.new) }
 {
     let fixture = fixture()?;
     taken(matches.put_line(fixture, true, player, line))?;
@@ -129,12 +152,36 @@ fn put_line<'a, L: Ledger>(
             matches: &*matches,
             managers,
             leagues,
+            cups,
         },
         index,
     };
     fact_changed(cells, &rules.books, fixture, player)?;
     let report = settle_season(cells, &rules, steps)?;
     Ok(report.evaluated.as_slice().len())
+}
+
+// Puts in a line of player 1 with one goal.
+fn put_goal<'a, L: Ledger>(
+    calendar: &'a Calendar,
+    players: &'a Players,
+    managers: &'a ManagerBook,
+    leagues: &'a Leagues,
+    cups: &'a Cups,
+    matches: &'a mut MatchFacts,
+    index: &'a Index,
+    cells: &mut SeasonCells,
+    steps: &mut Steps<L>,
+) -> Result<usize, Fail>
+    requires season { IsSeason (facts_with profile.A calendar.now players.now matches.old managers.now leagues.now cups.now) }
+    requires index { IsIndex (facts_with profile.A calendar.now players.now matches.old managers.now leagues.now cups.now) (holders_in index.now) }
+    requires sound { AreSound (facts_with profile.A calendar.now players.now matches.old managers.now leagues.now cups.now) cells.old }
+{
+    let player = there(players, 1)?;
+    let line = ranged(line(1, 0, 0))?;
+    put_line(
+        calendar, players, managers, leagues, cups, matches, index, cells, player, &line, steps,
+    )
 }
 
 // The points of a player's gameweek.
@@ -149,8 +196,7 @@ fn points_of<L: Ledger>(
     }
 }
 
-// The cells and the index of a season without lines and leagues.
-#[tactic(auto, using(crate::proofs::TestFacts::no_orders))]
+// The cells and the index of a season without lines, leagues and cups.
 fn begin<'a, L: Ledger>(
     alloc: Global,
     calendar: &'a Calendar,
@@ -158,13 +204,15 @@ fn begin<'a, L: Ledger>(
     matches: &'a MatchFacts,
     managers: &'a ManagerBook,
     leagues: &'a Leagues,
+    cups: &'a Cups,
     steps: &mut Steps<L>,
 ) -> Result<(SeasonCells, Index), Fail>
     requires matches { matches.now ≡ [] }
     requires leagues { leagues.now ≡ [] }
-    ensures season { OnOk result (IsSeason (facts_with profile.A calendar.now players.now matches.now managers.now leagues.now)) }
-    ensures sound { IfOk result (λ made. AreSound (facts_with profile.A calendar.now players.now matches.now managers.now leagues.now) made.0) }
-    ensures index { IfOk result (λ made. IsIndex (facts_with profile.A calendar.now players.now matches.now managers.now leagues.now) (holders_in made.1)) }
+    requires cups { cups.now ≡ [] }
+    ensures season { OnOk result (IsSeason (facts_with profile.A calendar.now players.now matches.now managers.now leagues.now cups.now)) }
+    ensures sound { IfOk result (λ made. AreSound (facts_with profile.A calendar.now players.now matches.now managers.now leagues.now cups.now) made.0) }
+    ensures index { IfOk result (λ made. IsIndex (facts_with profile.A calendar.now players.now matches.now managers.now leagues.now cups.now) (holders_in made.1)) }
 {
     let _locked = calendar.locked();
     season_begins();
@@ -175,6 +223,7 @@ fn begin<'a, L: Ledger>(
         matches,
         managers,
         leagues,
+        cups,
     };
     Ok(evaluate_all(alloc, &books, steps)?)
 }
@@ -193,30 +242,36 @@ fn corrects<L: Ledger>(rt: &impl Abort, alloc: Global, blank: Blank) -> Result<(
     let mut steps = Steps::<L>::open(blank);
     let calendar = calendar(alloc)?;
     let players = players(alloc)?;
+    corrects_in(rt, alloc, &calendar, &players, &mut steps)
+}
+
+fn corrects_in<L: Ledger>(
+    rt: &impl Abort,
+    alloc: Global,
+    calendar: &Calendar,
+    players: &Players,
+    steps: &mut Steps<L>,
+) -> Result<(), Fail> {
     let mut matches = MatchFacts::new(alloc);
     let managers = ManagerBook::new(alloc, Profile::A);
     let leagues = Leagues::new(alloc);
+    let cups = Cups::new(alloc);
     let (mut cells, index) = begin(
-        alloc, &calendar, &players, &matches, &managers, &leagues, &mut steps,
+        alloc, calendar, players, &matches, &managers, &leagues, &cups, steps,
     )?;
-    assert_eq!(rt; points_of(&cells, 1, &mut steps)?, 0);
-    let player = id(1)?;
-    let line = line(1, 0, 0);
-    if line_ok(&line).is_ok() && players.get(player).is_some() {
-        let evaluated = put_line(
-            &calendar,
-            &players,
-            &managers,
-            &leagues,
-            &mut matches,
-            &index,
-            &mut cells,
-            player,
-            &line,
-            &mut steps,
-        )?;
-        assert_eq!(rt; evaluated, 3);
-    }
-    assert_eq!(rt; points_of(&cells, 1, &mut steps)?, 8);
+    assert_eq!(rt; points_of(&cells, 1, steps)?, 0);
+    let evaluated = put_goal(
+        calendar,
+        players,
+        &managers,
+        &leagues,
+        &cups,
+        &mut matches,
+        &index,
+        &mut cells,
+        steps,
+    )?;
+    assert_eq!(rt; evaluated, 3);
+    assert_eq!(rt; points_of(&cells, 1, steps)?, 8);
     Ok(())
 }

@@ -26,10 +26,10 @@ use Rattle.season_running.specs.Standing.{HostRows, Running, host_rows, passed}
 use Rattle.season_host.specs.Cells.{AreCellsNow, AreCellsOfHost, AreCorrectedNow, LeadsNow, Locks, LocksNow, running_in, running_seen}
 
 -- a season and its managers are seen as the season that runs
-pub seen_is : (r : Running) (f : Facts) (m : Managers) (l : List LeagueFacts) → f ≡ r.facts → m.managers ≡ r.managers → m.profile ≡ r.facts.profile → l ≡ r.leagues
-    → books_seen f m l ≡ running_seen r
-seen_is r f m l same rows profile leagues =
-    λ i. facts_with (same i).profile (same i).calendar (same i).players (same i).matches (record { profile = profile i; managers = rows i }) (leagues i)
+pub seen_is : (r : Running) (f : Facts) (m : Managers) (l : List LeagueFacts) (c : List Bracket) → f ≡ r.facts → m.managers ≡ r.managers → m.profile ≡ r.facts.profile → l ≡ r.leagues → c ≡ r.cups
+    → books_seen f m l c ≡ running_seen r
+seen_is r f m l c same rows profile leagues cups =
+    λ i. facts_with (same i).profile (same i).calendar (same i).players (same i).matches (record { profile = profile i; managers = rows i }) (leagues i) (cups i)
 
 -- the cells of a season that runs are those of the host in which it runs
 of_running : (operator : List ℕ) (lasts : List (ℕ × Last)) (running : Option Running) (cells : Option CellRows)
@@ -107,6 +107,7 @@ same_self b (node.Total e s) = refl
 same_self b (node.Average l g) = (refl, λ e a. refl)
 same_self b (node.Match l g i) = (refl, refl, λ e a. refl)
 same_self b (node.HeadRow l e) = (refl, refl, refl)
+same_self b (node.Tie c r i) = (refl, λ e a. refl)
 
 -- where nothing changed, nothing is touched, and no cell has to be another
 unchanged : (b : SeasonFacts) (cells : SeasonRows) → IsCorrected b b cells cells
@@ -153,23 +154,23 @@ some_then (Some b) running first are locks = absurd are
 pub locked_season : MomentPasses → (before running : Running) (first : ℕ) (books : SeasonFacts) → books ≡ running_seen running → Locks before running first
     → IsSeason (running_seen before) → IsCalendar running.facts.calendar → IsSeason books × DifferInLocks (running_seen before) books first
 locked_season passes before running first books same locks season calendar =
-    let after : SeasonFacts = season_seen (locked_at locks.now before.facts) before.managers before.leagues in
+    let after : SeasonFacts = season_seen (locked_at locks.now before.facts) before.managers before.leagues before.cups in
     let made = passes (running_seen before) locks.now season (subst (λ (f : Facts). IsCalendar f.calendar) locks.facts calendar) in
-    let is : after ≡ books = sym (same ∙ (λ i. season_seen (locks.facts i) (locks.managers i) (locks.leagues i))) in (
+    let is : after ≡ books = sym (same ∙ (λ i. season_seen (locks.facts i) (locks.managers i) (locks.leagues i) (locks.cups i))) in (
       subst IsSeason is made.0,
       subst (λ (f : SeasonFacts). DifferInLocks (running_seen before) f first) is
           (subst (λ n. DifferInLocks (running_seen before) after n) (sym locks.before) made.1),
     )
 
 locks_case : (facts : Option Facts) (managers : List Manager) (leagues : List LeagueFacts) (cups : List Bracket) (running : Option Running) (now first : ℕ)
-    → option_map (λ r. r.facts) running ≡ option_map (locked_at now) facts → option_map_or (λ r. r.managers) running [] ≡ managers → option_map_or (λ r. r.leagues) running [] ≡ leagues
+    → option_map (λ r. r.facts) running ≡ option_map (locked_at now) facts → option_map_or (λ r. r.managers) running [] ≡ managers → option_map_or (λ r. r.leagues) running [] ≡ leagues → option_map_or (λ r. r.cups) running [] ≡ cups
     → first ≡ option_map_or (λ f. f.calendar.locked) facts 0
     → LocksNow (option_map (λ f. record { facts = f; managers = managers; leagues = leagues; cups = cups }) facts) running first
-locks_case None managers leagues cups None now first facts_are managers_are leagues_are is = tt
-locks_case None managers leagues cups (Some r) now first facts_are managers_are leagues_are is = cc
-locks_case (Some f) managers leagues cups None now first facts_are managers_are leagues_are is = cc
-locks_case (Some f) managers leagues cups (Some r) now first facts_are managers_are leagues_are is =
-    record { now = now; facts = same_Some r.facts (locked_at now f) facts_are; managers = managers_are; leagues = leagues_are; before = is }
+locks_case None managers leagues cups None now first facts_are managers_are leagues_are cups_are is = tt
+locks_case None managers leagues cups (Some r) now first facts_are managers_are leagues_are cups_are is = cc
+locks_case (Some f) managers leagues cups None now first facts_are managers_are leagues_are cups_are is = cc
+locks_case (Some f) managers leagues cups (Some r) now first facts_are managers_are leagues_are cups_are is =
+    record { now = now; facts = same_Some r.facts (locked_at now f) facts_are; managers = managers_are; leagues = leagues_are; cups = cups_are; before = is }
 
 -- a host on which a moment passed
 pub locks_host : (before old after : HostRows) (running : Option Running) (now first : ℕ) → old ≡ before → after ≡ host_rows after.operator running after.lasts
@@ -179,7 +180,8 @@ locks_host before old after running now first same runs passes is =
     (locks_case old.facts old.managers old.leagues old.cups running now first
     (sym (ap (λ (h : HostRows). h.facts) runs) ∙ ap (λ (h : HostRows). h.facts) passes)
     (sym (ap (λ (h : HostRows). h.managers) runs) ∙ ap (λ (h : HostRows). h.managers) passes)
-    (sym (ap (λ (h : HostRows). h.leagues) runs) ∙ ap (λ (h : HostRows). h.leagues) passes) is)
+    (sym (ap (λ (h : HostRows). h.leagues) runs) ∙ ap (λ (h : HostRows). h.leagues) passes)
+    (sym (ap (λ (h : HostRows). h.cups) runs) ∙ ap (λ (h : HostRows). h.cups) passes) is)
 
 -- the cells of a host are kept of the season that runs in it
 kept_case : (running : Running) (cells : CellRows) → AreCellsOf (running_seen running) cells → AreKeptBy running cells.cells

@@ -19,7 +19,7 @@ running_in host = option_map (λ facts. record { facts = facts; managers = host.
 
 -- a season that runs, as cells see it
 abbrev pub running_seen : Running → SeasonFacts
-running_seen running = season_seen running.facts running.managers running.leagues
+running_seen running = season_seen running.facts running.managers running.leagues running.cups
 
 -- the cells of a season that runs; none where none does
 abbrev pub AreCellsNow : Option Running → Option CellRows → Type 0
@@ -83,6 +83,7 @@ pub record Locks (old new : Running) (first : ℕ) : Type 0 where
   pub facts : new.facts ≡ locked_at now old.facts
   pub managers : new.managers ≡ old.managers
   pub leagues : new.leagues ≡ old.leagues
+  pub cups : new.cups ≡ old.cups
   pub before : first ≡ old.facts.calendar.locked
 
 abbrev pub LocksNow : Option Running → Option Running → ℕ → Type 0

@@ -69,6 +69,7 @@ fn cells_in<L: Ledger>(
         running.season(),
         running.managers(),
         running.leagues(),
+        running.cups(),
         steps,
     )
 }
@@ -177,6 +178,7 @@ fn follow_in<L: Ledger>(
         running.season(),
         running.managers(),
         running.leagues(),
+        running.cups(),
         steps,
     )
 }
@@ -253,6 +255,7 @@ fn follow_locks_in<L: Ledger>(
         running.season(),
         running.managers(),
         running.leagues(),
+        running.cups(),
         steps,
     )
 }

@@ -1,12 +1,13 @@
 -- The reads of a request behind a moment that locks nothing.
-use Rattle.std.proofs.Common.{◌≡◌, ◌≤◌, ◌+◌, ◌*◌, ℕ, List, Option, subst}
+use Rattle.std.proofs.Common.{◌≡◌, ◌∙◌, ◌≤◌, ◌+◌, ◌*◌, ℕ, List, Option, subst}
 use Rattle.fpl_base.specs.declared.kinds.Caller.{Caller}
 use Rattle.season_book.specs.Book.{Book}
 use Rattle.season_book.specs.declared.request.Request.{Request}
 use Rattle.season_book.specs.declared.request.Request.TheVariants as request
 use Rattle.season_host.specs.Cells.{IsCheapCommand, IsCheapNow, lines_in, running_in}
 use Rattle.season_running.specs.Standing.{HostRows, Running}
-use Rattle.season_keeping.specs.Answering.{CountsFew, IsCheapRequest, MayRest, WouldAct}
+use Rattle.season_keeping.specs.Answering.{CountsFew, IsCheapRequest, LeavesAll, MayRest, WouldAct}
+use Rattle.season_keeping.specs.Housed.{Housed}
 
 -- a request that was cheap in the season that runs behind the moment was cheap in the one before, which is the same
 pub cheap_from : (first before after : HostRows) (asked : Request) (start old new : ℕ) → running_in before ≡ running_in first → old ≡ start
@@ -24,3 +25,9 @@ few_from (request.View view) start old new still few = tt
 pub acts_never_rest : {X : Type 0} (operator : List ℕ) (book : Book) (caller : Caller) (now : ℕ) (asked : Request)
     → WouldAct operator book caller now asked → MayRest operator book caller now asked → X
 acts_never_rest operator book caller now asked act rest = absurd (act rest.0 rest.1 rest.2)
+
+-- a view that left all as it was behind the moment left all as it was before it
+pub leaves_from : (K : Type 0) (asked : Request) (first before after : K) (old mid new : Housed) → mid ≡ old → before ≡ first
+    → LeavesAll asked before after mid new → LeavesAll asked first after old new
+leaves_from K (request.Command number command) first before after old mid new host keeper leaves = tt
+leaves_from K (request.View view) first before after old mid new host keeper leaves = (leaves.0 ∙ host, leaves.1 ∙ keeper)

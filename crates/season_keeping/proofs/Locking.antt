@@ -9,6 +9,7 @@ use Rattle.fpl_base.specs.declared.outside.KeeperFault.{KeeperFault}
 use Rattle.rule_book.specs.Calendar.{after_pass}
 use Rattle.season_book.specs.Book.{Book, Facts}
 use Rattle.season_book.specs.Verdict.{locked_at, pass}
+use Rattle.season_cells.specs.Kept.{CellRows}
 use Rattle.season_host.specs.Accepted.{locks_more}
 use Rattle.season_host.specs.Cells.{running_in}
 use Rattle.season_items.specs.Staying.{LockedItemsStay, LooksTellItems}
@@ -52,6 +53,21 @@ facts_stay none o now is =
 pub running_stays : NoLockLeavesBook → (rows : HostRows) (now : ℕ) → locks_more rows.facts now ≡ false → running_in (passed now rows) ≡ running_in rows
 running_stays none rows now is =
     ap (λ (o : Option Facts). option_map (λ facts. record { facts = facts; managers = rows.managers; leagues = rows.leagues; cups = rows.cups }) o) (facts_stay none rows.facts now is)
+
+-- and so does the host
+rows_stay : NoLockLeavesBook → (rows : HostRows) (now : ℕ) → locks_more rows.facts now ≡ false → passed now rows ≡ rows
+rows_stay none rows now is = ap (λ (o : Option Facts). record rows { facts = o }) (facts_stay none rows.facts now is)
+
+-- a host with these rows and cells in place of its own
+abbrev holding : Housed → HostRows → Option CellRows → Housed
+holding host rows cells = record { rows = rows; cells = cells; stale = host.stale; reread = host.reread }
+
+pub host_stays : NoLockLeavesBook → (inside old : Housed) (rows : HostRows) (cells : Option CellRows) (now : ℕ) → inside ≡ old → rows ≡ passed now inside.rows
+    → cells ≡ inside.cells → locks_more old.rows.facts now ≡ false → holding inside rows cells ≡ old
+host_stays none inside old rows cells now view leads same is =
+    ap (λ (r : HostRows). holding inside r cells) (leads ∙ rows_stay none inside.rows now (ap (λ (h : Housed). locks_more h.rows.facts now) view ∙ is))
+    ∙ ap (holding inside inside.rows) same
+    ∙ view
 
 abbrev locked_count : Option Facts → ℕ
 locked_count o = option_map_or (λ f. f.calendar.locked) o 0

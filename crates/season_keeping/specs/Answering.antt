@@ -42,6 +42,11 @@ pub record LeadsOn {K : Type 0} (tells serves : K → Type 0) (holds passes : K 
   pub by_rows : (left : Book) × StandsOn tells holds passes before after old new book left × leads left
   pub by_records : tells after → serves after → Backs holds passes before old book → (left : Book) × Backs holds passes after new left × leads left
 
+-- a view leaves the host and its keeper as they were; nothing is said of a command
+abbrev pub LeavesAll : {K : Type 0} → Request → K → K → Housed → Housed → Type 0
+LeavesAll (request_of.View view) before after old new = (new ≡ old) × (after ≡ before)
+LeavesAll (request_of.Command number command) before after old new = ⊤
+
 -- of each book that the host stood for
 abbrev pub Answers : {K : Type 0} → (K → Type 0) → (K → Type 0) → (K → Map → Type 0) → (K → Map → Type 0) → K → K → Housed → Housed → (Book → Book → Type 0) → Type 0
 Answers tells serves holds passes before after old new leads =

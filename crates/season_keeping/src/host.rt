@@ -14,7 +14,7 @@ ghost use Rattle.season_running.specs.Standing.{StandsIn, keys_in, number_at, pa
 ghost use Rattle.season_opening.specs.declared.loading.OpenFault.TheVariants as fault;
 ghost use Rattle.season_host.specs.Accepted.{locks_more};
 ghost use Rattle.season_host.specs.Cells.{AreCellsOfHost, AreCorrected, IsCheapCommand, running_in};
-ghost use Rattle.season_keeping.specs.Answering.{Answers, Commits, CountsFew, EndsCommit, IsCaused, IsCheapRequest, MayEnd, MayRest, ReadsFew, StopsEnding, StopsLeave, StopsCommit, WouldAct, WouldChange, answer_of_fault};
+ghost use Rattle.season_keeping.specs.Answering.{Answers, Commits, CountsFew, EndsCommit, IsCaused, IsCheapRequest, LeavesAll, MayEnd, MayRest, ReadsFew, StopsEnding, StopsLeave, StopsCommit, WouldAct, WouldChange, answer_of_fault};
 ghost use Rattle.season_keeping.specs.Housed.{Backs};
 ghost use Rattle.season_keeping.specs.Opening.{Opens, Withholds};
 
@@ -105,6 +105,7 @@ impl Host {
         steps: &mut Steps<L>,
     ) -> Result<(), OpenFault>
         ensures fresh { self.old.stale ≡ false → IsOk result × (self.new ≡ self.old) × (keeper.new ≡ keeper.old) }
+        ensures still { self.old.stale ≡ false → steps.new ≡ steps.old }
         ensures reread { self.old.stale ≡ true → self.new.reread ≡ true }
         ensures operator { self.new.rows.operator ≡ self.old.rows.operator }
         ensures ok { OnOk result (self.new.stale ≡ false) }
@@ -187,6 +188,7 @@ impl Host {
         ensures late { self.new.stale ≡ false → (book : Book) → StandsIn self.old.rows book → IsOutLate self.old.rows.operator (pass book now) caller now request.now result }
         ensures granted { locks_more self.old.rows.facts now ≡ false → (book : Book) → StandsIn self.old.rows book → IsOutLate self.old.rows.operator (pass book now) caller now request.now result }
         ensures views { locks_more self.old.rows.facts now ≡ false → (book : Book) → StandsIn self.old.rows book → ReadsFew (pass book now) caller request.now steps.old steps.new }
+        ensures looks { locks_more self.old.rows.facts now ≡ false → LeavesAll request.now keeper.old keeper.new self.old self.new }
         ensures changes { result ≡ answer_of.Keeper → (book : Book) → StandsIn self.old.rows book → WouldChange self.old.rows.operator book caller now request.now }
         ensures stale { self.new.stale ≡ true → (result ≡ answer_of.Memory) ⊎ (result ≡ answer_of.Keeper) }
         ensures keeper { result ≡ answer_of.Keeper → self.new.stale ≡ true }
@@ -221,6 +223,7 @@ impl Host {
         ensures rows { self.new.rows ≡ passed now self.old.rows }
         ensures unlocked { locks_more self.old.rows.facts now ≡ false → (self.new.cells ≡ self.old.cells) × (running_in self.new.rows ≡ running_in self.old.rows) }
         ensures still { locks_more self.old.rows.facts now ≡ false → steps.new ≡ steps.old }
+        ensures rests { locks_more self.old.rows.facts now ≡ false → (self.new ≡ self.old) × (keeper.new ≡ keeper.old) }
         ensures reread { self.new.reread ≡ self.old.reread }
         ensures ok { OnOk result (self.new.stale ≡ false) }
         ensures err { OnErr result (self.new.stale ≡ true) }
@@ -290,6 +293,7 @@ impl Host {
             (λ book left. MayEnd self.old.rows.operator (record { before = K.faults keeper.old; behind = K.faults keeper.new }) book caller now request.now result left) }
         ensures late { (book : Book) → StandsIn self.old.rows book → IsOutLate self.old.rows.operator book caller now request.now result }
         ensures views { (book : Book) → StandsIn self.old.rows book → ReadsFew book caller request.now steps.old steps.new }
+        ensures looks { LeavesAll request.now keeper.old keeper.new self.old self.new }
         ensures acts { result ≡ answer_of.Keeper → (book : Book) → StandsIn self.old.rows book → WouldAct self.old.rows.operator book caller now request.now }
         ensures stale { self.new.stale ≡ true → (result ≡ answer_of.Memory) ⊎ (result ≡ answer_of.Keeper) }
         ensures keeper { result ≡ answer_of.Keeper → self.new.stale ≡ true }

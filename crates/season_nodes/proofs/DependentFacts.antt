@@ -1,7 +1,8 @@
 -- Dependents are the converse of inputs.
-use Rattle.std.proofs.Common.{◌≡◌, ℕ, zero, suc, ◌<◌, ◌≤◌, ◌==◌, Bool, true, false, ◌&&◌, nat_le, if◌then◌else◌, cond, ◌⊎◌, inl, inr, ⊎_elim, List, [], ◌∷◌, ◌-◌, Option, Some, None, is_some, length, get_or, refl, sym, ◌∙◌, ap, ap₂, subst, arith}
+use Rattle.std.proofs.Common.{◌≡◌, ℕ, zero, suc, ◌+◌, ◌*◌, ◌/◌, ◌<◌, ◌≤◌, ◌==◌, Bool, true, false, ◌&&◌, nat_le, if◌then◌else◌, cond, ◌⊎◌, inl, inr, ⊎_elim, List, [], ◌∷◌, ◌-◌, Option, Some, None, is_some, length, get_or, refl, sym, ◌∙◌, ap, ap₂, subst, arith}
 use Rattle.std.specs.List.{filter, find, flat_map, range_with_len, slice_index, AllPairs}
 use Rattle.std.specs.Option.{option_and_then, option_map_or}
+use Rattle.std.proofs.lemmas.Bool.{cases_lt}
 use Rattle.std.proofs.lemmas.Bool.Decides.{leb_tells, nat_tests}
 use Rattle.std.proofs.lemmas.Option.{same_Some}
 use Rattle.rule_book.specs.declared.season.Fixture.{Fixture}
@@ -14,15 +15,17 @@ use Rattle.rule_book.specs.declared.pairing.Opponent.TheVariants.{Place, Average
 use Rattle.rescore_graph.specs.Graph.{Among, IsDependents}
 use Rattle.season_nodes.specs.declared.nodes.Node.{Node}
 use Rattle.season_nodes.specs.declared.nodes.Node.TheVariants as node
-use Rattle.season_nodes.specs.Dependents.{average_dependents, average_if, counting, is_average, line_dependents, bonus_dependents, gameweek_dependents, match_dependents, opponent_dependents, place_in, round_dependents, team_dependents, total_dependents, dependents_of}
+use Rattle.season_nodes.specs.Dependents.{average_dependents, average_if, counting, cup_dependents, reached, table_dependents, tie_dependents, is_average, line_dependents, bonus_dependents, gameweek_dependents, match_dependents, opponent_dependents, place_in, round_dependents, team_dependents, total_dependents, dependents_of}
+use Rattle.season_nodes.specs.Brackets.{is_in, part_of, ties_after}
 use Rattle.season_nodes.specs.IndexFacts.{IsIndex}
 use Rattle.season_nodes.specs.NodeOrder.{kind_of, first_of, second_of, third_of}
 use Rattle.season_nodes.specs.Places.{at_place, has_place, order_differs, order_mine, own_place, placed_among}
 use Rattle.season_nodes.specs.Reading.{among_either, among_left, among_right, from_any, from_range, to_range, from_filter, to_any, to_filter, from_map, to_map, from_flat, to_flat}
 use Rattle.season_nodes.specs.RoundLaws.{lower_both, lower_own, lower_whose, met_place}
 use Rattle.season_nodes.specs.Rounds.{has_average, order_in, place_met, start_in}
-use Rattle.season_nodes.specs.Season.{SeasonFacts, counted_gameweeks, fielded_in, fifteen_of, has_begun, has_line, is_there, players_of, fixtures_of, has_round, is_live, lower_in, match_node, met_in, opponent_in, inputs_of, season_graph, starts_of, IsSeason}
-use Rattle.season_nodes.specs.SeasonLaws.{begun_later, both_true, first_true, from_average, from_counted, from_match, from_row, listed_has, has_listed, has_some, match_alive, match_lives, own_match_lives, second_true, to_average, to_counted, to_match_average, to_match_met, to_match_own, to_row, total_alive, total_lives}
+use Rattle.season_nodes.specs.TieLaws.{cup_within, in_slots, slots_in}
+use Rattle.season_nodes.specs.Season.{SeasonFacts, bracket_of, entrant_inputs, round_of, ties_before, counted_gameweeks, fielded_in, fifteen_of, has_begun, has_line, is_there, players_of, fixtures_of, has_round, is_live, lower_in, match_node, met_in, opponent_in, inputs_of, season_graph, starts_of, IsSeason}
+use Rattle.season_nodes.specs.SeasonLaws.{from_tie, tie_alive, tie_lives, to_tie, begun_later, both_true, first_true, from_average, from_counted, from_match, from_row, listed_has, has_listed, has_some, match_alive, match_lives, own_match_lives, second_true, to_average, to_counted, to_match_average, to_match_met, to_match_own, to_row, total_alive, total_lives}
 
 -- the place of an element
 place_among : {X : Type 0} (xs : List X) (x : X) → Among xs x → (i : ℕ) × ((i < length xs) × ((d : X) → get_or xs i d ≡ x))
@@ -160,6 +163,11 @@ module _ (b : SeasonFacts) (is : IsSeason b) where
   no_row_input : (l e : ℕ) (m : Node) → (6 ≡ kind_of m → ⊥) → Among (inputs_of b (node.HeadRow l e)) m → ⊥
   no_row_input l e m other a = other (ap kind_of (from_row b l e m a).1.1.2)
 
+  -- those of a tie are ties, or gameweeks of entries
+  no_tie_input : (c r i : ℕ) (m : Node) → (8 ≡ kind_of m → ⊥) → (3 ≡ kind_of m → ⊥) → Among (inputs_of b (node.Tie c r i)) m → ⊥
+  no_tie_input c r i m other others a =
+      ⊎_elim (λ x. ⊎_elim (λ e. other (ap kind_of e)) (λ e. other (ap kind_of e)) x.1.1) (λ x. others (ap kind_of x.1.2)) (from_tie b c r i m a)
+
   line_there : (f p : ℕ) (m : Node) → has_line b p f ≡ true → Among (line_dependents b f p) m → (is_live b m ≡ true) × Among (inputs_of b m) (node.Line f p)
   line_there f p m h (inl e) = subst (λ q. (is_live b q ≡ true) × Among (inputs_of b q) (node.Line f p)) e
       (has_some (lines_of b.matches f) p h, to_map (node.Line f) (players_of b f) p (has_listed (lines_of b.matches f) p h))
@@ -183,6 +191,7 @@ module _ (b : SeasonFacts) (is : IsSeason b) where
   line_back f p (node.Average k h) a = absurd (no_average_input k h (node.Line f p) (back_kind 3 0 (omega arith)) a.1)
   line_back f p (node.Match k h i) a = absurd (no_match_input k h i (node.Line f p) (back_kind 3 0 (omega arith)) (back_kind 5 0 (omega arith)) a.1)
   line_back f p (node.HeadRow k q) a = absurd (no_row_input k q (node.Line f p) (back_kind 6 0 (omega arith)) a.1)
+  line_back f p (node.Tie k h j) a = absurd (no_tie_input k h j (node.Line f p) (back_kind 8 0 (omega arith)) (back_kind 3 0 (omega arith)) a.1)
 
   bonus_there : (f : ℕ) (m : Node) → Among (bonus_dependents b f) m → (is_live b m ≡ true) × Among (inputs_of b m) (node.Bonus f)
   bonus_there f m a =
@@ -211,6 +220,7 @@ module _ (b : SeasonFacts) (is : IsSeason b) where
   bonus_back f (node.Average k h) a = absurd (no_average_input k h (node.Bonus f) (back_kind 3 1 (omega arith)) a.1)
   bonus_back f (node.Match k h i) a = absurd (no_match_input k h i (node.Bonus f) (back_kind 3 1 (omega arith)) (back_kind 5 1 (omega arith)) a.1)
   bonus_back f (node.HeadRow k q) a = absurd (no_row_input k q (node.Bonus f) (back_kind 6 1 (omega arith)) a.1)
+  bonus_back f (node.Tie k h j) a = absurd (no_tie_input k h j (node.Bonus f) (back_kind 8 1 (omega arith)) (back_kind 3 1 (omega arith)) a.1)
 
   -- an entry's gameweek is an input of its totals
   total_there : (e g : ℕ) (m : Node) → is_live b (node.TeamGw e g) ≡ true → Among (total_dependents b e g) m → (is_live b m ≡ true) × Among (inputs_of b m) (node.TeamGw e g)
@@ -289,14 +299,14 @@ module _ (b : SeasonFacts) (is : IsSeason b) where
           r.1.2
 
   -- and of what its leagues have of it
-  team_there : (e g : ℕ) (m : Node) → is_live b (node.TeamGw e g) ≡ true → Among (team_dependents b e g) m → (is_live b m ≡ true) × Among (inputs_of b m) (node.TeamGw e g)
-  team_there e g m l a =
+  table_there : (e g : ℕ) (m : Node) → is_live b (node.TeamGw e g) ≡ true → Among (table_dependents b e g) m → (is_live b m ≡ true) × Among (inputs_of b m) (node.TeamGw e g)
+  table_there e g m l a =
       ⊎_elim (total_there e g m l)
       (λ x. let r = from_flat (round_dependents b e g) (leagues_of b.leagues e) m x in round_there e g r.0 m l r.1.1)
       (among_either (total_dependents b e g) (flat_map (round_dependents b e g) (leagues_of b.leagues e)) m a)
 
   -- what a league has of an entry in its order is told
-  round_listed : (e g l i : ℕ) (m : Node) → has_round b l g ≡ true → place_of (order_in b.leagues l) e ≡ Some i → Among (match_node b l i g ∷ average_if b l g) m → Among (team_dependents b e g) m
+  round_listed : (e g l i : ℕ) (m : Node) → has_round b l g ≡ true → place_of (order_in b.leagues l) e ≡ Some i → Among (match_node b l i g ∷ average_if b l g) m → Among (table_dependents b e g) m
   round_listed e g l i m round place a =
       among_right (total_dependents b e g) (flat_map (round_dependents b e g) (leagues_of b.leagues e)) m
       (to_flat (round_dependents b e g) (leagues_of b.leagues e) l m
@@ -304,40 +314,40 @@ module _ (b : SeasonFacts) (is : IsSeason b) where
 
   -- so for the one at a place of the order
   place_listed : (e g l h j : ℕ) (m : Node) → node.TeamGw (slice_index (order_in b.leagues l) j) h ≡ node.TeamGw e g → has_round b l h ≡ true → j < length (order_in b.leagues l)
-      → match_node b l j h ≡ m → Among (team_dependents b e g) m
+      → match_node b l j h ≡ m → Among (table_dependents b e g) m
   place_listed e g l h j m same round within names =
-      subst (λ x. Among (team_dependents b x g) m) (ap first_of same)
-      (subst (λ y. Among (team_dependents b (slice_index (order_in b.leagues l) j) y) m) (ap second_of same)
+      subst (λ x. Among (table_dependents b x g) m) (ap first_of same)
+      (subst (λ y. Among (table_dependents b (slice_index (order_in b.leagues l) j) y) m) (ap second_of same)
       (round_listed (slice_index (order_in b.leagues l) j) h l j m round (own_place (order_in b.leagues l) (order_differs b is l) j within) (inl names)))
 
-  team_back : (e g : ℕ) (m : Node) → (is_live b m ≡ true) × Among (inputs_of b m) (node.TeamGw e g) → Among (team_dependents b e g) m
-  team_back e g (node.Line k q) a = absurd a.1
-  team_back e g (node.Bonus k) a = let r = from_map (node.Line k) (players_of b k) (node.TeamGw e g) a.1 in absurd (other_kind 0 3 (omega arith) (ap kind_of r.1.1))
-  team_back e g (node.PlayerGw q h) a =
+  table_back : (e g : ℕ) (m : Node) → (is_live b m ≡ true) × Among (inputs_of b m) (node.TeamGw e g) → (8 ≡ kind_of m → ⊥) → Among (table_dependents b e g) m
+  table_back e g (node.Line k q) a other = absurd a.1
+  table_back e g (node.Bonus k) a other = let r = from_map (node.Line k) (players_of b k) (node.TeamGw e g) a.1 in absurd (other_kind 0 3 (omega arith) (ap kind_of r.1.1))
+  table_back e g (node.PlayerGw q h) a other =
       let r = from_flat (λ k. node.Line k q ∷ node.Bonus k ∷ []) (fixtures_of b q h) (node.TeamGw e g) a.1 in
       absurd (⊎_elim (λ i. other_kind 0 3 (omega arith) (ap kind_of i)) (⊎_elim (λ i. other_kind 1 3 (omega arith) (ap kind_of i)) (λ x. x)) r.1.1)
-  team_back e g (node.TeamGw k h) a = let r = from_map (λ q. node.PlayerGw q h) (fielded_in b k h) (node.TeamGw e g) a.1 in absurd (other_kind 2 3 (omega arith) (ap kind_of r.1.1))
-  team_back e g (node.Total k s) a =
+  table_back e g (node.TeamGw k h) a other = let r = from_map (λ q. node.PlayerGw q h) (fielded_in b k h) (node.TeamGw e g) a.1 in absurd (other_kind 2 3 (omega arith) (ap kind_of r.1.1))
+  table_back e g (node.Total k s) a other =
       let r = from_map (node.TeamGw k) (counted_gameweeks b k s) (node.TeamGw e g) a.1 in
       let c = from_counted b k s r.0 r.1.0 in
       let alive = total_alive b k s a.0 in
       let test : ℕ → Bool = λ n. nat_le 1 n && nat_le n r.0 in
-      subst (λ x. Among (team_dependents b x g) (node.Total k s)) (ap first_of r.1.1)
-      (subst (λ y. Among (team_dependents b k y) (node.Total k s)) (ap second_of r.1.1)
+      subst (λ x. Among (table_dependents b x g) (node.Total k s)) (ap first_of r.1.1)
+      (subst (λ y. Among (table_dependents b k y) (node.Total k s)) (ap second_of r.1.1)
       (among_left (total_dependents b k r.0) (flat_map (round_dependents b k r.0) (leagues_of b.leagues k)) (node.Total k s)
       (to_map (node.Total k) (filter test (starts_of b k)) s
       (to_filter test (starts_of b k) s (from_any s (starts_of b k) alive.1) (both_true (nat_le 1 s) (nat_le s r.0) (within 1 s alive.2) (within s r.0 c.0))))))
-  team_back e g (node.Average k h) a =
+  table_back e g (node.Average k h) a other =
       let r = from_average b k h (node.TeamGw e g) a.1 in
       let order = order_in b.leagues k in
       let place = has_place order r.0 r.1.0 in
       let round = first_true (has_round b k h) (has_average (length order)) a.0 in
       let plays = second_true (has_round b k h) (has_average (length order)) a.0 in
-      subst (λ x. Among (team_dependents b x g) (node.Average k h)) (ap first_of r.1.2)
-      (subst (λ y. Among (team_dependents b r.0 y) (node.Average k h)) (ap second_of r.1.2)
+      subst (λ x. Among (table_dependents b x g) (node.Average k h)) (ap first_of r.1.2)
+      (subst (λ y. Among (table_dependents b r.0 y) (node.Average k h)) (ap second_of r.1.2)
       (round_listed r.0 h k place.0 (node.Average k h) round place.1
       (inr (subst (λ t. Among (if t then node.Average k h ∷ [] else []) (node.Average k h)) (sym plays) (inl refl)))))
-  team_back e g (node.Match k h i) a =
+  table_back e g (node.Match k h i) a other =
       let alive = match_alive b k h i a.0 in
       let n = length (order_in b.leagues k) in
       let round = h - start_in b.leagues k in
@@ -348,7 +358,85 @@ module _ (b : SeasonFacts) (is : IsSeason b) where
       (ap (node.Match k h) (lower_both n round i met.0 alive.1 met.1.0 ∙ own)))
       (λ average. absurd (back_kind 5 3 (omega arith) (ap kind_of average.1))))
       (from_match b k h i (node.TeamGw e g) a.1)
-  team_back e g (node.HeadRow k q) a = absurd (no_row_input k q (node.TeamGw e g) (back_kind 6 3 (omega arith)) a.1)
+  table_back e g (node.HeadRow k q) a other = absurd (no_row_input k q (node.TeamGw e g) (back_kind 6 3 (omega arith)) a.1)
+  table_back e g (node.Tie k h i) a other = absurd (other refl)
+
+  -- the ties of a round that an entry can reach
+  from_reached : (e c r : ℕ) (m : Node) → Among (reached b e c r) m → (i : ℕ) × ((i < ties_after (bracket_of b c) r) × Among (part_of (bracket_of b c) r i) e × (node.Tie c r i ≡ m))
+  from_reached e c r m a =
+      let n = ties_after (bracket_of b c) r in
+      let test : ℕ → Bool = λ i. is_in (part_of (bracket_of b c) r i) e in
+      let x = from_map (node.Tie c r) (filter test (range_with_len 0 n)) m a in
+      let f = from_filter test (range_with_len 0 n) x.0 x.1.0 in
+      let k = from_range 0 n x.0 f.0 in
+      (x.0, (omega (arith, k.1), in_slots (part_of (bracket_of b c) r x.0) e f.1, x.1.1))
+
+  to_reached : (e c r i : ℕ) → i < ties_after (bracket_of b c) r → Among (part_of (bracket_of b c) r i) e → Among (reached b e c r) (node.Tie c r i)
+  to_reached e c r i low a =
+      let n = ties_after (bracket_of b c) r in
+      let test : ℕ → Bool = λ i. is_in (part_of (bracket_of b c) r i) e in
+      to_map (node.Tie c r) (filter test (range_with_len 0 n)) i
+      (to_filter test (range_with_len 0 n) i (to_range 0 n i (omega arith) (omega (arith, low))) (slots_in (part_of (bracket_of b c) r i) e a))
+
+  cup_case : (e g c : ℕ) (m : Node) (t : Bool) → nat_le (bracket_of b c).start g ≡ t → Among (if t then reached b e c (g - (bracket_of b c).start) else []) m
+      → ((bracket_of b c).start ≤ g) × Among (reached b e c (g - (bracket_of b c).start)) m
+  cup_case e g c m true is a = (at_most (bracket_of b c).start g is, a)
+  cup_case e g c m false is a = absurd a
+
+  -- an entry's gameweek is an input of the ties of its round that the entry can reach
+  cup_there : (e g c : ℕ) (m : Node) → is_live b (node.TeamGw e g) ≡ true → Among (cup_dependents b e g c) m → (is_live b m ≡ true) × Among (inputs_of b m) (node.TeamGw e g)
+  cup_there e g c m l a =
+      let start = (bracket_of b c).start in
+      let r = g - start in
+      let x = cup_case e g c m (nat_le start g) refl a in
+      let y = from_reached e c r m x.1 in
+      let round : round_of b c r ≡ g = omega (arith, x.0) in
+      let top = at_most g b.calendar.locked (second_true (nat_le 1 g) (nat_le g b.calendar.locked) (second_true (has_begun b e g) (nat_le 1 g && nat_le g b.calendar.locked) l)) in
+      let alive : is_live b (node.TeamGw e (round_of b c r)) ≡ true = subst (λ h. is_live b (node.TeamGw e h) ≡ true) (sym round) l in
+      subst (λ q. (is_live b q ≡ true) × Among (inputs_of b q) (node.TeamGw e g)) y.1.2 (
+        tie_lives b c r y.0 (subst (λ h. h ≤ b.calendar.locked) (sym round) top) y.1.0,
+        subst (λ h. Among (inputs_of b (node.Tie c r y.0)) (node.TeamGw e h)) round (to_tie b c r y.0 e y.1.1 alive),
+      )
+
+  -- and of what its leagues and its cups have of it
+  team_there : (e g : ℕ) (m : Node) → is_live b (node.TeamGw e g) ≡ true → Among (team_dependents b e g) m → (is_live b m ≡ true) × Among (inputs_of b m) (node.TeamGw e g)
+  team_there e g m l a =
+      ⊎_elim (table_there e g m l)
+      (λ x. let r = from_flat (cup_dependents b e g) (range_with_len 1 (length b.cups)) m x in cup_there e g r.0 m l r.1.1)
+      (among_either (table_dependents b e g) (flat_map (cup_dependents b e g) (range_with_len 1 (length b.cups))) m a)
+
+  in_table : (e g : ℕ) (m : Node) → Among (table_dependents b e g) m → Among (team_dependents b e g) m
+  in_table e g m a = among_left (table_dependents b e g) (flat_map (cup_dependents b e g) (range_with_len 1 (length b.cups))) m a
+
+  in_cups : (e c r i : ℕ) → i < ties_after (bracket_of b c) r → Among (part_of (bracket_of b c) r i) e → Among (team_dependents b e (round_of b c r)) (node.Tie c r i)
+  in_cups e c r i low a =
+      let start = (bracket_of b c).start in
+      let g = round_of b c r in
+      let there = cup_within b.cups c r i low in
+      let up : start ≤ g = omega arith in
+      let same : r ≡ g - start = omega arith in
+      among_right (table_dependents b e g) (flat_map (cup_dependents b e g) (range_with_len 1 (length b.cups))) (node.Tie c r i)
+      (to_flat (cup_dependents b e g) (range_with_len 1 (length b.cups)) c (node.Tie c r i)
+      (to_range 1 (length b.cups) c there.0 (omega (arith, there.1)))
+      (subst (λ t. Among (if t then reached b e c (g - start) else []) (node.Tie c r i)) (sym (within start g up))
+      (subst (λ k. Among (reached b e c k) (node.Tie c r i)) same (to_reached e c r i low a))))
+
+  team_back : (e g : ℕ) (m : Node) → (is_live b m ≡ true) × Among (inputs_of b m) (node.TeamGw e g) → Among (team_dependents b e g) m
+  team_back e g (node.Line k q) a = in_table e g (node.Line k q) (table_back e g (node.Line k q) a (back_kind 8 0 (omega arith)))
+  team_back e g (node.Bonus k) a = in_table e g (node.Bonus k) (table_back e g (node.Bonus k) a (back_kind 8 1 (omega arith)))
+  team_back e g (node.PlayerGw q h) a = in_table e g (node.PlayerGw q h) (table_back e g (node.PlayerGw q h) a (back_kind 8 2 (omega arith)))
+  team_back e g (node.TeamGw k h) a = in_table e g (node.TeamGw k h) (table_back e g (node.TeamGw k h) a (back_kind 8 3 (omega arith)))
+  team_back e g (node.Total k s) a = in_table e g (node.Total k s) (table_back e g (node.Total k s) a (back_kind 8 4 (omega arith)))
+  team_back e g (node.Average k h) a = in_table e g (node.Average k h) (table_back e g (node.Average k h) a (back_kind 8 5 (omega arith)))
+  team_back e g (node.Match k h i) a = in_table e g (node.Match k h i) (table_back e g (node.Match k h i) a (back_kind 8 6 (omega arith)))
+  team_back e g (node.HeadRow k q) a = in_table e g (node.HeadRow k q) (table_back e g (node.HeadRow k q) a (back_kind 8 7 (omega arith)))
+  team_back e g (node.Tie c r i) a =
+      let alive = tie_alive b c r i a.0 in
+      ⊎_elim
+      (λ x. absurd (⊎_elim (λ e. back_kind 8 3 (omega arith) (ap kind_of e)) (λ e. back_kind 8 3 (omega arith) (ap kind_of e)) x.1.1))
+      (λ x. subst (λ k. Among (team_dependents b k g) (node.Tie c r i)) (ap first_of x.1.2)
+      (subst (λ h. Among (team_dependents b x.0 h) (node.Tie c r i)) (ap second_of x.1.2) (in_cups x.0 c r i alive.1 x.1.0)))
+      (from_tie b c r i (node.TeamGw e g) a.1)
 
   average_is : (o : Opponent) → is_average o ≡ true → o ≡ Average
   average_is (Place j) e = absurd (cc)
@@ -390,6 +478,7 @@ module _ (b : SeasonFacts) (is : IsSeason b) where
       (to_filter test (range_with_len 0 n) i (to_range 0 n i (omega arith) (omega (arith, alive.1))) (ap is_average average.0))))))
       (from_match b k h i (node.Average l g) a.1)
   average_back l g (node.HeadRow k q) a = absurd (no_row_input k q (node.Average l g) (back_kind 6 5 (omega arith)) a.1)
+  average_back l g (node.Tie k h j) a = absurd (no_tie_input k h j (node.Average l g) (back_kind 8 5 (omega arith)) (other_kind 3 5 (omega arith)) a.1)
 
   -- the row of who stands at a place has the match of that place
   row_there : (l g i j : ℕ) (m : Node) → has_round b l g ≡ true → j < length (order_in b.leagues l) → match_node b l j g ≡ node.Match l g i
@@ -447,6 +536,7 @@ module _ (b : SeasonFacts) (is : IsSeason b) where
       subst (λ x. Among (match_dependents b x g i) (node.HeadRow k e)) league
       (subst (λ y. Among (match_dependents b k y i) (node.HeadRow k e)) gameweek
       (row_back k r.1.0 i e r.0 r.1.1.0 (r.1.1.2 ∙ ap₂ (λ x y. node.Match x y i) (sym league) (sym gameweek))))
+  match_back l g i (node.Tie k h j) a = absurd (no_tie_input k h j (node.Match l g i) (back_kind 8 6 (omega arith)) (other_kind 3 6 (omega arith)) a.1)
 
   -- a row is no input
   last_back : (l e : ℕ) (m : Node) → Among (inputs_of b m) (node.HeadRow l e) → ⊥
@@ -460,6 +550,7 @@ module _ (b : SeasonFacts) (is : IsSeason b) where
   last_back l e (node.Average k h) a = no_average_input k h (node.HeadRow l e) (other_kind 3 7 (omega arith)) a
   last_back l e (node.Match k h i) a = no_match_input k h i (node.HeadRow l e) (other_kind 3 7 (omega arith)) (other_kind 5 7 (omega arith)) a
   last_back l e (node.HeadRow k q) a = no_row_input k q (node.HeadRow l e) (other_kind 6 7 (omega arith)) a
+  last_back l e (node.Tie k h j) a = no_tie_input k h j (node.HeadRow l e) (back_kind 8 7 (omega arith)) (other_kind 3 7 (omega arith)) a
 
   -- a total is no input
   total_back : (e s : ℕ) (m : Node) → Among (inputs_of b m) (node.Total e s) → ⊥
@@ -473,6 +564,55 @@ module _ (b : SeasonFacts) (is : IsSeason b) where
   total_back e s (node.Average k h) a = no_average_input k h (node.Total e s) (other_kind 3 4 (omega arith)) a
   total_back e s (node.Match k h i) a = no_match_input k h i (node.Total e s) (other_kind 3 4 (omega arith)) (back_kind 5 4 (omega arith)) a
   total_back e s (node.HeadRow k q) a = no_row_input k q (node.Total e s) (back_kind 6 4 (omega arith)) a
+  total_back e s (node.Tie k h j) a = no_tie_input k h j (node.Total e s) (back_kind 8 4 (omega arith)) (other_kind 3 4 (omega arith)) a
+
+  -- a tie is an input of that of the next round to which it leads
+  next_inputs : (c r i : ℕ) → Among (ties_before b c (suc r) (i / 2)) (node.Tie c r i)
+  next_inputs c r i =
+      elim (cases_lt (2 * (i / 2)) i) [
+        | inl odd ↦ let same : 2 * (i / 2) + 1 ≡ i = omega (arith, odd) in inr (inl (ap (node.Tie c r) same))
+        | inr even ↦ let same : 2 * (i / 2) ≡ i = omega (arith, even) in inl (ap (node.Tie c r) same)
+      ]
+
+  tie_there : (c r i : ℕ) (m : Node) → Among (tie_dependents b c r i) m → (is_live b m ≡ true) × Among (inputs_of b m) (node.Tie c r i)
+  tie_there c r i m a =
+      let next = node.Tie c (suc r) (i / 2) in
+      let x = average_case (is_live b next) next m a in
+      subst (λ q. (is_live b q ≡ true) × Among (inputs_of b q) (node.Tie c r i)) x.1
+      (x.0, among_left (ties_before b c (suc r) (i / 2)) (entrant_inputs b c (suc r) (i / 2)) (node.Tie c r i) (next_inputs c r i))
+
+  tie_next : (c r i j : ℕ) → is_live b (node.Tie c (suc r) j) ≡ true → j ≡ i / 2 → Among (tie_dependents b c r i) (node.Tie c (suc r) j)
+  tie_next c r i j alive half =
+      let next = node.Tie c (suc r) (i / 2) in
+      let lives : is_live b next ≡ true = subst (λ k. is_live b (node.Tie c (suc r) k) ≡ true) half alive in
+      subst (λ t. Among (if t then next ∷ [] else []) (node.Tie c (suc r) j)) (sym lives) (inl (ap (node.Tie c (suc r)) (sym half)))
+
+  -- so where it is the first or the second of those that lead to one
+  tie_is : (c r i k q h j n : ℕ) → is_live b (node.Tie k h j) ≡ true → suc q ≡ h → (n ≡ 2 * j) ⊎ (n ≡ 2 * j + 1) → node.Tie k q n ≡ node.Tie c r i → Among (tie_dependents b c r i) (node.Tie k h j)
+  tie_is c r i k q h j n alive up place same =
+      let number : n ≡ i = ap third_of same in
+      let half : j ≡ i / 2 = ⊎_elim (λ e. let x : n ≡ 2 * j = e in omega (arith, number, x)) (λ e. let x : n ≡ 2 * j + 1 = e in omega (arith, number, x)) place in
+      subst (λ y. Among (tie_dependents b c r i) (node.Tie k y j)) up
+      (subst (λ x. Among (tie_dependents b x r i) (node.Tie k (suc q) j)) (ap first_of same)
+      (subst (λ y. Among (tie_dependents b k y i) (node.Tie k (suc q) j)) (ap second_of same)
+      (tie_next k q i j (subst (λ y. is_live b (node.Tie k y j) ≡ true) (sym up) alive) half)))
+
+  tie_back : (c r i : ℕ) (m : Node) → (is_live b m ≡ true) × Among (inputs_of b m) (node.Tie c r i) → Among (tie_dependents b c r i) m
+  tie_back c r i (node.Line k q) a = absurd a.1
+  tie_back c r i (node.Bonus k) a = let x = from_map (node.Line k) (players_of b k) (node.Tie c r i) a.1 in absurd (other_kind 0 8 (omega arith) (ap kind_of x.1.1))
+  tie_back c r i (node.PlayerGw q h) a =
+      let x = from_flat (λ k. node.Line k q ∷ node.Bonus k ∷ []) (fixtures_of b q h) (node.Tie c r i) a.1 in
+      absurd (⊎_elim (λ e. other_kind 0 8 (omega arith) (ap kind_of e)) (⊎_elim (λ e. other_kind 1 8 (omega arith) (ap kind_of e)) (λ y. y)) x.1.1)
+  tie_back c r i (node.TeamGw k h) a = let x = from_map (λ q. node.PlayerGw q h) (fielded_in b k h) (node.Tie c r i) a.1 in absurd (other_kind 2 8 (omega arith) (ap kind_of x.1.1))
+  tie_back c r i (node.Total k s) a = let x = from_map (node.TeamGw k) (counted_gameweeks b k s) (node.Tie c r i) a.1 in absurd (other_kind 3 8 (omega arith) (ap kind_of x.1.1))
+  tie_back c r i (node.Average k h) a = absurd (no_average_input k h (node.Tie c r i) (other_kind 3 8 (omega arith)) a.1)
+  tie_back c r i (node.Match k h j) a = absurd (no_match_input k h j (node.Tie c r i) (other_kind 3 8 (omega arith)) (other_kind 5 8 (omega arith)) a.1)
+  tie_back c r i (node.HeadRow k e) a = absurd (no_row_input k e (node.Tie c r i) (other_kind 6 8 (omega arith)) a.1)
+  tie_back c r i (node.Tie k h j) a =
+      ⊎_elim
+      (λ x. ⊎_elim (tie_is c r i k x.0 h j (2 * j) a.0 x.1.0 (inl refl)) (tie_is c r i k x.0 h j (2 * j + 1) a.0 x.1.0 (inr refl)) x.1.1)
+      (λ x. absurd (other_kind 3 8 (omega arith) (ap kind_of x.1.2)))
+      (from_tie b k h j (node.Tie c r i) a.1)
 
   module _ (holders : ℕ → ℕ → List ℕ) (index : IsIndex b holders) where
     gameweek_there : (p g : ℕ) (m : Node) → is_live b (node.PlayerGw p g) ≡ true → Among (gameweek_dependents (holders p g) g) m → (is_live b m ≡ true) × Among (inputs_of b m) (node.PlayerGw p g)
@@ -500,6 +640,7 @@ module _ (b : SeasonFacts) (is : IsSeason b) where
     gameweek_back p g (node.Average k h) a = absurd (no_average_input k h (node.PlayerGw p g) (back_kind 3 2 (omega arith)) a.1)
     gameweek_back p g (node.Match k h i) a = absurd (no_match_input k h i (node.PlayerGw p g) (back_kind 3 2 (omega arith)) (back_kind 5 2 (omega arith)) a.1)
     gameweek_back p g (node.HeadRow k q) a = absurd (no_row_input k q (node.PlayerGw p g) (back_kind 6 2 (omega arith)) a.1)
+    gameweek_back p g (node.Tie k h j) a = absurd (no_tie_input k h j (node.PlayerGw p g) (back_kind 8 2 (omega arith)) (back_kind 3 2 (omega arith)) a.1)
 
     -- dependents are the live nodes of which a node is an input
     pub season_dependents : (n : Node) → is_live b n ≡ true → IsDependents (season_graph b) n (dependents_of b holders n)
@@ -511,6 +652,7 @@ module _ (b : SeasonFacts) (is : IsSeason b) where
     season_dependents (node.Average l g) live m = (average_there l g m live, average_back l g m)
     season_dependents (node.Match l g i) live m = (match_there l g i m live, match_back l g i m)
     season_dependents (node.HeadRow l e) live m = ((λ a. absurd a), (λ a. absurd (last_back l e m a.1)))
+    season_dependents (node.Tie c r i) live m = (tie_there c r i m, tie_back c r i m)
 
 -- so of a list that is that of the dependents
 pub dependents_are : (b : SeasonFacts) → IsSeason b → (holders : ℕ → ℕ → List ℕ) → IsIndex b holders → (n k : Node) (ns : List Node) → n ≡ k → ns ≡ dependents_of b holders k → is_live b n ≡ true → IsDependents (season_graph b) n ns

@@ -1,9 +1,10 @@
 -- Who holds a player in a gameweek, after the index changed.
-use Rattle.std.proofs.Common.{◌≡◌, ℕ, nat_cmp, Bool, true, false, cond, ◌⊎◌, inl, inr, ⊎_elim, ◌↔◌, List, [], ◌∷◌, ◌++◌, Option, refl, sym, ap, ◌∙◌, subst}
+use Rattle.std.proofs.Common.{◌≡◌, ℕ, nat_cmp, ◌==◌, ◌&&◌, Bool, true, false, cond, ◌⊎◌, inl, inr, ⊎_elim, ◌↔◌, List, [], ◌∷◌, ◌++◌, Option, Some, refl, sym, ap, ◌∙◌, subst, is_eq, Ordering, Less, Equal, Greater}
 use Rattle.std.specs.BTreeMap.{is_at}
-use Rattle.std.specs.Cmp.{IsTotalOrder, nat_cmp_total, on_total, then_total}
+use Rattle.std.specs.Cmp.{IsTotalOrder, nat_cmp_total, on_total, then_total, unsigned_tied}
 use Rattle.std.specs.Map.{lookup}
 use Rattle.std.specs.Option.{unwrap_or}
+use Rattle.std.specs.Ordering.{ordering_then}
 use Rattle.std.proofs.lemmas.Map.Lookups.{CmpEqualImpliesEq, exact_pairs, exact_unsigned}
 use Rattle.rescore_graph.specs.Graph.{Among}
 use Rattle.rescore_graph.proofs.ProgressFacts.{among_last, among_more, among_push}
@@ -15,9 +16,31 @@ either true w o = refl
 either false w o = refl
 
 -- an update of the map is one of the holders
-pub has_holders : (old new : IndexRows) (p g : ℕ) (w : Option (List ℕ))
+has_holders : (old new : IndexRows) (p g : ℕ) (w : Option (List ℕ))
     → ((k : ℕ × ℕ) → lookup (is_at (pair_cmp k)) new ≡ cond (is_at (pair_cmp (g, p)) k) w (lookup (is_at (pair_cmp k)) old)) → HasHolders old new p g (unwrap_or w [])
 has_holders old new p g w updates q h = ap (λ o. unwrap_or o []) (updates (h, q)) ∙ either (is_at (pair_cmp (g, p)) (h, q)) w (lookup (is_at (pair_cmp (h, q))) old)
+
+-- `==` finds a gameweek and a player where their order does
+abbrev pair_eq : ℕ × ℕ → ℕ × ℕ → Bool
+pair_eq x y = (x.0 == y.0) && (x.1 == y.1)
+
+then_eq : (a b : Ordering) → is_eq (ordering_then a b) ≡ (is_eq a && is_eq b)
+then_eq Less b = refl
+then_eq Equal b = refl
+then_eq Greater b = refl
+
+found_alike : (x y : ℕ × ℕ) → is_at (pair_cmp x) y ≡ pair_eq x y
+found_alike x y = then_eq (nat_cmp x.0 y.0) (nat_cmp x.1 y.1) ∙ (λ i. unsigned_tied x.0 y.0 i && unsigned_tied x.1 y.1 i)
+
+-- an entry more in the row of a player in a gameweek, which begins with it where there is none
+pub held_more : (old before new : IndexRows) (p g e : ℕ) (row : List ℕ) (was : Option (List ℕ)) → before ≡ old → was ≡ lookup (pair_eq (g, p)) old → row ≡ unwrap_or was [] ++ e ∷ []
+    → ((k : ℕ × ℕ) → lookup (pair_eq k) new ≡ cond (pair_eq (g, p) k) (Some row) (lookup (pair_eq k) before)) → HasHolders old new p g (holders_in old p g ++ e ∷ [])
+held_more old before new p g e row was kept read more updates =
+    let same : pair_eq ≡ (λ x y. is_at (pair_cmp x) y) = λ i x y. sym (found_alike x y) i in
+    let holders : row ≡ holders_in old p g ++ e ∷ [] = more ∙ ap (λ o. unwrap_or o [] ++ e ∷ []) (read ∙ ap (λ (f : ℕ × ℕ → ℕ × ℕ → Bool). lookup (f (g, p)) old) same) in
+    subst (HasHolders old new p g) holders (has_holders old new p g (Some row)
+    (subst (λ (f : ℕ × ℕ → ℕ × ℕ → Bool). (k : ℕ × ℕ) → lookup (f k) new ≡ cond (f (g, p) k) (Some row) (lookup (f k) old)) same
+    (λ k. updates k ∙ ap (λ rows. cond (pair_eq (g, p) k) (Some row) (lookup (pair_eq k) rows)) kept)))
 
 abbrev pair : ℕ → ℕ → ℕ × ℕ
 pair g p = (g, p)

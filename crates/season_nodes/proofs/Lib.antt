@@ -1,7 +1,9 @@
 pub mod BookTeams
+pub mod BracketFacts
 pub mod DependentFacts
 pub mod IndexLemmas
 pub mod Lists
 pub mod OrderFacts
 pub mod RisingFacts
 pub mod RowFacts
+pub mod TieFacts

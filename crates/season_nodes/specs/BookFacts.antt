@@ -2,6 +2,7 @@
 use Rattle.std.specs.Prelude.{ℕ, List, [], length, unwrap_or}
 use Rattle.fpl_base.specs.declared.kinds.Chip.TheVariants.{None as NoChip}
 use Rattle.fpl_base.specs.declared.kinds.Profile.{Profile}
+use Rattle.rule_book.specs.declared.cup.Bracket.{Bracket}
 use Rattle.rule_book.specs.declared.player.Player.{Player}
 use Rattle.rule_book.specs.declared.team.Team.{Team}
 use Rattle.rule_book.specs.Calendar.{CalendarFacts}
@@ -21,9 +22,9 @@ no_team = record { picks = []; captain = 0; vice = 0; bank = 0; chip = NoChip }
 abbrev pub team_told : Managers → ℕ → ℕ → Team
 team_told managers e g = unwrap_or (team_at (season_of managers e) g) no_team
 
--- the facts of a profile, a calendar, players, matches, managers and leagues
-abbrev pub facts_with : Profile → CalendarFacts → List Player → MatchFacts → Managers → List LeagueFacts → SeasonFacts
-facts_with profile calendar players matches managers leagues = record {
+-- the facts of a profile, a calendar, players, matches, managers, leagues and cups
+abbrev pub facts_with : Profile → CalendarFacts → List Player → MatchFacts → Managers → List LeagueFacts → List Bracket → SeasonFacts
+facts_with profile calendar players matches managers leagues cups = record {
   profile = profile;
   calendar = calendar;
   players = players;
@@ -33,8 +34,9 @@ facts_with profile calendar players matches managers leagues = record {
   team = team_told managers;
   cost = λ e g. cost_by managers.profile (season_of managers e) g;
   leagues = leagues;
+  cups = cups;
 }
 
 -- the facts of the books
 abbrev pub facts_of : Books → SeasonFacts
-facts_of b = facts_with b.profile b.calendar.now b.players.now b.matches.now b.managers.now b.leagues.now
+facts_of b = facts_with b.profile b.calendar.now b.players.now b.matches.now b.managers.now b.leagues.now b.cups.now

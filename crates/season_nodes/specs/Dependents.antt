@@ -1,5 +1,5 @@
 -- The nodes of which a node is an input, told by the facts.
-use Rattle.std.specs.Prelude.{ℕ, Bool, true, false, ◌&&◌, nat_le, if◌then◌else◌, List, [], ◌∷◌, ◌++◌, Option, Some, None, length, map, slice_index}
+use Rattle.std.specs.Prelude.{ℕ, suc, ◌-◌, ◌/◌, Bool, true, false, ◌&&◌, nat_le, if◌then◌else◌, List, [], ◌∷◌, ◌++◌, Option, Some, None, length, map, slice_index}
 use Rattle.std.specs.List.{filter, flat_map, range_with_len}
 use Rattle.std.specs.Option.{option_map_or, option_and_then}
 use Rattle.rule_book.specs.Calendar.{stands_in}
@@ -7,10 +7,11 @@ use Rattle.rule_book.specs.LeagueCalls.{leagues_of}
 use Rattle.rule_book.specs.LeagueRows.{place_of}
 use Rattle.rule_book.specs.declared.pairing.Opponent.{Opponent}
 use Rattle.rule_book.specs.declared.pairing.Opponent.TheVariants.{Place, Average}
+use Rattle.season_nodes.specs.Brackets.{is_in, part_of, ties_after}
 use Rattle.season_nodes.specs.declared.nodes.Node.{Node}
 use Rattle.season_nodes.specs.declared.nodes.Node.TheVariants as node
 use Rattle.season_nodes.specs.Rounds.{has_average, order_in}
-use Rattle.season_nodes.specs.Season.{SeasonFacts, has_round, is_live, match_node, opponent_in, players_of, starts_of}
+use Rattle.season_nodes.specs.Season.{SeasonFacts, bracket_of, has_round, is_live, match_node, opponent_in, players_of, starts_of}
 
 -- of a player's gameweek: the gameweeks of the entries that hold him there
 abbrev pub gameweek_dependents : List ℕ → ℕ → List Node
@@ -54,9 +55,21 @@ module _ (b : SeasonFacts) where
   abbrev pub round_dependents : ℕ → ℕ → ℕ → List Node
   round_dependents e g l = option_map_or (λ i. match_node b l i g ∷ average_if l g) (place_in e g l) []
 
+  -- the ties of a round of a cup that an entry can reach
+  abbrev pub reached : ℕ → ℕ → ℕ → List Node
+  reached e c r = map (node.Tie c r) (filter (λ i. is_in (part_of (bracket_of b c) r i) e) (range_with_len 0 (ties_after (bracket_of b c) r)))
+
+  -- of an entry's gameweek, in a cup: those of the round of the gameweek
+  abbrev pub cup_dependents : ℕ → ℕ → ℕ → List Node
+  cup_dependents e g c = if nat_le (bracket_of b c).start g then reached e c (g - (bracket_of b c).start) else []
+
   -- of an entry's gameweek: its totals from that one or from one before it on, and what its leagues have of it
+  abbrev pub table_dependents : ℕ → ℕ → List Node
+  table_dependents e g = total_dependents e g ++ flat_map (round_dependents e g) (leagues_of b.leagues e)
+
+  -- and what the cups have of it
   abbrev pub team_dependents : ℕ → ℕ → List Node
-  team_dependents e g = total_dependents e g ++ flat_map (round_dependents e g) (leagues_of b.leagues e)
+  team_dependents e g = table_dependents e g ++ flat_map (cup_dependents e g) (range_with_len 1 (length b.cups))
 
   -- of the Average of a league in a gameweek: the match of whom it meets
   abbrev pub average_dependents : ℕ → ℕ → List Node
@@ -73,6 +86,10 @@ module _ (b : SeasonFacts) where
   match_dependents l g i =
       node.HeadRow l (slice_index (order_in b.leagues l) i) ∷ opponent_dependents l (opponent_in b l g i)
 
+  -- of a tie: that of the next round to which it leads, if it is live
+  abbrev pub tie_dependents : ℕ → ℕ → ℕ → List Node
+  tie_dependents c r i = if is_live b (node.Tie c (suc r) (i / 2)) then node.Tie c (suc r) (i / 2) ∷ [] else []
+
   -- of each node, where it is told which entries hold a player in a gameweek; of a total and of a row none
   abbrev pub dependents_of : (ℕ → ℕ → List ℕ) → Node → List Node
   dependents_of holders (node.Line f p) = line_dependents f p
@@ -83,3 +100,4 @@ module _ (b : SeasonFacts) where
   dependents_of holders (node.Average l g) = average_dependents l g
   dependents_of holders (node.Match l g i) = match_dependents l g i
   dependents_of holders (node.HeadRow l e) = []
+  dependents_of holders (node.Tie c r i) = tie_dependents c r i

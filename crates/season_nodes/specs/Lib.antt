@@ -1,4 +1,5 @@
 pub mod BookFacts
+pub mod Brackets
 pub mod Dependents
 pub mod Held
 pub mod IndexFacts
@@ -10,3 +11,5 @@ pub mod Rounds
 pub mod RowsTold
 pub mod Season
 pub mod SeasonLaws
+pub mod TieLaws
+pub mod TiesTold

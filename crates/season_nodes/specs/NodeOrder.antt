@@ -1,6 +1,7 @@
 -- The order of the nodes: by kind, and then by their numbers. A further kind adds a line to each function of a node, and a
 -- line to `told_apart`.
-use Rattle.std.proofs.Common.{◌≡◌, ℕ, true, ◌==◌, if◌then◌else◌, ◌∙◌, ap, sym, refl, Ordering, Less, Equal, Greater, is_eq, nat_cmp}
+use Rattle.std.proofs.Common.{◌≡◌, ℕ, ◌*◌, ◌%◌, ◌^◌, true, ◌==◌, if◌then◌else◌, ◌∙◌, ap, sym, refl, Ordering, Less, Equal, Greater, is_eq, nat_cmp}
+use Rattle.std.specs.Prelude.{bit_xor}
 use Rattle.std.specs.Ordering.{ordering_then, eq_by_cmp}
 use Rattle.std.specs.Cmp.{IsTotalOrder, nat_cmp_total, on_total, then_total}
 use Rattle.std.proofs.lemmas.Map.Lookups.{CmpEqualImpliesEq, exact_unsigned}
@@ -17,6 +18,7 @@ kind_of (node.Total e s) = 4
 kind_of (node.Average l g) = 5
 kind_of (node.Match l g i) = 6
 kind_of (node.HeadRow l e) = 7
+kind_of (node.Tie c r i) = 8
 
 -- its first number
 abbrev pub first_of : Node → ℕ
@@ -28,6 +30,7 @@ first_of (node.Total e s) = e
 first_of (node.Average l g) = l
 first_of (node.Match l g i) = l
 first_of (node.HeadRow l e) = l
+first_of (node.Tie c r i) = c
 
 -- its second number, or 0 where it has none
 abbrev pub second_of : Node → ℕ
@@ -39,6 +42,7 @@ second_of (node.Total e s) = s
 second_of (node.Average l g) = g
 second_of (node.Match l g i) = g
 second_of (node.HeadRow l e) = e
+second_of (node.Tie c r i) = r
 
 -- its third number, or 0 where it has none
 abbrev pub third_of : Node → ℕ
@@ -50,6 +54,7 @@ third_of (node.Total e s) = 0
 third_of (node.Average l g) = 0
 third_of (node.Match l g i) = i
 third_of (node.HeadRow l e) = 0
+third_of (node.Tie c r i) = i
 
 -- the node of a kind with these numbers
 abbrev node_of : ℕ → ℕ → ℕ → ℕ → Node
@@ -61,7 +66,8 @@ node_of k x y z =
     else if k == 4 then node.Total x y
     else if k == 5 then node.Average x y
     else if k == 6 then node.Match x y z
-    else node.HeadRow x y
+    else if k == 7 then node.HeadRow x y
+    else node.Tie x y z
 
 -- by first number, by second number, by third number
 abbrev pub numbers_cmp : Node → Node → Ordering
@@ -91,6 +97,7 @@ told_apart (node.Total e s) = refl
 told_apart (node.Average l g) = refl
 told_apart (node.Match l g i) = refl
 told_apart (node.HeadRow l e) = refl
+told_apart (node.Tie c r i) = refl
 
 -- the order tells all nodes apart
 pub node_exact : CmpEqualImpliesEq node_cmp
@@ -114,3 +121,8 @@ equal_only Greater e = absurd (cc)
 -- what is made of the kind and the numbers is the same of equal nodes
 pub same_numbers : {A : Type 0} (f : ℕ → ℕ → ℕ → ℕ → A) (n m : Node) → eq_by_cmp node_cmp n m ≡ true → f (kind_of n) (first_of n) (second_of n) (third_of n) ≡ f (kind_of m) (first_of m) (second_of m) (third_of m)
 same_numbers f n m e = ap (λ x. f (kind_of x) (first_of x) (second_of x) (third_of x)) (node_exact n m (equal_only (node_cmp n m) e))
+
+-- a kind and numbers in 64 bits: the kind in the 4 lowest, the first number in the next 22, the second in the next 22, and
+-- the third in the highest 16; a number of more bits reaches into those of the next one
+abbrev pub packed : ℕ → ℕ → ℕ → ℕ → ℕ
+packed k x y z = bit_xor (bit_xor (bit_xor k ((x * 2 ^ 4) % 2 ^ 64)) ((y * 2 ^ 26) % 2 ^ 64)) ((z * 2 ^ 48) % 2 ^ 64)

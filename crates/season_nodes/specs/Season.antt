@@ -1,9 +1,11 @@
 -- The season as a graph: the live nodes, the inputs of each, and its own function of their values.
-use Rattle.std.specs.Prelude.{◌≡◌, ℕ, ◌+◌, ◌*◌, ◌<◌, ◌≤◌, ℤ, pos, neg_ℤ, ◌+ℤ◌, ◌≤ℤ◌, ◌-◌, Bool, true, false, ◌&&◌, ◌||◌, ◌==◌, if◌then◌else◌, nat_le, nat_lt, List, [], ◌∷◌, ◌++◌, Option, Some, None, is_some, length, map, filter, fold, slice_index}
+use Rattle.std.specs.Prelude.{◌≡◌, ℕ, zero, suc, ◌+◌, ◌*◌, ◌<◌, ◌≤◌, ℤ, pos, neg_ℤ, ◌+ℤ◌, ◌≤ℤ◌, ◌-◌, Bool, true, false, ◌&&◌, ◌||◌, ◌==◌, if◌then◌else◌, nat_le, nat_lt, List, [], ◌∷◌, ◌++◌, Option, Some, None, is_some, length, map, filter, fold, slice_index}
 use Rattle.std.specs.List.{flat_map, list_any}
 use Rattle.std.specs.Option.{option_and_then, option_map_or, unwrap_or}
 use Rattle.fpl_base.specs.declared.kinds.Position.{Position}
 use Rattle.fpl_base.specs.declared.kinds.Profile.{Profile}
+use Rattle.rule_book.specs.declared.cup.Bracket.{Bracket}
+use Rattle.rule_book.specs.declared.cup.Side.{Side}
 use Rattle.rule_book.specs.declared.line.Line.{Line}
 use Rattle.rule_book.specs.declared.pairing.Opponent.{Opponent}
 use Rattle.rule_book.specs.declared.pairing.Opponent.TheVariants.{Place, Average}
@@ -16,6 +18,7 @@ use Rattle.rule_book.specs.ById.{at_id}
 use Rattle.rule_book.specs.Bonus.{bonus_of}
 use Rattle.rule_book.specs.BonusPoints.{bps_of}
 use Rattle.rule_book.specs.Calendar.{CalendarFacts, IsCalendar, has_ended, standing}
+use Rattle.rule_book.specs.Cups.{coin_after, goes_through}
 use Rattle.rule_book.specs.Entries.{entry_in}
 use Rattle.rule_book.specs.Figures.{figure, IsLine}
 use Rattle.rule_book.specs.HeadToHead.{head_score, total_of}
@@ -31,6 +34,7 @@ use Rattle.rule_book.specs.Ranks.{AllDiffer}
 use Rattle.rule_book.specs.ScoreOfTeam.{score_of}
 use Rattle.rule_book.specs.Totals.{gameweeks}
 use Rattle.rescore_graph.specs.Graph.{Among, Graph}
+use Rattle.season_nodes.specs.Brackets.{AreBrackets, bracket_in, is_in, no_side, part_of, side_of, ties_after}
 use Rattle.season_nodes.specs.declared.nodes.LineWorth.{LineWorth}
 use Rattle.season_nodes.specs.declared.nodes.Node.{Node}
 use Rattle.season_nodes.specs.declared.nodes.Node.TheVariants as node
@@ -40,7 +44,7 @@ use Rattle.season_nodes.specs.Rounds.{has_average, lower, met, order_in, start_i
 
 -- what the operator and the managers handed in: by which rules the season is played, its calendar, its players, and the
 -- figures of its matches; how many entries were issued, the gameweek in which each began, and, of each gameweek, an
--- entry's team in it and what its transfers there cost; and the leagues
+-- entry's team in it and what its transfers there cost; and the leagues and the cups
 pub record SeasonFacts : Type 0 where
   pub profile : Profile
   pub calendar : CalendarFacts
@@ -51,6 +55,7 @@ pub record SeasonFacts : Type 0 where
   pub team : ℕ → ℕ → Team
   pub cost : ℕ → ℕ → ℕ
   pub leagues : List LeagueFacts
+  pub cups : List Bracket
 
 -- what a line is worth without bonus
 abbrev pub worth_of : Profile → Position → Line → LineWorth
@@ -78,6 +83,7 @@ worth_in (Some (value.Total points)) = no_worth
 worth_in (Some (value.Average points)) = no_worth
 worth_in (Some (value.Match scores)) = no_worth
 worth_in (Some (value.HeadRow score)) = no_worth
+worth_in (Some (value.Tie winner)) = no_worth
 
 -- the bonuses that a cell holds
 abbrev pub bonuses_in : Option Value → List (ℕ × ℕ)
@@ -90,6 +96,7 @@ bonuses_in (Some (value.Total points)) = []
 bonuses_in (Some (value.Average points)) = []
 bonuses_in (Some (value.Match scores)) = []
 bonuses_in (Some (value.HeadRow score)) = []
+bonuses_in (Some (value.Tie winner)) = []
 
 -- who of some players took part, by what their lines are worth, each with his number in the bonus points system
 abbrev pub took_part : (ℕ → LineWorth) → List ℕ → List (ℕ × ℤ)
@@ -114,6 +121,7 @@ figures_held (Some (value.Total points)) = no_figures
 figures_held (Some (value.Average points)) = no_figures
 figures_held (Some (value.Match scores)) = no_figures
 figures_held (Some (value.HeadRow score)) = no_figures
+figures_held (Some (value.Tie winner)) = no_figures
 
 -- the points after deductions of an entry's gameweek that a cell holds
 abbrev pub net_held : Option Value → ℤ
@@ -126,6 +134,7 @@ net_held (Some (value.Total points)) = pos 0
 net_held (Some (value.Average points)) = pos 0
 net_held (Some (value.Match scores)) = pos 0
 net_held (Some (value.HeadRow score)) = pos 0
+net_held (Some (value.Tie winner)) = pos 0
 
 -- the points of the Average that a cell holds
 abbrev pub average_held : Option Value → ℤ
@@ -138,6 +147,7 @@ average_held (Some (value.Total points)) = pos 0
 average_held (Some (value.Average points)) = points
 average_held (Some (value.Match scores)) = pos 0
 average_held (Some (value.HeadRow score)) = pos 0
+average_held (Some (value.Tie winner)) = pos 0
 
 -- what the two of a match scored, by its cell
 abbrev pub scores_held : Option Value → ℤ × ℤ
@@ -150,6 +160,33 @@ scores_held (Some (value.Total points)) = (pos 0, pos 0)
 scores_held (Some (value.Average points)) = (pos 0, pos 0)
 scores_held (Some (value.Match scores)) = scores
 scores_held (Some (value.HeadRow score)) = (pos 0, pos 0)
+scores_held (Some (value.Tie winner)) = (pos 0, pos 0)
+
+-- who goes on from a tie, by its cell; nobody where there is none
+abbrev pub winner_held : Option Value → ℕ
+winner_held None = 0
+winner_held (Some (value.Line w)) = 0
+winner_held (Some (value.Bonus rows)) = 0
+winner_held (Some (value.PlayerGw figures)) = 0
+winner_held (Some (value.TeamGw score)) = 0
+winner_held (Some (value.Total points)) = 0
+winner_held (Some (value.Average points)) = 0
+winner_held (Some (value.Match scores)) = 0
+winner_held (Some (value.HeadRow score)) = 0
+winner_held (Some (value.Tie winner)) = winner
+
+-- what an entry's gameweek gives to a tie, by its cell
+abbrev pub side_held : Option Value → Side
+side_held None = no_side
+side_held (Some (value.Line w)) = no_side
+side_held (Some (value.Bonus rows)) = no_side
+side_held (Some (value.PlayerGw figures)) = no_side
+side_held (Some (value.TeamGw score)) = side_of score
+side_held (Some (value.Total points)) = no_side
+side_held (Some (value.Average points)) = no_side
+side_held (Some (value.Match scores)) = no_side
+side_held (Some (value.HeadRow score)) = no_side
+side_held (Some (value.Tie winner)) = no_side
 
 -- a match from the side of one of its places: its own points, and those of whom it meets
 abbrev pub seen_from : Bool → ℤ × ℤ → ℤ × ℤ
@@ -258,6 +295,17 @@ module _ (b : SeasonFacts) where
   abbrev pub is_lower : ℕ → ℕ → ℕ → Bool
   is_lower l g i = nat_lt i (length (order_in b.leagues l)) && nat_lt i (met_in l g i)
 
+  -- the bracket of a cup, and the gameweek of its round after so many rounds
+  abbrev pub bracket_of : ℕ → Bracket
+  bracket_of c = bracket_in b.cups c
+
+  abbrev pub round_of : ℕ → ℕ → ℕ
+  round_of c r = (bracket_in b.cups c).start + r
+
+  -- whether the gameweek of a round is locked
+  abbrev pub is_played : ℕ → ℕ → Bool
+  is_played c r = nat_le (round_of c r) b.calendar.locked
+
   -- whether a node is live
   abbrev pub is_live : Node → Bool
   is_live (node.Line f p) = has_line p f
@@ -268,6 +316,7 @@ module _ (b : SeasonFacts) where
   is_live (node.Average l g) = has_round l g && has_average (length (order_in b.leagues l))
   is_live (node.Match l g i) = has_round l g && is_lower l g i
   is_live (node.HeadRow l e) = is_some (place_of (order_in b.leagues l) e)
+  is_live (node.Tie c r i) = is_played c r && nat_lt i (ties_after (bracket_of c) r)
 
   -- the gameweek of an entry, if it is live
   abbrev pub team_if : ℕ → ℕ → List Node
@@ -286,6 +335,15 @@ module _ (b : SeasonFacts) where
   abbrev pub match_nodes : ℕ → ℕ → List Node
   match_nodes l i = map (match_node l i) (gameweeks (start_in b.leagues l) b.calendar.locked)
 
+  -- the two ties of the round before that lead to a tie; none in the first round
+  abbrev pub ties_before : ℕ → ℕ → ℕ → List Node
+  ties_before c zero i = []
+  ties_before c (suc r) i = node.Tie c r (2 * i) ∷ node.Tie c r (2 * i + 1) ∷ []
+
+  -- the gameweeks of those who can reach a tie
+  abbrev pub entrant_inputs : ℕ → ℕ → ℕ → List Node
+  entrant_inputs c r i = flat_map (λ e. team_if e (round_of c r)) (part_of (bracket_of c) r i)
+
   -- the nodes whose values a node's own function reads
   abbrev pub inputs_of : Node → List Node
   inputs_of (node.Line f p) = []
@@ -296,6 +354,7 @@ module _ (b : SeasonFacts) where
   inputs_of (node.Average l g) = map (λ e. node.TeamGw e g) (filter (λ e. is_live (node.TeamGw e g)) (order_in b.leagues l))
   inputs_of (node.Match l g i) = team_if (slice_index (order_in b.leagues l) i) g ++ opponent_inputs l g (opponent_in l g i)
   inputs_of (node.HeadRow l e) = option_map_or (match_nodes l) (place_of (order_in b.leagues l) e) []
+  inputs_of (node.Tie c r i) = ties_before c r i ++ entrant_inputs c r i
 
   -- what a player's line in a fixture is worth
   abbrev pub line_worth : ℕ → ℕ → LineWorth
@@ -359,6 +418,23 @@ module _ (b : SeasonFacts) where
   abbrev pub head_by : (Node → Option Value) → ℕ → ℕ → HeadScore
   head_by v l e = head_score (option_map_or (matches_by v l) (place_of (order_in b.leagues l) e) [])
 
+  -- what an entry has in a gameweek, by what it scored; nothing where it has not begun
+  abbrev pub side_by : (Node → Option Value) → ℕ → ℕ → Side
+  side_by v e g = if is_live (node.TeamGw e g) then side_held (v (node.TeamGw e g)) else no_side
+
+  -- the same of one of those who can reach a tie; nothing of another
+  abbrev pub side_among : (Node → Option Value) → ℕ → ℕ → ℕ → ℕ → Side
+  side_among v c r i e = if is_in (part_of (bracket_of c) r i) e then side_by v e (round_of c r) else no_side
+
+  -- who comes to a place of a round: the slot there, or who went on from the tie of that place
+  abbrev pub comer_by : (Node → Option Value) → ℕ → ℕ → ℕ → ℕ
+  comer_by v c zero i = slice_index (bracket_of c).slots i
+  comer_by v c (suc r) i = winner_held (v (node.Tie c r i))
+
+  -- who goes on from a tie, by who comes to it and what the two have in its gameweek
+  abbrev pub tie_by : (Node → Option Value) → ℕ → ℕ → ℕ → ℕ
+  tie_by v c r i = goes_through (comer_by v c r (2 * i)) (comer_by v c r (2 * i + 1)) (side_among v c r i) (coin_after (bracket_of c) r i)
+
   -- a node's own function of the values of its inputs
   abbrev pub own_value : Node → (Node → Option Value) → Value
   own_value (node.Line f p) v = value.Line (line_worth f p)
@@ -369,6 +445,7 @@ module _ (b : SeasonFacts) where
   own_value (node.Average l g) v = value.Average (average_by v l g)
   own_value (node.Match l g i) v = value.Match (match_by v l g i)
   own_value (node.HeadRow l e) v = value.HeadRow (head_by v l e)
+  own_value (node.Tie c r i) v = value.Tie (tie_by v c r i)
 
 -- the levels, and how many counted reads an evaluation makes at most
 abbrev pub level_of : Node → ℕ
@@ -380,6 +457,7 @@ level_of (node.Total e s) = 4
 level_of (node.Average l g) = 4
 level_of (node.Match l g i) = 5
 level_of (node.HeadRow l e) = 6
+level_of (node.Tie c r i) = 4 + r
 
 abbrev pub weight_of : Node → ℕ
 weight_of (node.Line f p) = 2
@@ -390,6 +468,7 @@ weight_of (node.Total e s) = 39
 weight_of (node.Average l g) = 65
 weight_of (node.Match l g i) = 4
 weight_of (node.HeadRow l e) = 39
+weight_of (node.Tie c r i) = 5
 
 -- the graph of a season
 abbrev pub season_graph : SeasonFacts → Graph Node Value
@@ -415,10 +494,11 @@ abbrev pub AreOrders : List LeagueFacts → Type 0
 AreOrders leagues = (l : ℕ) (league : LeagueFacts) → entry_in leagues l ≡ Some league → IsOrder league
 
 -- the facts are those of a season: a lawful calendar; in each fixture lines by ascending player, each in its ranges, and
--- each of a player who is there; and each league drawn in an order of its members
+-- each of a player who is there; each league drawn in an order of its members; and each cup with the slots of its rounds
 pub record IsSeason (b : SeasonFacts) : Type 0 where
   pub calendar : IsCalendar b.calendar
   pub ascending : (f : ℕ) → Rising (players_of b f)
   pub ranges : (f p : ℕ) (line : Line) → line_of b.matches f p ≡ Some line → IsLine line
   pub there : (f p : ℕ) → has_line b p f ≡ true → is_there b p ≡ true
   pub orders : AreOrders b.leagues
+  pub brackets : AreBrackets b.cups

@@ -1,14 +1,16 @@
 -- A season is a graph.
-use Rattle.std.proofs.Common.{◌≡◌, ℕ, ◌+◌, ◌-◌, ◌<◌, ◌≤◌, ◌==◌, Bool, true, false, ◌&&◌, nat_le, nat_lt, if◌then◌else◌, cond, ◌⊎◌, inl, inr, ⊎_elim, List, [], ◌∷◌, ℤ, pos, Option, Some, None, is_some, length, map, refl, sym, ◌∙◌, ap, ap₂, subst, arith}
+use Rattle.std.proofs.Common.{◌≡◌, ℕ, zero, suc, ◌+◌, ◌-◌, ◌*◌, ◌<◌, ◌≤◌, ◌==◌, Bool, true, false, ◌&&◌, nat_le, nat_lt, if◌then◌else◌, cond, ◌⊎◌, inl, inr, ⊎_elim, List, [], ◌∷◌, ℤ, pos, Option, Some, None, is_some, length, map, refl, sym, ◌∙◌, ap, ap₂, subst, arith}
 use Rattle.std.specs.List.{filter, slice_index}
 use Rattle.std.specs.Option.{option_map_or, unwrap_or}
 use Rattle.std.proofs.lemmas.Bool.Decides.{leb_tells, nat_tests}
+use Rattle.rule_book.specs.declared.cup.Side.{Side}
 use Rattle.rule_book.specs.declared.line.Line.{Line}
 use Rattle.rule_book.specs.declared.pairing.Opponent.{Opponent}
 use Rattle.rule_book.specs.declared.pairing.Opponent.TheVariants.{Place, Average}
 use Rattle.rule_book.specs.declared.team_score.Figures.{Figures}
 use Rattle.rule_book.specs.ById.{at_id}
 use Rattle.rule_book.specs.Calendar.{standing}
+use Rattle.rule_book.specs.Cups.{coin_after, goes_through}
 use Rattle.rule_book.specs.HeadToHead.{head_score, total_of}
 use Rattle.rule_book.specs.LeagueRows.{place_of}
 use Rattle.rule_book.specs.Opponents.{mean_of}
@@ -16,6 +18,7 @@ use Rattle.rule_book.specs.ScoreOfTeam.{score_of}
 use Rattle.rule_book.specs.Totals.{gameweeks}
 use Rattle.rule_book.specs.MatchFacts.{Lines, is_finished, line_in, lines_of, players_in}
 use Rattle.rescore_graph.specs.Graph.{IsGraph, Among}
+use Rattle.season_nodes.specs.Brackets.{is_in, no_side, part_of, ties_after}
 use Rattle.season_nodes.specs.declared.nodes.LineWorth.{LineWorth}
 use Rattle.season_nodes.specs.declared.nodes.Node.{Node}
 use Rattle.season_nodes.specs.declared.nodes.Node.TheVariants as node
@@ -25,7 +28,8 @@ use Rattle.season_nodes.specs.Places.{at_place}
 use Rattle.season_nodes.specs.Reading.{among_either, among_left, among_right, map_local, filter_local, fold_local, from_filter, to_filter, from_map, to_map, from_flat, to_flat, from_range, to_range}
 use Rattle.season_nodes.specs.RoundLaws.{lower_is, met_average}
 use Rattle.season_nodes.specs.Rounds.{has_average, order_in, start_in}
-use Rattle.season_nodes.specs.Season.{SeasonFacts, worth_in, bonuses_in, took_part, with_bonus, no_figures, with_worth, gathered, average_held, figures_held, net_held, scores_held, seen_from, counted_gameweeks, has_begun, has_start, has_line, is_there, players_of, fielded_in, fifteen_of, fixtures_of, ended, has_round, is_live, is_lower, lower_in, match_node, match_nodes, matches_by, met_in, net_by, opponent_in, opponent_inputs, points_by, seen_by, team_if, inputs_of, own_value, level_of, season_graph, IsSeason}
+use Rattle.season_nodes.specs.TieLaws.{both_before, in_slots}
+use Rattle.season_nodes.specs.Season.{SeasonFacts, worth_in, bonuses_in, took_part, with_bonus, no_figures, with_worth, gathered, average_held, figures_held, net_held, scores_held, seen_from, counted_gameweeks, has_begun, has_start, has_line, is_there, players_of, fielded_in, fifteen_of, fixtures_of, ended, has_round, is_live, is_lower, lower_in, match_node, match_nodes, matches_by, met_in, net_by, opponent_in, opponent_inputs, points_by, seen_by, team_if, bracket_of, comer_by, entrant_inputs, is_played, round_of, side_among, side_by, side_held, tie_by, ties_before, winner_held, inputs_of, own_value, level_of, season_graph, IsSeason}
 
 same_test : (n m : ℕ) → n ≡ m → (n == m) ≡ true
 same_test n m e = grind (arith, nat_tests)
@@ -245,6 +249,85 @@ module _ (b : SeasonFacts) where
       (to_map (match_node b l i) (gameweeks (start_in b.leagues l) b.calendar.locked) g
       (to_range (start_in b.leagues l) ((b.calendar.locked + 1) - start_in b.leagues l) g k.0 (omega (arith, k.0, k.1))))
 
+-- What the inputs of ties are.
+module _ (b : SeasonFacts) where
+  -- of a tie: one of the two of the round before
+  abbrev pub IsBefore : ℕ → ℕ → ℕ → Node → ℕ → Type 0
+  IsBefore c r i m k = (suc k ≡ r) × ((node.Tie c k (2 * i) ≡ m) ⊎ (node.Tie c k (2 * i + 1) ≡ m))
+
+  pub from_before : (c r i : ℕ) (m : Node) → Among (ties_before b c r i) m → (k : ℕ) × IsBefore c r i m k
+  from_before c zero i m a = absurd a
+  from_before c (suc k) i m (inl e) = (k, (refl, inl e))
+  from_before c (suc k) i m (inr (inl e)) = (k, (refl, inr e))
+  from_before c (suc k) i m (inr (inr a)) = absurd a
+
+  -- or the live gameweek of one who can reach it
+  abbrev pub IsOfEntrant : ℕ → ℕ → ℕ → Node → ℕ → Type 0
+  IsOfEntrant c r i m e = Among (part_of (bracket_of b c) r i) e × (is_live b (node.TeamGw e (round_of b c r)) ≡ true) × (node.TeamGw e (round_of b c r) ≡ m)
+
+  pub from_entrants : (c r i : ℕ) (m : Node) → Among (entrant_inputs b c r i) m → (e : ℕ) × IsOfEntrant c r i m e
+  from_entrants c r i m a =
+      let x = from_flat (λ e. team_if b e (round_of b c r)) (part_of (bracket_of b c) r i) m a in
+      let t = from_team b x.0 (round_of b c r) m x.1.1 in
+      (x.0, (x.1.0, t.0, t.1))
+
+  pub from_tie : (c r i : ℕ) (m : Node) → Among (inputs_of b (node.Tie c r i)) m → ((k : ℕ) × IsBefore c r i m k) ⊎ ((e : ℕ) × IsOfEntrant c r i m e)
+  from_tie c r i m a = ⊎_elim (λ x. inl (from_before c r i m x)) (λ x. inr (from_entrants c r i m x)) (among_either (ties_before b c r i) (entrant_inputs b c r i) m a)
+
+  pub to_tie : (c r i e : ℕ) → Among (part_of (bracket_of b c) r i) e → is_live b (node.TeamGw e (round_of b c r)) ≡ true → Among (inputs_of b (node.Tie c r i)) (node.TeamGw e (round_of b c r))
+  to_tie c r i e a alive =
+      among_right (ties_before b c r i) (entrant_inputs b c r i) (node.TeamGw e (round_of b c r))
+      (to_flat (λ k. team_if b k (round_of b c r)) (part_of (bracket_of b c) r i) e (node.TeamGw e (round_of b c r)) a (to_team b e (round_of b c r) alive))
+
+  -- of a live tie: its gameweek is locked, and it is one of its round
+  pub tie_alive : (c r i : ℕ) → is_live b (node.Tie c r i) ≡ true → (round_of b c r ≤ b.calendar.locked) × (i < ties_after (bracket_of b c) r)
+  tie_alive c r i alive =
+      let test = nat_lt i (ties_after (bracket_of b c) r) in (
+        at_most (round_of b c r) b.calendar.locked (first_true (is_played b c r) test alive),
+        below i (ties_after (bracket_of b c) r) (second_true (is_played b c r) test alive),
+      )
+
+  pub tie_lives : (c r i : ℕ) → round_of b c r ≤ b.calendar.locked → i < ties_after (bracket_of b c) r → is_live b (node.Tie c r i) ≡ true
+  tie_lives c r i played low =
+      both_true (is_played b c r) (nat_lt i (ties_after (bracket_of b c) r)) (within (round_of b c r) b.calendar.locked played) (below_test i (ties_after (bracket_of b c) r) low)
+
+  -- and the two that lead to it are live
+  pub before_lives : (c k i : ℕ) → is_live b (node.Tie c (suc k) i) ≡ true → (is_live b (node.Tie c k (2 * i)) ≡ true) × (is_live b (node.Tie c k (2 * i + 1)) ≡ true)
+  before_lives c k i alive =
+      let is = tie_alive c (suc k) i alive in
+      let both = both_before (length (bracket_of b c).slots) k i is.1 in
+      let played : round_of b c k ≤ b.calendar.locked = omega (arith, is.0) in
+      (tie_lives c k (2 * i) played both.0, tie_lives c k (2 * i + 1) played both.1)
+
+  side_case : (t : Bool) (x y : Side) → (t ≡ true → x ≡ y) → (if t then x else no_side) ≡ (if t then y else no_side)
+  side_case true x y e = e refl
+  side_case false x y e = refl
+
+  pub side_local : (v u : Node → Option Value) (e g : ℕ) → (is_live b (node.TeamGw e g) ≡ true → v (node.TeamGw e g) ≡ u (node.TeamGw e g)) → side_by b v e g ≡ side_by b u e g
+  side_local v u e g same = side_case (is_live b (node.TeamGw e g)) (side_held (v (node.TeamGw e g))) (side_held (u (node.TeamGw e g))) (λ y. ap side_held (same y))
+
+  among_local : (v u : Node → Option Value) (c r i : ℕ) → ((m : Node) → Among (inputs_of b (node.Tie c r i)) m → v m ≡ u m) → (e : ℕ) → side_among b v c r i e ≡ side_among b u c r i e
+  among_local v u c r i same e =
+      side_case (is_in (part_of (bracket_of b c) r i) e) (side_by b v e (round_of b c r)) (side_by b u e (round_of b c r))
+      (λ y. side_local v u e (round_of b c r)
+      (λ alive. same (node.TeamGw e (round_of b c r)) (to_tie c r i e (in_slots (part_of (bracket_of b c) r i) e y) alive)))
+
+  first_local : (v u : Node → Option Value) (c r i : ℕ) → ((m : Node) → Among (ties_before b c r i) m → v m ≡ u m) → comer_by b v c r (2 * i) ≡ comer_by b u c r (2 * i)
+  first_local v u c zero i same = refl
+  first_local v u c (suc r) i same = ap winner_held (same (node.Tie c r (2 * i)) (inl refl))
+
+  second_local : (v u : Node → Option Value) (c r i : ℕ) → ((m : Node) → Among (ties_before b c r i) m → v m ≡ u m) → comer_by b v c r (2 * i + 1) ≡ comer_by b u c r (2 * i + 1)
+  second_local v u c zero i same = refl
+  second_local v u c (suc r) i same = ap winner_held (same (node.Tie c r (2 * i + 1)) (inr (inl refl)))
+
+  pub tie_local : (v u : Node → Option Value) (c r i : ℕ) → ((m : Node) → Among (inputs_of b (node.Tie c r i)) m → v m ≡ u m) → tie_by b v c r i ≡ tie_by b u c r i
+  tie_local v u c r i same =
+      let before : (m : Node) → Among (ties_before b c r i) m → v m ≡ u m = λ m a. same m (among_left (ties_before b c r i) (entrant_inputs b c r i) m a) in
+      let first = first_local v u c r i before in
+      let second = second_local v u c r i before in
+      let sides = among_local v u c r i same in
+      λ j. goes_through (first j) (second j) (λ e. sides e j) (coin_after (bracket_of b c) r i)
+
 module _ (b : SeasonFacts) (is : IsSeason b) where
   live : (n m : Node) → is_live b n ≡ true → Among (inputs_of b n) m → is_live b m ≡ true
   live (node.Line f p) m l a = absurd a
@@ -286,6 +369,12 @@ module _ (b : SeasonFacts) (is : IsSeason b) where
       let r = from_row b l e m a in
       subst (λ q. is_live b q ≡ true) r.1.1.2
       (own_match_lives b l r.0 r.1.0 r.1.1.1 (at_place (order_in b.leagues l) e r.0 r.1.1.0).0)
+  live (node.Tie c r i) m alive a =
+      ⊎_elim
+      (λ x. let one = before_lives b c x.0 i (subst (λ k. is_live b (node.Tie c k i) ≡ true) (sym x.1.0) alive) in
+      ⊎_elim (λ e. subst (λ q. is_live b q ≡ true) e one.0) (λ e. subst (λ q. is_live b q ≡ true) e one.1) x.1.1)
+      (λ x. subst (λ q. is_live b q ≡ true) x.1.2 x.1.1)
+      (from_tie b c r i m a)
 
   lower : (n m : Node) → is_live b n ≡ true → Among (inputs_of b n) m → level_of m < level_of n
   lower (node.Line f p) m l a = absurd a
@@ -301,6 +390,12 @@ module _ (b : SeasonFacts) (is : IsSeason b) where
       (⊎_elim (λ met. subst (λ q. level_of q < 5) met.1.1.1 (omega arith)) (λ average. subst (λ q. level_of q < 5) average.1 (omega arith)))
       (from_match b l g i m a)
   lower (node.HeadRow l e) m alive a = let r = from_row b l e m a in subst (λ q. level_of q < 6) r.1.1.2 (omega arith)
+  lower (node.Tie c r i) m alive a =
+      ⊎_elim
+      (λ x. let up : 4 + x.0 < 4 + r = omega (arith, x.1.0) in
+      ⊎_elim (λ e. subst (λ q. level_of q < 4 + r) e up) (λ e. subst (λ q. level_of q < 4 + r) e up) x.1.1)
+      (λ x. let up : 3 < 4 + r = omega arith in subst (λ q. level_of q < 4 + r) x.1.2 up)
+      (from_tie b c r i m a)
 
   took_part_local : (w x : ℕ → LineWorth) (ps : List ℕ) → ((p : ℕ) → Among ps p → w p ≡ x p) → took_part w ps ≡ took_part x ps
   took_part_local w x ps e =
@@ -368,6 +463,7 @@ module _ (b : SeasonFacts) (is : IsSeason b) where
       (net_local v u own g (λ y. e (node.TeamGw own g) (to_match_own b l g i y)))
       (points_local v u l g (opponent_in b l g i) (λ m a. e m (among_right (team_if b own g) those m a)))
   local (node.HeadRow l k) alive v u e = ap (λ matches. value.HeadRow (head_score matches)) (row_local v u l (place_of (order_in b.leagues l) k) e)
+  local (node.Tie c r i) alive v u e = ap value.Tie (tie_local b v u c r i e)
 
   pub season_lawful : IsGraph (season_graph b)
   season_lawful = record { inputs_live = live; inputs_lower = lower; local = local }

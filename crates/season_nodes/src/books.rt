@@ -11,6 +11,7 @@ ghost use Rattle.season_nodes.specs.declared.nodes.Node.{Node};
 
 use crate::nodes::Node;
 use classic_leagues::{League, LeagueKind, Leagues};
+use cup_rounds::Cups;
 use fpl_base::{EntryId, FixtureId, Gw, LeagueId, PlayerId, Position, Profile, Steps};
 use manager_book::ManagerBook;
 use match_facts::MatchFacts;
@@ -35,6 +36,8 @@ pub struct Books<'a> {
     pub managers: &'a ManagerBook,
     /// The leagues: who is in each, and with which gameweek it starts.
     pub leagues: &'a Leagues,
+    /// The cups: with which gameweek each starts, and who stands in its slots.
+    pub cups: &'a Cups,
 }
 
 impl Books<'_> {
@@ -189,6 +192,7 @@ impl Books<'_> {
             Node::Average(league, gameweek) => self.has_average_in(league, gameweek),
             Node::Match(league, gameweek, place) => self.has_match(league, gameweek, place),
             Node::HeadRow(league, entry) => self.has_row(league, entry),
+            Node::Tie(cup, round, place) => self.has_tie(cup, round, usize::from(place)),
         }
     }
 }

@@ -4,7 +4,7 @@ ghost use Rattle.season_nodes.specs.IndexFacts.{HasHolders, holders_in};
 
 use fpl_base::{EntryId, Gw, Memory, PlayerId};
 use std::alloc::Global;
-use std::collections::BTreeMap;
+use std::collections::HashMap;
 use std::marker::Model;
 
 /// Entries in a row. A contract sees them as a list.
@@ -21,11 +21,21 @@ impl Model for Entries {
     ghost view = { λ e. e.items.items };
 }
 
+impl Entries {
+    // One entry more, at the end.
+    fn push(&mut self, entry: EntryId) -> Result<(), Memory>
+        ensures { OnOk result (self.new ≡ self.old ++ entry ∷ []) }
+    {
+        self.items.push(entry)?;
+        Ok(())
+    }
+}
+
 /// For each gameweek and player the entries that hold him there. A contract sees it by `holders_in` alone.
 #[derive(Drop)]
 pub struct Index {
     alloc: Global,
-    rows: BTreeMap<(Gw, PlayerId), Entries>,
+    rows: HashMap<(Gw, PlayerId), Entries>,
 }
 
 impl Model for Index {
@@ -43,7 +53,7 @@ impl Index {
     {
         Index {
             alloc,
-            rows: BTreeMap::new(alloc),
+            rows: HashMap::new(alloc),
         }
     }
 
@@ -61,30 +71,29 @@ impl Index {
     pub fn hold(&mut self, player: PlayerId, gameweek: Gw, entry: EntryId) -> Result<(), Memory>
         ensures { OnOk result (HasHolders self.old self.new player gameweek (holders_in self.old player gameweek ++ entry ∷ [])) }
     {
-        let mut entries = self.take(player, gameweek);
-        entries.items.push(entry)?;
-        self.put(player, gameweek, entries)?;
+        hold_in(&mut self.rows, self.alloc, player, gameweek, entry)?;
         Ok(())
     }
+}
 
-    // Takes out who holds a player in a gameweek.
-    fn take(&mut self, player: PlayerId, gameweek: Gw) -> Entries
-        ensures value { result ≡ holders_in self.old player gameweek }
-        ensures gone { HasHolders self.old self.new player gameweek [] }
-    {
-        match self.rows.remove(&(gameweek, player)) {
-            Some(entries) => entries,
-            None => Entries {
-                items: Vec::new(self.alloc),
-            },
-        }
+// An entry more in the row of a player in a gameweek, which begins with it where there is none yet.
+fn hold_in(
+    rows: &mut HashMap<(Gw, PlayerId), Entries>,
+    alloc: Global,
+    player: PlayerId,
+    gameweek: Gw,
+    entry: EntryId,
+) -> Result<(), Memory>
+    ensures { OnOk result (HasHolders rows.old.entries rows.new.entries player gameweek (holders_in rows.old.entries player gameweek ++ entry ∷ [])) }
+{
+    if let Some(row) = rows.get_mut(&(gameweek, player)) {
+        row.push(entry)?;
+        return Ok(());
     }
-
-    // Puts in who holds a player in a gameweek.
-    fn put(&mut self, player: PlayerId, gameweek: Gw, entries: Entries) -> Result<(), Memory>
-        ensures { OnOk result (HasHolders self.old self.new player gameweek entries) }
-    {
-        self.rows.insert((gameweek, player), entries)?;
-        Ok(())
-    }
+    let mut first = Entries {
+        items: Vec::new(alloc),
+    };
+    first.push(entry)?;
+    rows.insert((gameweek, player), first)?;
+    Ok(())
 }

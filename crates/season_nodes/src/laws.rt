@@ -1,12 +1,17 @@
-// What holds of the leagues of a season.
+// What holds of the leagues and the cups of a season.
 ghost use Rattle.std.specs.Prelude.{◌≡◌, Some};
 ghost use Rattle.rule_book.specs.Entries.{entry_in};
 ghost use Rattle.rule_book.specs.Leagues.{LeagueFacts};
+ghost use Rattle.rule_book.specs.declared.cup.Bracket.{Bracket};
+ghost use Rattle.cup_rounds.specs.Shapes.{HasShape};
+ghost use Rattle.season_nodes.specs.Brackets.{AreBrackets};
 ghost use Rattle.season_nodes.specs.RowsTold.{MatchesAreTold, RowsAreTold};
 ghost use Rattle.season_nodes.specs.Season.{AreOrders, IsOrder};
+ghost use Rattle.season_nodes.specs.TiesTold.{TiesAreTold};
 
 use classic_leagues::{League, Leagues};
-use fpl_base::LeagueId;
+use cup_rounds::{Bracket, Cups};
+use fpl_base::{CupId, LeagueId};
 
 /// A law: where each Average and each match holds its own value, a match has what the rule book tells of the two who
 /// meet, and a member's row what it tells of all matches of the member.
@@ -38,5 +43,36 @@ pub fn orders_are_of_members(leagues: &Leagues)
 {
     for place in 0..leagues.count() {
         order_at(leagues, LeagueId::new(place + 1).unwrap());
+    }
+}
+
+/// A law: where each tie holds its own value, who goes on from it is who wins it by the rule book.
+pub fn ties_are_told()
+    ensures { TiesAreTold }
+{}
+
+// A bracket that has its shape.
+fn shape_of_one(bracket: &Bracket)
+    requires { HasShape bracket.now }
+    ensures { HasShape bracket.now }
+{
+    let _start = bracket.start;
+}
+
+// So has that of the cup of a number.
+fn shape_at(cups: &Cups, number: CupId)
+    ensures { (bracket : Bracket) → entry_in cups.now number ≡ Some bracket → HasShape bracket }
+{
+    if let Some(bracket) = cups.get(number) {
+        shape_of_one(bracket);
+    }
+}
+
+/// The law that each cup has the slots of its rounds, which each single cup tells.
+pub fn cups_are_brackets(cups: &Cups)
+    ensures { AreBrackets cups.now }
+{
+    for place in 0..cups.count() {
+        shape_at(cups, CupId::new(place + 1).unwrap());
     }
 }

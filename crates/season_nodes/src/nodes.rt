@@ -5,9 +5,9 @@ ghost use Rattle.std.specs.Ordering.{eq_by_cmp};
 ghost use Rattle.std.specs.Cmp.{eq_by_cmp_equiv, partial_equiv_from_equiv, po};
 ghost use Rattle.rule_book.specs.FigureRange.{IsWithin};
 ghost use Rattle.rule_book.specs.TeamScores.{IsModest};
-ghost use Rattle.season_nodes.specs.NodeOrder.{kind_of, first_of, second_of, third_of, node_cmp, node_total, same_numbers};
+ghost use Rattle.season_nodes.specs.NodeOrder.{kind_of, first_of, second_of, third_of, node_cmp, node_total, packed, same_numbers};
 
-use fpl_base::{EntryId, FixtureId, Gw, LeagueId, Memory, PlayerId};
+use fpl_base::{CupId, EntryId, FixtureId, Gw, LeagueId, Memory, PlayerId};
 use rule_book::{Figures, HeadScore, TeamScore};
 use std::alloc::Global;
 use std::cmp::Ordering;
@@ -34,71 +34,44 @@ pub enum Node {
     Match(LeagueId, Gw, u8),
     /// A member's row of a head-to-head league.
     HeadRow(LeagueId, EntryId),
+    /// A tie of a cup: how many rounds are before it, and its place in its round. Both are counted from 0.
+    Tie(CupId, u8, u16),
 }
 
 impl Node {
-    // The number of its kind.
-    fn kind(&self) -> u8
-        ensures { result ≡ kind_of self.now }
+    // Its kind and its numbers, each 0 where it has none.
+    #[inline(always)]
+    fn numbers(&self) -> (u8, u32, u32, u16)
+        ensures { result ≡ (kind_of self.now, first_of self.now, second_of self.now, third_of self.now) }
     {
         match self {
-            Node::Line(..) => 0,
-            Node::Bonus(_) => 1,
-            Node::PlayerGw(..) => 2,
-            Node::TeamGw(..) => 3,
-            Node::Total(..) => 4,
-            Node::Average(..) => 5,
-            Node::Match(..) => 6,
-            Node::HeadRow(..) => 7,
+            Node::Line(fixture, player) => (0, fixture.get(), player.get(), 0),
+            Node::Bonus(fixture) => (1, fixture.get(), 0, 0),
+            Node::PlayerGw(player, gameweek) => (2, player.get(), u32::from(gameweek.get()), 0),
+            Node::TeamGw(entry, gameweek) => (3, entry.get(), u32::from(gameweek.get()), 0),
+            Node::Total(entry, start) => (4, entry.get(), u32::from(start.get()), 0),
+            Node::Average(league, gameweek) => (5, league.get(), u32::from(gameweek.get()), 0),
+            Node::Match(league, gameweek, place) => {
+                (
+                    6,
+                    league.get(),
+                    u32::from(gameweek.get()),
+                    u16::from(*place),
+                )
+            }
+            Node::HeadRow(league, entry) => (7, league.get(), entry.get(), 0),
+            Node::Tie(cup, round, place) => (8, cup.get(), u32::from(*round), *place),
         }
     }
 
-    // Its first number.
-    fn first(&self) -> u32
-        ensures { result ≡ first_of self.now }
+    // Its kind and its numbers in one number: the kind in the 4 lowest bits, the first number in the next 22, the second
+    // in the next 22, and the third in the highest 16. A greater number reaches into the bits of the next one.
+    #[inline(always)]
+    fn packed(&self) -> u64
+        ensures { result ≡ packed (kind_of self.now) (first_of self.now) (second_of self.now) (third_of self.now) }
     {
-        match self {
-            Node::Line(fixture, _) => fixture.get(),
-            Node::Bonus(fixture) => fixture.get(),
-            Node::PlayerGw(player, _) => player.get(),
-            Node::TeamGw(entry, _) => entry.get(),
-            Node::Total(entry, _) => entry.get(),
-            Node::Average(league, _) => league.get(),
-            Node::Match(league, _, _) => league.get(),
-            Node::HeadRow(league, _) => league.get(),
-        }
-    }
-
-    // Its second number, or 0 where it has none.
-    fn second(&self) -> u32
-        ensures { result ≡ second_of self.now }
-    {
-        match self {
-            Node::Line(_, player) => player.get(),
-            Node::Bonus(_) => 0,
-            Node::PlayerGw(_, gameweek) => u32::from(gameweek.get()),
-            Node::TeamGw(_, gameweek) => u32::from(gameweek.get()),
-            Node::Total(_, start) => u32::from(start.get()),
-            Node::Average(_, gameweek) => u32::from(gameweek.get()),
-            Node::Match(_, gameweek, _) => u32::from(gameweek.get()),
-            Node::HeadRow(_, entry) => entry.get(),
-        }
-    }
-
-    // Its third number, or 0 where it has none.
-    fn third(&self) -> u8
-        ensures { result ≡ third_of self.now }
-    {
-        match self {
-            Node::Line(..) => 0,
-            Node::Bonus(_) => 0,
-            Node::PlayerGw(..) => 0,
-            Node::TeamGw(..) => 0,
-            Node::Total(..) => 0,
-            Node::Average(..) => 0,
-            Node::Match(_, _, place) => *place,
-            Node::HeadRow(..) => 0,
-        }
+        let (kind, first, second, third) = self.numbers();
+        u64::from(kind) ^ u64::from(first) << 4 ^ u64::from(second) << 26 ^ u64::from(third) << 48
     }
 }
 
@@ -108,7 +81,9 @@ impl PartialEq for Node {
     ghost laws = { partial_equiv_from_equiv (eq_by_cmp_equiv node_total) };
 
     fn eq(&self, other: &Node) -> bool {
-        self.cmp(other) == Ordering::Equal
+        let (kind, first, second, third) = self.numbers();
+        let (other_kind, other_first, other_second, other_third) = other.numbers();
+        kind == other_kind && first == other_first && second == other_second && third == other_third
     }
 }
 
@@ -136,11 +111,12 @@ impl Ord for Node {
     ghost matches_eq = { λ n m. refl };
 
     fn cmp(&self, other: &Node) -> Ordering {
-        // The later numbers are read only where the earlier ones are the same, since most comparisons end before them.
-        match self.kind().cmp(&other.kind()) {
-            Ordering::Equal => match self.first().cmp(&other.first()) {
-                Ordering::Equal => match self.second().cmp(&other.second()) {
-                    Ordering::Equal => self.third().cmp(&other.third()),
+        let (kind, first, second, third) = self.numbers();
+        let (other_kind, other_first, other_second, other_third) = other.numbers();
+        match kind.cmp(&other_kind) {
+            Ordering::Equal => match first.cmp(&other_first) {
+                Ordering::Equal => match second.cmp(&other_second) {
+                    Ordering::Equal => third.cmp(&other_third),
                     decided => decided,
                 },
                 decided => decided,
@@ -151,15 +127,12 @@ impl Ord for Node {
 }
 
 impl Hash for Node {
-    ghost hash_input = { λ n. fed.u8 (kind_of n) ++ fed.u32 (first_of n) ++ fed.u32 (second_of n) ++ fed.u8 (third_of n) };
+    ghost hash_input = { λ n. fed.u64 (packed (kind_of n) (first_of n) (second_of n) (third_of n)) };
 
-    ghost respects_eq = { same_numbers (λ k x y z. fed.u8 k ++ fed.u32 x ++ fed.u32 y ++ fed.u8 z) };
+    ghost respects_eq = { same_numbers (λ k x y z. fed.u64 (packed k x y z)) };
 
     fn hash<H: Hasher>(&self, state: &mut H) {
-        self.kind().hash(state);
-        self.first().hash(state);
-        self.second().hash(state);
-        self.third().hash(state);
+        state.write_u64(self.packed());
     }
 }
 
@@ -182,6 +155,8 @@ pub enum Value {
     Match(MatchScores),
     /// What the member has of its matches.
     HeadRow(HeadScore),
+    /// The number of the entry that goes on, or 0 where nobody does.
+    Tie(u32),
 }
 
 /// What a line is worth without bonus, and what a gameweek takes from it.
@@ -423,6 +398,10 @@ pub fn is_same(a: &Value, b: &Value) -> bool
         },
         Value::HeadRow(x) => match b {
             Value::HeadRow(y) => *x == *y,
+            _ => false,
+        },
+        Value::Tie(x) => match b {
+            Value::Tie(y) => *x == *y,
             _ => false,
         },
     }

@@ -1,7 +1,7 @@
 -- Lists that a loop makes, one more element at a time.
-use Rattle.std.proofs.Common.{◌≡◌, ◌<◌, ◌+◌, ◌∷◌, [], ◌++◌, ℕ, Bool, true, false, List, All, length, get_or, map, take, arith, sym, ap, subst, ◌∙◌}
-use Rattle.std.specs.List.{filter, range_with_len}
-use Rattle.std.proofs.lemmas.List.{length-append, map-append}
+use Rattle.std.proofs.Common.{◌≡◌, ◌<◌, ◌+◌, ◌∷◌, [], ◌++◌, ℕ, Bool, true, false, List, All, length, get_or, map, take, arith, refl, sym, ap, subst, ◌∙◌}
+use Rattle.std.specs.List.{filter, flat_map, range_with_len}
+use Rattle.std.proofs.lemmas.List.{flat_map_more, length-append, map-append}
 use Rattle.std.proofs.lemmas.List.Elements.{All-push}
 use Rattle.std.proofs.lemmas.List.FromFn.{map-range_with_len_more}
 use Rattle.season_nodes.proofs.Lists.{take_next}
@@ -38,3 +38,19 @@ long_more n x old new long more = ap length more ∙ length-append old (x ∷ []
 
 pub all_more : {X : Type 0} (P : X → Type 0) (x : X) (old new : List X) → All P old → P x → new ≡ old ++ x ∷ [] → All P new
 all_more P x old new all one more = subst (All P) (sym more) (All-push P old x all one)
+
+same_map : (xs : List ℕ) → map (λ n. n) xs ≡ xs
+same_map [] = refl
+same_map (x ∷ xs) = ap (λ ys. x ∷ ys) (same_map xs)
+
+range_step : (a n j : ℕ) → a + n ≡ j → range_with_len a (n + 1) ≡ range_with_len a n ++ j ∷ []
+range_step a n j at =
+    sym (same_map (range_with_len a (n + 1))) ∙ map-range_with_len_more (λ k. k) a n j at ∙ ap (λ ns. ns ++ j ∷ []) (same_map (range_with_len a n))
+
+-- what a function makes of each number from 1 on, behind others, with one number more
+pub flat_next : {X : Type 0} (f : ℕ → List X) (front old new more : List X) (n k : ℕ) → k ≡ n + 1 → more ≡ f k → old ≡ front ++ flat_map f (range_with_len 1 n) → new ≡ old ++ more
+    → new ≡ front ++ flat_map f (range_with_len 1 (n + 1))
+flat_next f front old new more n k is made so_far grown =
+    let at : 1 + n ≡ k = omega (arith, is) in
+    grown ∙ ap (λ ns. ns ++ more) so_far ∙ ap (λ ns. (front ++ flat_map f (range_with_len 1 n)) ++ ns) made
+    ∙ flat_map_more f front (range_with_len 1 n) k ∙ ap (λ ns. front ++ flat_map f ns) (sym (range_step 1 n k at))

@@ -41,6 +41,7 @@ fn average_held(value: &Value) -> i32
         Value::Average(points) => points.get(),
         Value::Match(_) => 0,
         Value::HeadRow(_) => 0,
+        Value::Tie(_) => 0,
     }
 }
 
@@ -70,6 +71,7 @@ fn scores_held(value: &Value) -> (i32, i32)
         Value::Average(_) => (0, 0),
         Value::Match(scores) => scores.get(),
         Value::HeadRow(_) => (0, 0),
+        Value::Tie(_) => (0, 0),
     }
 }
 
@@ -213,9 +215,11 @@ fn seen<L: Ledger>(
     ensures near { IsWithin 18000000 result.0 }
     ensures cost { steps.new ≤ steps.old + 1 }
 {
-    let lower = books.lower(league, gameweek, place);
+    let _few = books.order(league);
+    let met = books.met(league, gameweek, place);
+    let lower = place.min(met) as u8;
     let (low, high) = scores_in(cells.get(Node::Match(league, gameweek, lower), steps));
-    if place < books.met(league, gameweek, place) {
+    if place < met {
         (low, high)
     } else {
         (high, low)

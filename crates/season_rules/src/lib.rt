@@ -6,8 +6,11 @@ mod heads;
 mod rounds;
 mod rules;
 mod teams;
+mod ties;
 mod totals;
+mod winners;
 mod worth;
 
 pub use rules::{SeasonCells, SeasonRules};
+pub use winners::winner_in;
 pub use worth::{bonus_among, figures_in, worth_in};

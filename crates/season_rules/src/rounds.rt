@@ -15,7 +15,7 @@ use season_nodes::{Books, Node};
 use std::alloc::Global;
 
 // The gameweek of an entry, if it is live.
-fn team_if(books: &Books, entry: EntryId, gameweek: Gw) -> Option<Node>
+pub(crate) fn team_if(books: &Books, entry: EntryId, gameweek: Gw) -> Option<Node>
     ensures { option_to_list result ≡ team_if (facts_of books.now) entry gameweek }
 {
     if books.has_team(entry, gameweek) {
@@ -37,7 +37,7 @@ fn opponent_input(books: &Books, league: LeagueId, gameweek: Gw, opponent: Oppon
 }
 
 // These nodes with one more behind them, if it is there.
-fn with_node(mut found: Vec<Node>, more: Option<Node>) -> Result<Vec<Node>, Memory>
+pub(crate) fn with_node(mut found: Vec<Node>, more: Option<Node>) -> Result<Vec<Node>, Memory>
     ensures { IfOk result (λ ns. ns.items ≡ found.items ++ option_to_list more) }
 {
     if let Some(node) = more {

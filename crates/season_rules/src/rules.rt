@@ -1,7 +1,7 @@
 // The rules by which the nodes of a season have values.
 ghost use Rattle.std.specs.Prelude.{◌≡◌, ◌+◌, ◌≤◌, ◌&&◌, nat_le, true, filter, map, IfOk, IsTrue, ◌↔◌};
 ghost use Rattle.season_nodes.specs.BookFacts.{facts_of};
-ghost use Rattle.season_nodes.specs.Dependents.{live_gameweek, line_dependents, bonus_dependents, gameweek_dependents, team_dependents, total_dependents};
+ghost use Rattle.season_nodes.specs.Dependents.{live_gameweek, line_dependents, bonus_dependents, gameweek_dependents, table_dependents, team_dependents, total_dependents};
 ghost use Rattle.season_nodes.specs.IndexFacts.{IsIndex, holders_in};
 ghost use Rattle.season_nodes.specs.NodeOrder.{node_exact};
 ghost use Rattle.season_nodes.specs.Season.{IsSeason, has_begun, is_there, season_graph, inputs_of, starts_of};
@@ -13,9 +13,11 @@ use crate::rounds::{
     average_dependents, average_inputs, match_dependents, match_inputs, row_inputs, with_round,
 };
 use crate::teams::team_gameweek;
+use crate::ties::{cup_dependents, tie_dependents, tie_inputs};
 use crate::totals::{counted_at, locked_from, total};
+use crate::winners::tie_winner;
 use crate::worth::{bonuses, gameweek_figures, line_worth};
-use fpl_base::{EntryId, FixtureId, Gw, Memory, PlayerId, Steps};
+use fpl_base::{CupId, EntryId, FixtureId, Gw, Memory, PlayerId, Steps};
 use rescore_graph::{Cells, Rules};
 use rule_book::Pick;
 use season_nodes::{
@@ -217,8 +219,25 @@ fn total_dependents(
     Ok(found)
 }
 
-// The nodes of which an entry's gameweek is an input: its totals from that one or from one before it on, and what its
-// leagues have of it.
+// The nodes of which an entry's gameweek is an input, but for ties: its totals from that one or from one before it on, and
+// what its leagues have of it.
+fn table_dependents(
+    books: &Books,
+    alloc: Global,
+    entry: EntryId,
+    gameweek: Gw,
+) -> Result<Vec<Node>, Memory>
+    ensures { IfOk result
+        (λ ns. ns.items ≡ table_dependents (facts_of books.now) entry gameweek) }
+{
+    let mut found = total_dependents(books, alloc, entry, gameweek)?;
+    for league in books.leagues.leagues_of(entry) {
+        found = with_round(found, books, entry, gameweek, *league)?;
+    }
+    Ok(found)
+}
+
+// The nodes of which an entry's gameweek is an input: these, and the ties that the entry can reach there.
 fn team_dependents(
     books: &Books,
     alloc: Global,
@@ -228,11 +247,20 @@ fn team_dependents(
     ensures { IfOk result
         (λ ns. ns.items ≡ team_dependents (facts_of books.now) entry gameweek) }
 {
-    let mut found = total_dependents(books, alloc, entry, gameweek)?;
-    for league in books.leagues.leagues_of(entry) {
-        found = with_round(found, books, entry, gameweek, *league)?;
+    let mut found = table_dependents(books, alloc, entry, gameweek)?;
+    for number in 0..books.cups.count() {
+        let cup = CupId::new(number + 1).unwrap();
+        let mut more = cup_dependents(books, alloc, entry, gameweek, cup)?;
+        found.append(&mut more)?;
     }
     Ok(found)
+}
+
+// The level of a tie: above that of the entries' gameweeks, and of the round before. A cup has ten rounds at most.
+fn tie_level(round: u8) -> u8
+    ensures { round ≤ 10 → result ≡ 4 + round }
+{
+    round.saturating_add(4)
 }
 
 /// The rules by which the nodes of a season have values.
@@ -263,6 +291,7 @@ impl Rules for SeasonRules<'_> {
             Node::Average(..) => 4,
             Node::Match(..) => 5,
             Node::HeadRow(..) => 6,
+            Node::Tie(_, round, _) => tie_level(round),
         }
     }
 
@@ -284,6 +313,9 @@ impl Rules for SeasonRules<'_> {
                 Ok(match_inputs(&self.books, alloc, league, gameweek, place)?)
             }
             Node::HeadRow(league, entry) => Ok(row_inputs(&self.books, alloc, league, entry)?),
+            Node::Tie(cup, round, place) => {
+                Ok(tie_inputs(&self.books, alloc, cup, round, place)?)
+            }
         }
     }
 
@@ -307,6 +339,9 @@ impl Rules for SeasonRules<'_> {
                 Ok(match_dependents(&self.books, alloc, league, gameweek, place)?)
             }
             Node::HeadRow(..) => Ok(Vec::new(alloc)),
+            Node::Tie(cup, round, place) => {
+                Ok(tie_dependents(&self.books, alloc, cup, round, place)?)
+            }
         }
     }
 
@@ -347,6 +382,10 @@ impl Rules for SeasonRules<'_> {
             Node::HeadRow(league, entry) => {
                 let score = head_row(&self.books, alloc, league, entry, cells, steps)?;
                 Ok(Value::HeadRow(score))
+            }
+            Node::Tie(cup, round, place) => {
+                let winner = tie_winner(&self.books, cup, round, place, cells, steps);
+                Ok(Value::Tie(winner))
             }
         }
     }

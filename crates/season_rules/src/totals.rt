@@ -57,6 +57,7 @@ fn net_held(value: &Value) -> i32
         Value::Average(_) => 0,
         Value::Match(_) => 0,
         Value::HeadRow(_) => 0,
+        Value::Tie(_) => 0,
     }
 }
 

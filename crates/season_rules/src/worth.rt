@@ -68,6 +68,7 @@ fn worth_held(value: &Value) -> LineWorth
         Value::Average(_) => no_worth(),
         Value::Match(_) => no_worth(),
         Value::HeadRow(_) => no_worth(),
+        Value::Tie(_) => no_worth(),
     }
 }
 
@@ -95,6 +96,7 @@ fn figures_held(value: &Value) -> Figures
         Value::Average(_) => no_figures(),
         Value::Match(_) => no_figures(),
         Value::HeadRow(_) => no_figures(),
+        Value::Tie(_) => no_figures(),
     }
 }
 
@@ -120,6 +122,7 @@ fn bonus_held(value: &Value, player: PlayerId) -> u8
         Value::Average(_) => 0,
         Value::Match(_) => 0,
         Value::HeadRow(_) => 0,
+        Value::Tie(_) => 0,
     }
 }
 

@@ -12,6 +12,7 @@ use Rattle.season_book.specs.LeagueCommands.{leagues_after}
 use Rattle.season_book.specs.declared.command.Command.{Command}
 use Rattle.season_book.specs.declared.command.Command.TheVariants as commands
 use Rattle.season_book.specs.declared.part.Part.TheVariants as part
+use Rattle.season_competitions.specs.Cups.{cups_after}
 use Rattle.season_entries.specs.Earlier.{RowsStayBefore}
 use Rattle.season_entries.specs.Keys.{new_manager}
 use Rattle.season_running.specs.Changed.{IsByManager, IsChangedBy, IsChangedIn}
@@ -29,10 +30,10 @@ module _ (caller : Caller) (command : Command) (old : Running) where
       let new : Running = record old { leagues = leagues } in
       subst (λ p. IsChangedIn p (caller_number caller) command old new) (sym is) (ap (λ ls. let r : Running = record old { leagues = ls } in r) same)
 
-  pub cups_changed : (cups : List Bracket) → part_of command ≡ part.Cups → IsChangedBy caller command old (record old { cups = cups })
-  cups_changed cups is =
+  pub cups_changed : (cups : List Bracket) → part_of command ≡ part.Cups → cups ≡ cups_after old.cups command → IsChangedBy caller command old (record old { cups = cups })
+  cups_changed cups is same =
       let new : Running = record old { cups = cups } in
-      subst (λ p. IsChangedIn p (caller_number caller) command old new) (sym is) (record { facts = refl; managers = refl; leagues = refl })
+      subst (λ p. IsChangedIn p (caller_number caller) command old new) (sym is) (ap (λ l. let r : Running = record old { cups = l } in r) same)
 
 module _ (caller : Caller) (command : Command) (facts : Facts) (leagues : List LeagueFacts) (cups : List Bracket) (old new : Managers) where
   abbrev season_with : List Manager → Running

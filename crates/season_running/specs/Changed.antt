@@ -12,6 +12,7 @@ use Rattle.season_book.specs.declared.command.Command.{Command}
 use Rattle.season_book.specs.declared.command.Command.TheVariants as command
 use Rattle.season_book.specs.declared.part.Part.{Part}
 use Rattle.season_book.specs.declared.part.Part.TheVariants as part
+use Rattle.season_competitions.specs.Cups.{cups_after}
 use Rattle.season_entries.specs.Earlier.{RowsStayBefore}
 use Rattle.season_entries.specs.Keys.{new_manager}
 use Rattle.season_running.specs.Standing.{Running}
@@ -35,20 +36,14 @@ pub record IsByManager (e : ℕ) (old new : Running) : Type 0 where
   pub earlier : (profile : Profile)
       → RowsStayBefore (next_gameweek old.facts.calendar) e (played_by profile old.managers) (played_by profile new.managers)
 
--- only the cups may be others
-pub record IsSameButCups (old new : Running) : Type 0 where
-  pub facts : new.facts ≡ old.facts
-  pub managers : new.managers ≡ old.managers
-  pub leagues : new.leagues ≡ old.leagues
-
--- entry e's command on this part was done: the facts or the leagues go on as it says, or it adds a manager behind the
--- others, and the other parts stay
+-- entry e's command on this part was done: the facts, the leagues or the cups go on as it says, or it adds a manager behind
+-- the others, and the other parts stay
 abbrev pub IsChangedIn : Part → ℕ → Command → Running → Running → Type 0
 IsChangedIn part.Facts e command old new = new ≡ record old { facts = changed_by old.facts command }
 IsChangedIn part.Entries e command old new = new ≡ record old { managers = managers_with old.managers command }
 IsChangedIn part.Deeds e command old new = IsByManager e old new
 IsChangedIn part.Leagues e command old new = new ≡ record old { leagues = leagues_after old.leagues e command }
-IsChangedIn part.Cups e command old new = IsSameButCups old new
+IsChangedIn part.Cups e command old new = new ≡ record old { cups = cups_after old.cups command }
 
 -- a caller's command was done
 abbrev pub IsChangedBy : Caller → Command → Running → Running → Type 0

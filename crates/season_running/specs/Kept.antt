@@ -6,4 +6,4 @@ use Rattle.season_running.specs.Standing.{Running}
 
 -- they hold what the rule book tells of it
 abbrev pub AreKeptBy : Running → SeasonRows → Type 0
-AreKeptBy running cells = AreKept running.facts (played_by running.facts.profile running.managers) running.leagues cells
+AreKeptBy running cells = AreKept running.facts (played_by running.facts.profile running.managers) running.leagues running.cups cells

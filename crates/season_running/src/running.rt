@@ -464,7 +464,7 @@ impl RunningSeason {
             return Answer::Unknown;
         };
         match self.cups.get(id) {
-            Some(there) => match cup(alloc, &self.season, &self.managers, cells, there, steps) {
+            Some(there) => match cup(alloc, &self.season, &self.managers, cells, id, there, steps) {
                 Ok(shown) => Answer::Shown(Shown::Cup(shown)),
                 Err(Memory) => Answer::Memory,
             },

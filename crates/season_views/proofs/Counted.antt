@@ -1,11 +1,11 @@
 -- How many rows and ties are shown, and that each view may read some.
-use Rattle.std.proofs.Common.{◌≡◌, ◌<◌, ◌≤◌, ◌+◌, ◌*◌, ◌/◌, true, ℕ, ℤ, zero, suc, List, [], ◌∷◌, ◌++◌, Option, Some, None, length, map, nat_le, if◌then◌else◌, arith, refl, ap, ◌∙◌}
+use Rattle.std.proofs.Common.{◌≡◌, ◌≤◌, ◌+◌, ◌*◌, ◌/◌, ◌^◌, true, ℕ, ℤ, zero, suc, List, [], Some, None, length, map, nat_le, if◌then◌else◌, arith, refl, ap, ◌∙◌}
 use Rattle.std.specs.List.{range_with_len, sum_by}
 use Rattle.std.proofs.lemmas.List.{length-map}
 use Rattle.std.proofs.lemmas.List.Sorted.{length_permutation}
 use Rattle.std.specs.Option.{option_map_or}
 use Rattle.std.proofs.lemmas.List.FromFn.{sum_by-map-range_with_len_more}
-use Rattle.std.proofs.lemmas.List.Sums.{sum_by-cons, sum_by_push}
+use Rattle.std.proofs.lemmas.List.Sums.{sum_by-cons}
 use Rattle.rule_book.specs.ClassicTable.{ranked}
 use Rattle.rule_book.specs.CupRounds.{locked_winners, rounds_of, rounds_shown, winners_of}
 use Rattle.rule_book.specs.HeadToHead.{head_ranked}
@@ -67,36 +67,35 @@ sum_grows weight f a (suc k) (suc n) le =
     let right = sum_by-cons weight (f a) (map f (range_with_len (a + 1) n)) in
     omega (arith, rest, left, right)
 
-module _ (b : Bracket) (side : ℕ → ℕ → Side) (locked round : ℕ) (shown : List (Option (List ℕ))) (so_far : shown ≡ map (locked_winners b side locked) (range_with_len 1 round)) where
-  -- the reads for the ties of the first rounds are those for a part of all ties that are shown
-  pub rounds_read : (start reads : ℕ) → round ≤ rounds_of b → reads ≤ start + 2 * ties_of shown → reads ≤ start + (3 * ties_of (rounds_shown b side locked) + 8)
-  rounds_read start reads few before =
-      let most = sum_grows (λ winners. option_map_or length winners 0) (locked_winners b side locked) 1 round (rounds_of b) few in
-      let is : ties_of shown ≡ ties_of (map (locked_winners b side locked) (range_with_len 1 round)) = ap ties_of so_far in
-      omega (arith, before, most, is)
+-- the ties of the first rounds of a cup
+abbrev pub ties_until : Bracket → (ℕ → ℕ → Side) → ℕ → ℕ → ℕ
+ties_until b side locked round = ties_of (map (locked_winners b side locked) (range_with_len 1 round))
 
-  -- and with those for a next one
-  pub next_read : (n start old new : ℕ) → round < rounds_of b → nat_le (b.start + (round + 1)) (locked + 1) ≡ true → length (winners_of b side (round + 1)) ≡ n / 2
-      → old ≤ start + 2 * ties_of shown → new ≤ old + 2 * (n / 2) → new ≤ start + (3 * ties_of (rounds_shown b side locked) + 8)
-  next_read n start old new few played long before after =
-      let most = sum_grows (λ winners. option_map_or length winners 0) (locked_winners b side locked) 1 (round + 1) (rounds_of b) (omega (arith, few)) in
-      let is : ties_of shown ≡ ties_of (map (locked_winners b side locked) (range_with_len 1 round)) = ap ties_of so_far in
+module _ (b : Bracket) (side : ℕ → ℕ → Side) (locked : ℕ) where
+  -- one read for each tie of a locked round
+  pub locked_read : (round start reads : ℕ) → nat_le (b.start + round) (locked + 1) ≡ true → length (winners_of b side round) ≡ length b.slots / 2 ^ round
+      → reads ≤ start + length b.slots / 2 ^ round → reads ≤ start + option_map_or length (locked_winners b side locked round) 0
+  locked_read round start reads played long read =
+      let one : option_map_or length (locked_winners b side locked round) 0 ≡ length (winners_of b side round) =
+      ap (λ t. option_map_or length (if t then Some (winners_of b side round) else None) 0) played in
+      omega (arith, one, long, read)
+
+  -- the reads for the ties of the first rounds, and those for the ties of a next one
+  pub round_read : (round start old new : ℕ) → old ≤ start + ties_until b side locked round → new ≤ old + option_map_or length (locked_winners b side locked (round + 1)) 0
+      → new ≤ start + ties_until b side locked (round + 1)
+  round_read round start old new before after =
       let more = sum_by-map-range_with_len_more (λ winners. option_map_or length winners 0) (locked_winners b side locked) 1 round (round + 1) (omega arith) in
-      let one : option_map_or length (locked_winners b side locked (round + 1)) 0 ≡ length (winners_of b side (round + 1)) =
-      ap (λ t. option_map_or length (if t then Some (winners_of b side (round + 1)) else None) 0) played in
-      omega (arith, before, after, most, is, more, one, long)
+      omega (arith, before, after, more)
 
--- the reads for a round whose ties are shown next, and for one that is open
-pub tie_read : (old new : List (Option (List ℕ))) (winners : List ℕ) (n start read more_read : ℕ) → new ≡ old ++ Some winners ∷ [] → length winners ≡ n / 2
-    → read ≤ start + 2 * ties_of old → more_read ≤ read + 2 * (n / 2) → more_read ≤ start + 2 * ties_of new
-tie_read old new winners n start read more_read is long before after =
-    let more : ties_of new ≡ ties_of old + length winners = ap ties_of is ∙ sum_by_push (λ winners. option_map_or length winners 0) old (Some winners) in
-    omega (arith, more, long, before, after)
+  -- they are no more than one for each tie that is shown
+  pub rounds_read : (round start reads : ℕ) → round ≤ rounds_of b → reads ≤ start + ties_until b side locked round → reads ≤ start + ties_of (rounds_shown b side locked)
+  rounds_read round start reads few before =
+      let most = sum_grows (λ winners. option_map_or length winners 0) (locked_winners b side locked) 1 round (rounds_of b) few in
+      omega (arith, before, most)
 
-pub none_read : (old new : List (Option (List ℕ))) (start read : ℕ) → new ≡ old ++ None ∷ [] → read ≤ start + 2 * ties_of old → read ≤ start + 2 * ties_of new
-none_read old new start read is before =
-    let more : ties_of new ≡ ties_of old + 0 = ap ties_of is ∙ sum_by_push (λ winners. option_map_or length winners 0) old None in
-    omega (arith, more, before)
+-- one for each tie is fewer than are allowed
+pub ties_read : (start reads ties : ℕ) → reads ≤ start + ties → reads ≤ start + (3 * ties + 8)
+ties_read start reads ties before = omega (arith, before)
 
 -- whatever is shown, 8 reads may be made
 eight_of : (s : Shown) → 8 ≤ reads_of s

@@ -1,6 +1,7 @@
 -- What is shown of a locked gameweek of a player who is there.
 use Rattle.std.proofs.Common.{◌≡◌, ◌&&◌, ℕ, List, Bool, true, Some, None, is_some, nat_le, sym, ap, ◌∙◌, if◌then◌else◌}
 use Rattle.std.proofs.lemmas.Option.{cond_some}
+use Rattle.rule_book.specs.declared.cup.Bracket.{Bracket}
 use Rattle.rule_book.specs.declared.player.Player.{Player}
 use Rattle.rule_book.specs.declared.team_score.Figures.{Figures}
 use Rattle.rule_book.specs.Calendar.{is_locked}
@@ -25,11 +26,11 @@ abbrev gameweek_figures : Facts → ℕ → ℕ → Figures
 gameweek_figures facts p g = figures_in facts.profile facts.calendar facts.players facts.matches p g
 
 -- a player who is found, and a locked gameweek, have a live node
-pub gameweek_is_live : (facts : Facts) (managers : Managers) (leagues : List LeagueFacts) (p g locked : ℕ) (player : Player)
+pub gameweek_is_live : (facts : Facts) (managers : Managers) (leagues : List LeagueFacts) (cups : List Bracket) (p g locked : ℕ) (player : Player)
     → Some player ≡ player_of facts.players p
     → Some locked ≡ (if nat_le 1 g && is_locked facts.calendar g then Some g else None)
-    → is_live (books_seen facts managers leagues) (node.PlayerGw player.id locked) ≡ true
-gameweek_is_live facts managers leagues p g locked player there is_locked_there =
+    → is_live (books_seen facts managers leagues cups) (node.PlayerGw player.id locked) ≡ true
+gameweek_is_live facts managers leagues cups p g locked player there is_locked_there =
     let is = cond_some (nat_le 1 g && is_locked facts.calendar g) g locked (sym is_locked_there) in
     ap (λ n. is_some (player_of facts.players n) && (nat_le 1 locked && nat_le locked facts.calendar.locked)) (player_has_id facts.players p player (sym there))
     ∙ ap (λ o. is_some o && (nat_le 1 locked && nat_le locked facts.calendar.locked)) (sym there)

@@ -1,5 +1,5 @@
 -- What managers stand for, by the numbers of entries: their histories and their names.
-use Rattle.std.proofs.Common.{◌≡◌, ◌≤◌, ◌-◌, ◌==◌, ℕ, zero, suc, true, false, true≢false, List, [], ◌∷◌, Option, Some, None, Result, Ok, Err, IfOk, arith, refl, sym, ap, subst, ◌∙◌, if◌then◌else◌, slice_index_or}
+use Rattle.std.proofs.Common.{◌≡◌, ◌≤◌, ◌-◌, ◌==◌, ℕ, zero, suc, false, List, [], ◌∷◌, Option, Some, None, Result, Ok, Err, IfOk, arith, refl, sym, ap, subst, ◌∙◌, if◌then◌else◌, slice_index_or}
 use Rattle.std.specs.List.{slice_get}
 use Rattle.std.specs.Option.{option_map, option_map_or}
 use Rattle.std.proofs.lemmas.Bool.Decides.{nat_tests}
@@ -14,7 +14,7 @@ use Rattle.season_ledger.specs.Stands.{StandsFor}
 use Rattle.manager_book.specs.declared.manager.Manager.{Manager}
 use Rattle.manager_book.specs.Managers.{Managers, name_of as name_by, nobody, season_of}
 use Rattle.season_book.specs.Book.{EntryFacts, Facts}
-use Rattle.season_book.specs.LeagueViews.{history_of, name_of, no_side, side_in}
+use Rattle.season_book.specs.LeagueViews.{history_of, name_of}
 use Rattle.season_entries.specs.Entries.{AreEntries}
 use Rattle.season_views.specs.Entries.{OfEachBook, OfEachHistory, OfEachNames}
 use Rattle.season_views.proofs.EntryRows.{have_positions}
@@ -43,14 +43,6 @@ in_books facts managers e Holds players one holds entries are =
     holds (history_of entries e)
     (subst (λ b. StandsFor (position_in facts.players) (season_of managers e) (option_map_or (λ entry. entry.history) (if b then None else slice_get entries (e - 1)) [])) (some_number e one)
     (stands_at facts.players managers.managers entries (e - 1) (have_positions facts.players players) are))
-
-must_be_zero : (n : ℕ) → (1 ≤ n → false ≡ true) → n ≡ 0
-must_be_zero zero none = refl
-must_be_zero (suc n) none = absurd (true≢false (sym (none (omega arith))))
-
--- the number 0 is nobody's, who has nothing
-pub nobody_has : (facts : Facts) (entries : List EntryFacts) (e g : ℕ) → (1 ≤ e → false ≡ true) → no_side ≡ side_in facts entries e g
-nobody_has facts entries e g none = ap (λ n. side_in facts entries n g) (sym (must_be_zero e none))
 
 -- the names at a place
 names_at : (players : List Player) (managers : List Manager) (entries : List EntryFacts) (place : ℕ) → AreEntries players managers entries

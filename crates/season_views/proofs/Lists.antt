@@ -1,7 +1,7 @@
 -- Lists that a loop makes, one more element at a time.
 use Rattle.std.proofs.Common.{◌≡◌, ◌<◌, ◌+◌, ◌∷◌, [], ◌++◌, ℕ, List, Some, length, get_or, map, take, refl, sym, ap, ◌∙◌}
 use Rattle.std.specs.List.{range_with_len, slice_get}
-use Rattle.std.proofs.lemmas.List.{length-append, take_more, map-append}
+use Rattle.std.proofs.lemmas.List.{take_more, map-append}
 use Rattle.std.proofs.lemmas.List.FromFn.{map-range_with_len_more}
 use Rattle.std.proofs.lemmas.Option.{slice_get_within, slice_get_read, slice_get-get_or, get_or_from_slice_get}
 
@@ -40,7 +40,3 @@ pub range_more : {X : Type 0} (f : ℕ → X) (a n j : ℕ) (x : X) (old new : L
     → new ≡ map f (range_with_len a (n + 1))
 range_more f a n j x old new at is so_far more =
     more ∙ ap (λ xs. xs ++ x ∷ []) so_far ∙ ap (λ y. map f (range_with_len a n) ++ y ∷ []) is ∙ sym (map-range_with_len_more f a n j at)
-
--- a list with one more
-pub long_more : {X : Type 0} (n : ℕ) (x : X) (old new : List X) → length old ≡ n → new ≡ old ++ x ∷ [] → length new ≡ n + 1
-long_more n x old new long more = ap length more ∙ length-append old (x ∷ []) ∙ ap (λ k. k + 1) long

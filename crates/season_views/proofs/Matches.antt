@@ -1,6 +1,7 @@
 -- The rows of a head-to-head league by what cells hold are those by the histories of its entries.
 use Rattle.std.proofs.Common.{◌≡◌, ◌≤◌, ◌+◌, ◌-◌, ℕ, zero, suc, ℤ, List, [], Option, Some, None, length, map, slice_index, arith, refl, ap, ap₂}
 use Rattle.std.specs.Option.{option_map_or}
+use Rattle.rule_book.specs.declared.cup.Bracket.{Bracket}
 use Rattle.rule_book.specs.Entries.{entry_in}
 use Rattle.rule_book.specs.HeadToHead.{head_score}
 use Rattle.rule_book.specs.LeagueRows.{head_row, head_rows, match_in, matches_of, place_of, points_against}
@@ -55,17 +56,17 @@ module _ (net points : ℕ → ℕ → ℤ) (locked : ℕ) (same : (e g : ℕ) �
         map_local (head_row net locked league) (head_row points locked league) league.members
         (λ e a. ap (λ matches. (e, head_score matches)) (found_same e (place_of league.order e)))
 
-module _ (facts : Facts) (managers : Managers) (leagues : List LeagueFacts) (entries : List EntryFacts) (players : ArePlayers facts.players) (tell : RowsAlwaysTell)
+module _ (facts : Facts) (managers : Managers) (leagues : List LeagueFacts) (cups : List Bracket) (entries : List EntryFacts) (players : ArePlayers facts.players) (tell : RowsAlwaysTell)
     (profile : managers.profile ≡ facts.profile) (are : AreEntries facts.players managers.managers entries) where
   -- the points of an entry by cells are those of its history; there is no entry 0, who would have none
-  points_are : (e g : ℕ) → 1 ≤ g → g ≤ facts.calendar.locked → net_told (books_seen facts managers leagues) e g ≡ net_in facts entries e g
+  points_are : (e g : ℕ) → 1 ≤ g → g ≤ facts.calendar.locked → net_told (books_seen facts managers leagues cups) e g ≡ net_in facts entries e g
   points_are zero g one by = refl
   points_are (suc e) g one by =
       let issued : 1 ≤ suc e = omega arith in
-      in_books facts managers (suc e) (λ h. net_told (books_seen facts managers leagues) (suc e) g ≡ net_by facts h g) players issued
-      (λ h stands. net_is facts managers leagues (suc e) h issued (tell (position_in facts.players) (season_of managers (suc e)) h stands) profile g one by) entries are
+      in_books facts managers (suc e) (λ h. net_told (books_seen facts managers leagues cups) (suc e) g ≡ net_by facts h g) players issued
+      (λ h stands. net_is facts managers leagues cups (suc e) h issued (tell (position_in facts.players) (season_of managers (suc e)) h stands) profile g one by) entries are
 
   -- and so the rows of a league
   pub rows_are : (league : LeagueFacts) → 1 ≤ league.start
-      → head_rows (net_told (books_seen facts managers leagues)) facts.calendar.locked league ≡ head_rows (net_in facts entries) facts.calendar.locked league
-  rows_are league first = rows_same (net_told (books_seen facts managers leagues)) (net_in facts entries) facts.calendar.locked points_are league first
+      → head_rows (net_told (books_seen facts managers leagues cups)) facts.calendar.locked league ≡ head_rows (net_in facts entries) facts.calendar.locked league
+  rows_are league first = rows_same (net_told (books_seen facts managers leagues cups)) (net_in facts entries) facts.calendar.locked points_are league first

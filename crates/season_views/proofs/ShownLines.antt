@@ -2,6 +2,7 @@
 use Rattle.std.proofs.Common.{◌≡◌, ◌<◌, ℕ, zero, suc, true, List, [], ◌∷◌, length, get_or, is_some, nat_lt, inl, inr, arith, refl, ap, ◌∙◌}
 use Rattle.std.specs.Option.{unwrap_or}
 use Rattle.std.proofs.lemmas.Bool.Decides.{nat_tests}
+use Rattle.rule_book.specs.declared.cup.Bracket.{Bracket}
 use Rattle.rule_book.specs.declared.line.Line.{Line}
 use Rattle.rule_book.specs.ById.{at_id}
 use Rattle.rule_book.specs.Leagues.{LeagueFacts}
@@ -34,18 +35,18 @@ some_lines : (n i : ℕ) → i < n → nat_lt 0 n ≡ true
 some_lines n i within = grind (arith, nat_tests, within)
 
 -- where a line stands, the bonus of its fixture is live
-pub bonus_is_live : (facts : Facts) (managers : Managers) (leagues : List LeagueFacts) (f i : ℕ) → i < length (lines_of facts.matches f) → is_live (books_seen facts managers leagues) (node.Bonus f) ≡ true
-bonus_is_live facts managers leagues f i within = some_lines (length (lines_of facts.matches f)) i within
+pub bonus_is_live : (facts : Facts) (managers : Managers) (leagues : List LeagueFacts) (cups : List Bracket) (f i : ℕ) → i < length (lines_of facts.matches f) → is_live (books_seen facts managers leagues cups) (node.Bonus f) ≡ true
+bonus_is_live facts managers leagues cups f i within = some_lines (length (lines_of facts.matches f)) i within
 
-module _ (facts : Facts) (managers : Managers) (leagues : List LeagueFacts) (f : ℕ) (row : ℕ × Line) (told : IsLineTold (books_seen facts managers leagues) f row) where
-  pub line_is_live : is_live (books_seen facts managers leagues) (node.Line f row.0) ≡ true
+module _ (facts : Facts) (managers : Managers) (leagues : List LeagueFacts) (cups : List Bracket) (f : ℕ) (row : ℕ × Line) (told : IsLineTold (books_seen facts managers leagues cups) f row) where
+  pub line_is_live : is_live (books_seen facts managers leagues cups) (node.Line f row.0) ≡ true
   line_is_live = ap is_some told.found
 
   -- a line is shown with what is told of its node, and with its bonus among those that are told of its fixture
-  pub row_shown : (bonuses : List (ℕ × ℕ)) (shown : ShownLine) → bonuses ≡ bonuses_told (books_seen facts managers leagues) f
-      → shown ≡ line_with row.0 (line_worth (books_seen facts managers leagues) f row.0) (unwrap_or (at_id bonuses row.0) 0) → shown ≡ line_shown facts f row
+  pub row_shown : (bonuses : List (ℕ × ℕ)) (shown : ShownLine) → bonuses ≡ bonuses_told (books_seen facts managers leagues cups) f
+      → shown ≡ line_with row.0 (line_worth (books_seen facts managers leagues cups) f row.0) (unwrap_or (at_id bonuses row.0) 0) → shown ≡ line_shown facts f row
   row_shown bonuses shown are is =
       is
-      ∙ ap (λ rows. line_with row.0 (line_worth (books_seen facts managers leagues) f row.0) (unwrap_or (at_id rows row.0) 0)) are
-      ∙ ap (λ w. line_with row.0 w (unwrap_or (at_id (bonuses_told (books_seen facts managers leagues) f) row.0) 0)) told.worth
+      ∙ ap (λ rows. line_with row.0 (line_worth (books_seen facts managers leagues cups) f row.0) (unwrap_or (at_id rows row.0) 0)) are
+      ∙ ap (λ w. line_with row.0 w (unwrap_or (at_id (bonuses_told (books_seen facts managers leagues cups) f) row.0) 0)) told.worth
       ∙ ap (line_with row.0 (worth_of facts.profile (position_in facts.players row.0) row.1)) told.bonus

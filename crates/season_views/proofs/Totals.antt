@@ -6,6 +6,7 @@ use Rattle.std.proofs.Math.Bool.{and-true}
 use Rattle.std.proofs.lemmas.Bool.{le-leb}
 use Rattle.std.proofs.lemmas.Bool.Decides.{nat_tests}
 use Rattle.std.proofs.lemmas.Option.{same_Some}
+use Rattle.rule_book.specs.declared.cup.Bracket.{Bracket}
 use Rattle.rule_book.specs.Entries.{entry_in}
 use Rattle.rule_book.specs.HeadToHead.{total_of}
 use Rattle.rule_book.specs.History.{Event}
@@ -44,30 +45,30 @@ late_by : (first from locked : ℕ) (begun : Bool) → nat_le first locked ≡ b
 late_by first from locked true is not = let late = not_by from locked not in omega (arith, late)
 late_by first from locked false is not = let late = not_by first locked is in omega (arith, late)
 
-module _ (facts : Facts) (managers : Managers) (leagues : List LeagueFacts) (e s : ℕ) (h : List Event) (issued : 1 ≤ e) (one : 1 ≤ s) (start : has_start (books_seen facts managers leagues) e s ≡ true)
+module _ (facts : Facts) (managers : Managers) (leagues : List LeagueFacts) (cups : List Bracket) (e s : ℕ) (h : List Event) (issued : 1 ≤ e) (one : 1 ≤ s) (start : has_start (books_seen facts managers leagues cups) e s ≡ true)
     (tell : Tell (position_in facts.players) (season_of managers e) h) (profile : managers.profile ≡ facts.profile) where
   -- an entry has a total where its history has begun, and the start is locked
-  live_is : is_live (books_seen facts managers leagues) (node.Total e s) ≡ (is_begun h facts.calendar.locked && nat_le s facts.calendar.locked)
+  live_is : is_live (books_seen facts managers leagues cups) (node.Total e s) ≡ (is_begun h facts.calendar.locked && nat_le s facts.calendar.locked)
   live_is =
       let begun : Bool = is_begun h facts.calendar.locked in
       let late : Bool = nat_le s facts.calendar.locked in
-      let from : Bool = has_start (books_seen facts managers leagues) e s in
-      ap (λ b. (b && from) && (nat_le 1 s && late)) (begun_is facts managers leagues e h issued tell facts.calendar.locked)
+      let from : Bool = has_start (books_seen facts managers leagues cups) e s in
+      ap (λ b. (b && from) && (nat_le 1 s && late)) (begun_is facts managers leagues cups e h issued tell facts.calendar.locked)
       ∙ ap (λ b. (begun && b) && (nat_le 1 s && late)) start
       ∙ ap (λ b. (begun && true) && (b && late)) (le-leb 1 s one)
       ∙ ap (λ b. b && late) (and-true begun)
 
   nets_are : (first from count : ℕ) → start_of h ≡ Some first → first ≤ from
-      → map (λ g. (gameweek_score (books_seen facts managers leagues) e g).net) (range_with_len from count) ≡ map (net_by facts h) (range_with_len from count)
+      → map (λ g. (gameweek_score (books_seen facts managers leagues cups) e g).net) (range_with_len from count) ≡ map (net_by facts h) (range_with_len from count)
   nets_are first from zero at le = refl
   nets_are first from (suc n) at le =
-      let net : ℕ → ℤ = λ g. (gameweek_score (books_seen facts managers leagues) e g).net in
+      let net : ℕ → ℤ = λ g. (gameweek_score (books_seen facts managers leagues cups) e g).net in
       let begun = begun_by h first from at le in
-      ap (λ z. z ∷ map net (range_with_len (from + 1) n)) (ap (λ score. score.net) (scored facts managers leagues e h issued tell profile from begun) ∙ sym (net_begun facts h from begun))
+      ap (λ z. z ∷ map net (range_with_len (from + 1) n)) (ap (λ score. score.net) (scored facts managers leagues cups e h issued tell profile from begun) ∙ sym (net_begun facts h from begun))
       ∙ ap (λ rest. net_by facts h from ∷ rest) (nets_are first (from + 1) n at (omega (arith, le)))
 
   same_total : (o : Option ℕ) → start_of h ≡ o
-      → total_from (λ g. (gameweek_score (books_seen facts managers leagues) e g).net) s o facts.calendar.locked ≡ total_from (net_by facts h) s o facts.calendar.locked
+      → total_from (λ g. (gameweek_score (books_seen facts managers leagues cups) e g).net) s o facts.calendar.locked ≡ total_from (net_by facts h) s o facts.calendar.locked
   same_total None at = refl
   same_total (Some first) at = ap total_of (nets_are first (max s first) ((facts.calendar.locked + 1) - max s first) at (omega arith))
 
@@ -79,16 +80,16 @@ module _ (facts : Facts) (managers : Managers) (leagues : List LeagueFacts) (e s
       (late_by first s facts.calendar.locked (is_begun h facts.calendar.locked) (begun_told h (Some first) facts.calendar.locked told) dead))
 
   live_case : (live : Bool) → (is_begun h facts.calendar.locked && nat_le s facts.calendar.locked) ≡ live
-      → (if live then total_told (books_seen facts managers leagues) e s else pos 0) ≡ total_since facts h s
+      → (if live then total_told (books_seen facts managers leagues cups) e s else pos 0) ≡ total_since facts h s
   live_case true is =
-      ap (λ o. total_from (λ g. (gameweek_score (books_seen facts managers leagues) e g).net) s o facts.calendar.locked) ((first_is_the_start h (first_in (season_of managers e))).0 tell.first)
+      ap (λ o. total_from (λ g. (gameweek_score (books_seen facts managers leagues cups) e g).net) s o facts.calendar.locked) ((first_is_the_start h (first_in (season_of managers e))).0 tell.first)
       ∙ same_total (start_of h) refl
   live_case false is = no_total (start_of h) refl is
 
   -- what its cell holds is the total of its history
-  pub total_is : (if is_live (books_seen facts managers leagues) (node.Total e s) then total_told (books_seen facts managers leagues) e s else pos 0) ≡ total_since facts h s
+  pub total_is : (if is_live (books_seen facts managers leagues cups) (node.Total e s) then total_told (books_seen facts managers leagues cups) e s else pos 0) ≡ total_since facts h s
   total_is =
-      ap (λ b. if b then total_told (books_seen facts managers leagues) e s else pos 0) live_is
+      ap (λ b. if b then total_told (books_seen facts managers leagues cups) e s else pos 0) live_is
       ∙ live_case (is_begun h facts.calendar.locked && nat_le s facts.calendar.locked) refl
 
 -- The gameweeks from which an entry has a total.
@@ -124,10 +125,10 @@ starts_with : (league : LeagueFacts) → is_head league.kind ≡ false → start
 starts_with league classic = ap (λ b. if b then None else Some league.start) classic
 
 -- a member of a classic league has a total from its start on
-league_start : (facts : Facts) (managers : Managers) (leagues : List LeagueFacts) (l : ℕ) (league : LeagueFacts) (e : ℕ) → entry_in leagues l ≡ Some league → is_head league.kind ≡ false → is_member league e ≡ true
-    → has_start (books_seen facts managers leagues) e league.start ≡ true
-league_start facts managers leagues l league e at classic is =
-    let b = books_seen facts managers leagues in
+league_start : (facts : Facts) (managers : Managers) (leagues : List LeagueFacts) (cups : List Bracket) (l : ℕ) (league : LeagueFacts) (e : ℕ) → entry_in leagues l ≡ Some league → is_head league.kind ≡ false → is_member league e ≡ true
+    → has_start (books_seen facts managers leagues cups) e league.start ≡ true
+league_start facts managers leagues cups l league e at classic is =
+    let b = books_seen facts managers leagues cups in
     let there = from_entry leagues l league (l == 0) refl at in
     let place : 1 + (l - 1) ≡ l = omega (arith, there.0) in
     let mine : Among (leagues_of leagues e) l = subst (Among (leagues_of leagues e)) place (listed 1 leagues e (l - 1) league there.1 is) in
@@ -136,11 +137,11 @@ league_start facts managers leagues l league e at classic is =
     (inr (to_flat (classic_starts leagues) (leagues_of leagues e) l league.start mine (subst (λ o. Among (option_map_or (λ n. n ∷ []) o []) league.start) (sym from) (inl refl))))
 
 -- and each entry from the first gameweek on
-pub first_start : (facts : Facts) (managers : Managers) (leagues : List LeagueFacts) (e : ℕ) → has_start (books_seen facts managers leagues) e 1 ≡ true
-first_start facts managers leagues e = to_any 1 (starts_of (books_seen facts managers leagues) e) (inl refl)
+pub first_start : (facts : Facts) (managers : Managers) (leagues : List LeagueFacts) (cups : List Bracket) (e : ℕ) → has_start (books_seen facts managers leagues cups) e 1 ≡ true
+first_start facts managers leagues cups e = to_any 1 (starts_of (books_seen facts managers leagues cups) e) (inl refl)
 
 -- so cells that are kept of a classic league hold the totals of its members
 pub kept_from : (facts : Facts) (managers : Managers) (league : LeagueFacts) (cells : SeasonRows) (i e : ℕ) → is_head league.kind ≡ false → i < length league.members → e ≡ get_or league.members i e
     → AreKeptWith facts managers league cells → AreKeptFrom facts managers e league.start cells
-kept_from facts managers league cells i e classic within is (l, (leagues, at, kept)) =
-    (leagues, league_start facts managers leagues l league e at classic (member_at league.members i e within is), kept)
+kept_from facts managers league cells i e classic within is (l, (leagues, cups, at, kept)) =
+    (leagues, cups, league_start facts managers leagues cups l league e at classic (member_at league.members i e within is), kept)

@@ -1,89 +1,60 @@
 // What is shown of a cup.
-ghost use Rattle.std.specs.Prelude.{◌≡◌, ◌≤◌, ◌<◌, ◌+◌, ◌*◌, ◌/◌, ◌^◌, IfOk, IsTrue, length, nat_le};
-ghost use Rattle.rule_book.specs.Cups.{goes_through};
-ghost use Rattle.cup_rounds.specs.Rounds.{next_winners};
+ghost use Rattle.std.specs.Prelude.{◌≡◌, ◌≤◌, ◌<◌, ◌+◌, ◌/◌, ◌^◌, IfOk, IsTrue, Some, length, nat_le};
+ghost use Rattle.std.specs.Option.{option_map_or};
+ghost use Rattle.rule_book.specs.CupRounds.{locked_winners, winners_of};
+ghost use Rattle.rule_book.specs.Entries.{entry_in};
 ghost use Rattle.cup_rounds.specs.Shapes.{HasShape};
 ghost use Rattle.season_book.specs.LeagueViews.{cup_shown, side_in};
 ghost use Rattle.season_book.specs.declared.shown.Shown.TheVariants as shown_as;
-ghost use Rattle.season_views.specs.Cells.{AreKeptIn};
+ghost use Rattle.season_graph.specs.Followed.{AreEvaluated};
+ghost use Rattle.season_graph.specs.Told.{side_told};
+ghost use Rattle.season_nodes.specs.Season.{SeasonFacts};
+ghost use Rattle.season_views.specs.Cells.{AreKeptAt};
 ghost use Rattle.season_views.specs.Entries.{OfEachBook};
-ghost use Rattle.season_views.specs.Reads.{reads_of};
+ghost use Rattle.season_views.specs.Reads.{reads_of, ties_of};
 
-use crate::sides::side_at;
-use cup_rounds::{coin, rounds, rounds_follow, tie};
-use fpl_base::{Gw, ListOf, Memory, Steps};
+use cup_rounds::{rounds, rounds_follow};
+use fpl_base::{CupId, ListOf, Memory, Steps};
 use manager_book::ManagerBook;
 use rule_book::{Bracket, Slots};
 use season_book::ShownCup;
 use season_facts::Season;
-use season_graph::SeasonCells;
+use season_graph::{SeasonCells, tie_held};
+use season_ledger::rows_tell;
 use std::alloc::Global;
 use std::sync::ledger::Ledger;
 
-// Who goes on of two slots in a gameweek. Only where neither is a bye the two are compared.
-fn goes_through<L: Ledger>(
-    season: &Season,
-    managers: &ManagerBook,
-    cells: &SeasonCells,
-    first: u32,
-    second: u32,
-    gameweek: Gw,
-    coin: u8,
-    steps: &mut Steps<L>,
-) -> u32
-    requires profile { managers.now.profile ≡ season.now.profile }
-    requires kept { AreKeptIn season.now managers.now cells.now }
-    requires locked { gameweek ≤ season.now.calendar.locked }
-    ensures value { OfEachBook season.now managers.now
-        (λ entries. result ≡ goes_through first second (λ e. side_in season.now entries e gameweek) coin) }
-    ensures cost { steps.new ≤ steps.old + 2 }
+// How many ties the round after so many rounds has.
+fn ties(bracket: &Bracket, round: u8) -> u16
+    requires shape { HasShape bracket.now }
+    requires round { round < 10 }
+    ensures { result ≡ length bracket.now.slots / 2 ^ (round + 1) }
 {
-    if first == 0 {
-        return second;
-    }
-    if second == 0 {
-        return first;
-    }
-    let one = side_at(season, managers, cells, first, gameweek, steps);
-    let other = side_at(season, managers, cells, second, gameweek, steps);
-    if tie(&one, &other, coin) {
-        first
-    } else {
-        second
-    }
+    let _rounds = rounds(bracket);
+    (bracket.slots.as_slice().len() >> (round + 1)) as u16
 }
 
-// The winners of the round after so many rounds, which had these winners.
-fn next_winners<L: Ledger>(
+// Who goes on from each tie of the round after so many rounds, as the cells hold it.
+fn winners_held<L: Ledger>(
     alloc: Global,
-    season: &Season,
-    managers: &ManagerBook,
     cells: &SeasonCells,
+    id: CupId,
     bracket: &Bracket,
     round: u8,
-    winners: &[u32],
     steps: &mut Steps<L>,
 ) -> Result<Slots, Memory>
-    requires profile { managers.now.profile ≡ season.now.profile }
-    requires kept { AreKeptIn season.now managers.now cells.now }
     requires shape { HasShape bracket.now }
-    requires gameweek { bracket.now.start + round ≤ season.now.calendar.locked }
-    requires long { length winners.now ≡ length bracket.now.slots / 2 ^ round }
-    ensures value { IfOk result (λ next. OfEachBook season.now managers.now
-        (λ entries. next ≡ next_winners bracket.now (side_in season.now entries) round winners.now)) }
-    ensures long { IfOk result (λ next. length next ≡ length winners.now / 2) }
-    ensures cost { steps.new ≤ steps.old + 2 * (length winners.now / 2) }
+    requires round { round < 10 }
+    ensures value { IfOk result (λ winners. (b : SeasonFacts) → AreEvaluated b cells.now → entry_in b.cups id ≡ Some bracket.now
+        → bracket.now.start + round ≤ b.calendar.locked → winners ≡ winners_of bracket.now (side_told b) (round + 1)) }
+    ensures cost { steps.new ≤ steps.old + length bracket.now.slots / 2 ^ (round + 1) }
 {
-    let gameweek = Gw::new(bracket.start.get() + round).unwrap();
-    let mut next = Slots::with_room(alloc, winners.len() / 2)?;
-    for place in 0..winners.len() / 2 {
-        let (first, second) = (winners[2 * place], winners[2 * place + 1]);
-        let coin = coin(bracket, round, place);
-        next.push(goes_through(
-            season, managers, cells, first, second, gameweek, coin, steps,
-        ))?;
+    let count = ties(bracket, round);
+    let mut winners = Slots::with_room(alloc, usize::from(count))?;
+    for place in 0..count {
+        winners.push(tie_held(cells, id, round, place, steps))?;
     }
-    Ok(next)
+    Ok(winners)
 }
 
 // Whether the gameweek of the round after so many rounds is locked.
@@ -91,49 +62,69 @@ fn is_played(season: &Season, bracket: &Bracket, round: u8) -> bool
     requires { round < 10 }
     ensures value { result ≡ nat_le (bracket.now.start + (round + 1)) (season.now.calendar.locked + 1) }
     ensures gameweek { IsTrue result → bracket.now.start + round ≤ season.now.calendar.locked }
+    ensures first { 1 ≤ bracket.now.start }
 {
     bracket.start.get() + round <= season.calendar().locked()
 }
 
-/// A cup with the winners of its rounds, tie by tie; `None` for a round whose gameweek is open. A round is worked out from
-/// the winners of the one before, and what two entries have in a gameweek only where they meet there. Each cell that
-/// it reads is a counted read (docs/RULES.md, "Cups").
+// The winners of the round after so many rounds; `None` where its gameweek is open.
+fn winners_shown<L: Ledger>(
+    alloc: Global,
+    season: &Season,
+    managers: &ManagerBook,
+    cells: &SeasonCells,
+    id: CupId,
+    bracket: &Bracket,
+    round: u8,
+    steps: &mut Steps<L>,
+) -> Result<Option<Slots>, Memory>
+    requires profile { managers.now.profile ≡ season.now.profile }
+    requires kept { AreKeptAt season.now managers.now id bracket.now cells.now }
+    requires shape { HasShape bracket.now }
+    requires round { round < 10 }
+    ensures value { IfOk result (λ winners. OfEachBook season.now managers.now
+        (λ entries. winners ≡ locked_winners bracket.now (side_in season.now entries) season.now.calendar.locked (round + 1))) }
+    ensures cost { OfEachBook season.now managers.now
+        (λ entries. steps.new ≤ steps.old + option_map_or length (locked_winners bracket.now (side_in season.now entries) season.now.calendar.locked (round + 1)) 0) }
+{
+    // The laws that rows tell what their histories do, how many winners a round has, and that the ids of players rise, for
+    // the prover.
+    rows_tell();
+    rounds_follow();
+    let _count = season.players().len();
+    if is_played(season, bracket, round) {
+        Ok(Some(winners_held(alloc, cells, id, bracket, round, steps)?))
+    } else {
+        Ok(None)
+    }
+}
+
+/// A cup with the winners of its rounds, tie by tie; `None` for a round whose gameweek is open. It has the number `id`
+/// among those that the cells are kept of. Who goes on from a tie is read of its cell. Each cell that it reads is a counted
+/// read (docs/RULES.md, "Cups").
 pub fn cup<L: Ledger>(
     alloc: Global,
     season: &Season,
     managers: &ManagerBook,
     cells: &SeasonCells,
+    id: CupId,
     bracket: &Bracket,
     steps: &mut Steps<L>,
 ) -> Result<ShownCup, Memory>
     requires profile { managers.now.profile ≡ season.now.profile }
-    requires kept { AreKeptIn season.now managers.now cells.now }
+    requires kept { AreKeptAt season.now managers.now id bracket.now cells.now }
     requires shape { HasShape bracket.now }
     ensures value { IfOk result (λ shown. OfEachBook season.now managers.now
         (λ entries. shown ≡ cup_shown season.now entries bracket.now)) }
+    ensures each { OfEachBook season.now managers.now
+        (λ entries. steps.new ≤ steps.old + ties_of (cup_shown season.now entries bracket.now).rounds) }
     ensures cost { OfEachBook season.now managers.now
         (λ entries. steps.new ≤ steps.old + reads_of (shown_as.Cup (cup_shown season.now entries bracket.now))) }
 {
-    // The law by which each round follows from the one before.
-    rounds_follow();
     let mut shown = ListOf::with_room(alloc, 10)?;
-    let mut winners = bracket.slots.copy()?;
     for round in 0..rounds(bracket) {
-        if is_played(season, bracket, round) {
-            winners = next_winners(
-                alloc,
-                season,
-                managers,
-                cells,
-                bracket,
-                round,
-                winners.as_slice(),
-                steps,
-            )?;
-            shown.push(Some(winners.copy()?))?;
-        } else {
-            shown.push(None)?;
-        }
+        let winners = winners_shown(alloc, season, managers, cells, id, bracket, round, steps)?;
+        shown.push(winners)?;
     }
     Ok(ShownCup {
         start: bracket.start,

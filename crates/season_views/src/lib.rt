@@ -8,7 +8,6 @@ mod head;
 mod leagues;
 mod names;
 mod sheets;
-mod sides;
 mod views;
 
 pub use cups::cup;

@@ -1,24 +1,17 @@
-use Rattle.std.proofs.Common.{◌≡◌, ◌∙◌, ap, subst, List, map, rules, IsPermutation}
-use Rattle.std.specs.List.{zip}
-use Rattle.std.specs.Ordering.{is_lt, ordering_then, nat_cmp, int_cmp}
-use Rattle.std.proofs.lemmas.List.Sorted.{answers_always}
-use Rattle.rule_book.specs.Ranks.{rank_among}
-use Rattle.rule_book.specs.ClassicTable.{is_better, ranked}
+use Rattle.std.proofs.Common.{◌≡◌, ◌∙◌, sym, ap, subst, List, map, IsPermutation, IsSorted}
+use Rattle.std.proofs.lemmas.Result.{IfOk-weaker}
+use Rattle.rule_book.specs.ClassicTable.{IsClassicTable}
 use Rattle.rule_book.specs.declared.tables.Ranked.{Ranked}
-use Rattle.rule_book.proofs.TableLemmas.{rows_with_ranks}
-use Rattle.classic_leagues.specs.Standing.{standing_of_row, with_rank}
-use Rattle.classic_leagues.specs.declared.classic_table.Standing.{Standing}
-use Rattle.classic_leagues.proofs.StandingLemmas.{less_is_better}
+use Rattle.classic_leagues.specs.Standing.{placed_of_row, by_place, ranked_placed}
+use Rattle.classic_leagues.specs.declared.classic_table.Placed.{Placed}
+use Rattle.classic_leagues.proofs.StandingLemmas.{is_table}
 use Rattle.classic_leagues.proofs.classic_table.table.Goals as goal
 
 pub returns : goal.returns
 returns c =
     let rows = c.args.rows.now in
-    let less = λ (a : Standing) (b : Standing). is_lt (ordering_then (int_cmp b.total.0 a.total.0) (nat_cmp a.transfers b.transfers)) in
-    let ranks = c.in_ok-ranks.ensures ∙ ap (λ (l : List Standing). map (rank_among less l) l) c.deref.ensures.value in
-    let same : c.in_ok-table.table.items ≡ map (ranked rows) rows =
-    c.in_ok-table.ensures ∙ ap (λ l. map with_rank (zip rows l)) c.deref-2.ensures.value ∙ rows_with_ranks standing_of_row less is_better with_rank less_is_better rows c.in_ok-standings.standings.items c.in_ok-ranks.ranks.items c.in_ok-standings.ensures.each ranks in
-    record {
-      each_ranked = subst (λ (l : List Ranked). IsPermutation l c.sort_by_key.new.self.items) same c.in_ok-sort_by_key.ensures.permutation;
-      in_order = c.in_ok-sort_by_key.ensures.sorted (λ (row : Ranked). (row.rank, row.entry)) (answers_always _ _ _ (λ f a r q k. search rules));
-    }
+    let sorted = c.sort_unstable.new.self.items in
+    let moved : IsPermutation (map placed_of_row rows) sorted = subst (λ (l : List Placed). IsPermutation l sorted) c.in_ok-placed.ensures.each c.sort_unstable.ensures.permutation in
+    let whole : IsClassicTable rows (map (ranked_placed sorted) sorted) = is_table rows sorted moved c.sort_unstable.ensures.sorted in
+    let same : map (ranked_placed c.deref.result.now) c.deref.result.now ≡ map (ranked_placed sorted) sorted = ap (λ (l : List Placed). map (ranked_placed l) l) c.deref.ensures.value in
+    IfOk-weaker c.ranked_rows.result _ _ (λ table is. subst (IsClassicTable rows) (sym (is ∙ same)) whole) c.ranked_rows.ensures

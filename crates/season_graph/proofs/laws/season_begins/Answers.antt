@@ -11,10 +11,11 @@ nobody : false ≡ true → ⊥
 nobody e = cc
 
 pub returns : goal.returns
-returns c = λ b lawful empty orders. record {
+returns c = λ b lawful empty orders brackets. record {
   calendar = lawful;
   ascending = λ f. subst (λ (m : MatchFacts). Rising (players_in (lines_of m f))) (sym empty) tt;
   ranges = λ f p line e. absurd (no_line line (sym (ap (λ (m : MatchFacts). line_of m f p) empty) ∙ e));
   there = λ f p h. absurd (nobody (sym (ap (λ (m : MatchFacts). is_some (line_of m f p)) empty) ∙ h));
   orders = orders;
+  brackets = brackets;
 }

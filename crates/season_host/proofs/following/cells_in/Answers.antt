@@ -8,5 +8,5 @@ use Rattle.season_host.proofs.following.cells_in.Goals as goal
 pub returns : goal.returns
 returns g c =
     let running = c.args.running.now in
-    let same = seen_is running c.season.result.now c.managers.result.now c.leagues.result.now c.season.ensures c.managers.ensures.managers c.managers.ensures.profile c.leagues.ensures in
+    let same = seen_is running c.season.result.now c.managers.result.now c.leagues.result.now c.cups.result.now c.season.ensures c.managers.ensures.managers c.managers.ensures.profile c.leagues.ensures c.cups.ensures in
     if_ok _ _ c.anew.result (λ kept are. subst (λ (f : SeasonFacts). AreCellsOf f kept) same are) c.anew.ensures

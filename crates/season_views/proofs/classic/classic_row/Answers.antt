@@ -16,6 +16,7 @@ returns-clause-value g c entries are =
     let facts = c.args.season.now in
     let managers = c.args.managers.now in
     let leagues = c.requires.kept.0 in
+    let cups = c.requires.kept.1 in
     let e = c.args.entry in
     let s = c.args.start in
     let position = position_in facts.players in
@@ -24,8 +25,8 @@ returns-clause-value g c entries are =
     let first : 1 ≤ s = search rules in
     let total = in_books facts managers e (λ h. c.total_held-total.result ≡ total_since facts h s) lawful one
     (λ h stands.
-    c.total_held-total.ensures.value (books_seen facts managers leagues) c.requires.kept.2.evaluated
-    ∙ total_is facts managers leagues e s h one first c.requires.kept.1 (c.rows_tell.ensures position (season_of managers e) h stands) c.requires.profile) entries are in
+    c.total_held-total.ensures.value (books_seen facts managers leagues cups) c.requires.kept.3.evaluated
+    ∙ total_is facts managers leagues cups e s h one first c.requires.kept.2 (c.rows_tell.ensures position (season_of managers e) h stands) c.requires.profile) entries are in
     let counted = in_books facts managers e (λ h. c.counted_transfers-counted.result ≡ counted_through h facts.calendar.locked) lawful one
     (λ h stands. c.counted_transfers-counted.ensures.history position h stands ∙ ap (counted_through h) (c.locked.ensures.value ∙ ap (λ those. those.locked) c.calendar.ensures)) entries are in
     let fits : FitsSigned w32 c.total_held-total.result = search rules in

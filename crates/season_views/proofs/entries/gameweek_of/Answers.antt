@@ -26,7 +26,7 @@ returns-in_err-score-clause-value g c h stands =
     let tell = c.rows_tell.ensures (position_in facts.players) (season_of managers c.args.entry) h stands in
     none ∙ passed_over (is_begun h gw) (Some (entry_gameweek_shown facts h gw)) None
     (none_of (is_begun h gw) (score_by facts h gw)
-    (c.in_err-score.ensures.value (books_seen facts managers c.requires.kept.0) c.requires.kept.1.evaluated ∙ score_is facts managers c.requires.kept.0 c.args.entry h issued tell c.requires.profile gw one c.requires.locked))
+    (c.in_err-score.ensures.value (books_seen facts managers c.requires.kept.0 c.requires.kept.1) c.requires.kept.2.evaluated ∙ score_is facts managers c.requires.kept.0 c.requires.kept.1 c.args.entry h issued tell c.requires.profile gw one c.requires.locked))
 
 pub returns-clause-value : goal.returns-clause-value
 returns-clause-value g c h stands =
@@ -37,6 +37,6 @@ returns-clause-value g c h stands =
     let one : 1 ≤ gw = search rules in
     let tell = c.rows_tell.ensures (position_in facts.players) (season_of managers c.args.entry) h stands in
     let is = cond_some (is_begun h gw) (score_by facts h gw) c.in_ok-score.score
-    (sym (c.in_ok-score.ensures.value (books_seen facts managers c.requires.kept.0) c.requires.kept.1.evaluated ∙ score_is facts managers c.requires.kept.0 c.args.entry h issued tell c.requires.profile gw one c.requires.locked)) in
+    (sym (c.in_ok-score.ensures.value (books_seen facts managers c.requires.kept.0 c.requires.kept.1) c.requires.kept.2.evaluated ∙ score_is facts managers c.requires.kept.0 c.requires.kept.1 c.args.entry h issued tell c.requires.profile gw one c.requires.locked)) in
     gameweek_told facts h gw c.in_ok-team.team (c.in_ok-team.ensures.history (position_in facts.players) h stands) _ c.in_ok-score.score (sym is.1)
     (ap (λ (players : List ℕ). record { players = players; chip = c.in_ok-team.team.chip; score = c.in_ok-score.score }) c.players_of.ensures)

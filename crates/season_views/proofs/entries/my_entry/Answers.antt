@@ -38,17 +38,18 @@ returns-clause-value g c h stands =
     let facts = c.args.season.now in
     let managers = c.args.managers.now in
     let leagues = c.requires.kept.0 in
+    let cups = c.requires.kept.1 in
     let e = c.args.entry in
-    let b = books_seen facts managers leagues in
+    let b = books_seen facts managers leagues cups in
     let gameweek = c.gameweek_seen-gameweek.result in
     let issued : 1 ≤ e = search rules in
     let one : c.unwrap.result ≡ 1 = search rules in
     let started = c.in_ok-_first.ensures.history (position_in facts.players) h stands in
     let tell = c.rows_tell.ensures (position_in facts.players) (season_of managers e) h stands in
     let total : c.total_held-total.result ≡ total_since facts h 1 =
-    c.total_held-total.ensures.value b c.requires.kept.1.evaluated
+    c.total_held-total.ensures.value b c.requires.kept.2.evaluated
     ∙ ap (λ s. if is_live b (node.Total e s) then total_told b e s else pos 0) one
-    ∙ total_is facts managers leagues e 1 h issued (omega arith) (first_start facts managers leagues e) tell c.requires.profile in
+    ∙ total_is facts managers leagues cups e 1 h issued (omega arith) (first_start facts managers leagues cups e) tell c.requires.profile in
     let fits : FitsSigned w32 c.total_held-total.result = search rules in
     let start = sym ((first_is_the_start h (Some _)).0 started) in
     me_told facts h gameweek c.in_ok-team.team (c.in_ok-team.ensures.history (position_in facts.players) h stands) e c.args.last c.cost-cost.result c.free-free.result

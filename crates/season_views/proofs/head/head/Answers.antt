@@ -28,12 +28,13 @@ returns-clause-value g c entries are =
     let managers = c.args.managers.now in
     let league = c.args.league.now in
     let leagues = c.requires.kept.0 in
+    let cups = c.requires.kept.1 in
     let lawful : ArePlayers facts.players = subst ArePlayers c.players.ensures c.len-count.ensures.lawful in
     let one : 1 ≤ c.start.result = search rules in
     let first : 1 ≤ league.start = subst (λ s. 1 ≤ s) c.start.ensures one in
     let rows =
-    c.deref.ensures.value ∙ c.in_ok-rows.ensures.value (books_seen facts managers leagues) c.requires.kept.2.evaluated c.requires.kept.1
-    ∙ rows_are facts managers leagues entries lawful c.rows_tell.ensures c.requires.profile are league first in
+    c.deref.ensures.value ∙ c.in_ok-rows.ensures.value (books_seen facts managers leagues cups) c.requires.kept.3.evaluated c.requires.kept.2
+    ∙ rows_are facts managers leagues cups entries lawful c.rows_tell.ensures c.requires.profile are league first in
     head_made facts entries league c.in_ok-copy.field-0 c.start.result c.in_ok-head_named.field-0 (c.in_ok-copy.ensures ∙ c.name.ensures) c.start.ensures
     (c.in_ok-head_named.ensures facts.players entries are
     ∙ ap (map (head_ranked_shown entries)) (c.deref-2.ensures.value ∙ c.in_ok-table.ensures.value ∙ ap head_table_of rows))

@@ -17,7 +17,8 @@ loop-player-preserved g c =
     let facts = c.args.season.now in
     let managers = c.requires.0 in
     let leagues = c.requires.1 in
-    let b = books_seen facts managers leagues in
+    let cups = c.requires.2 in
+    let b = books_seen facts managers leagues cups in
     let f = c.args.fixture in
     let lines : Lines = lines_of facts.matches f in
     let i = c.loop-player.player-index in
@@ -26,15 +27,15 @@ loop-player-preserved g c =
     let players : c.players_of-players.result.now ≡ players_in lines = c.players_of-players.ensures.players ∙ ap (λ m. players_in (lines_of m f)) c.matches.ensures in
     let within : i < length lines = omega (arith, c.loop-player-test.true, ap length players, length-map lines (λ (r : ℕ × Line). r.0)) in
     let is : c.player-item.result ≡ row.0 = c.player-item.is ∙ ap (λ ps. get_or ps i c.player-item.result) players ∙ player_at lines i c.player-item.result none within in
-    let told = c.lines_are_told.ensures b f row c.requires.2.season (among_at lines i none within) in
-    let evaluated = c.requires.2.evaluated in
-    let bonuses = c.bonuses_held-bonuses.ensures.value b evaluated (bonus_is_live facts managers leagues f i within) in
-    let live = line_is_live facts managers leagues f row told in
+    let told = c.lines_are_told.ensures b f row c.requires.3.season (among_at lines i none within) in
+    let evaluated = c.requires.3.evaluated in
+    let bonuses = c.bonuses_held-bonuses.ensures.value b evaluated (bonus_is_live facts managers leagues cups f i within) in
+    let live = line_is_live facts managers leagues cups f row told in
     let shown = c.line_shown.ensures.value b evaluated (subst (λ p. is_live b (node.Line f p) ≡ true) (sym is) live)
     ∙ ap (λ p. line_with p (line_worth b f p) (unwrap_or (at_id c.bonuses_held-bonuses.result.now p) 0)) is in
     record {
       value = mapped_more (line_shown facts f) lines i row c.line_shown.result c.loop-player.shown c.push.new.self within (read_again lines i none within)
-          (row_shown facts managers leagues f row told c.bonuses_held-bonuses.result.now c.line_shown.result bonuses shown)
+          (row_shown facts managers leagues cups f row told c.bonuses_held-bonuses.result.now c.line_shown.result bonuses shown)
           c.loop-player.invariant.value c.in_ok-push.ensures.ok;
       cost = let before = c.loop-player.invariant.cost in let one = c.line_shown.ensures.cost in omega (arith, before, one);
     }

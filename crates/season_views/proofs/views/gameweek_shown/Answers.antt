@@ -7,6 +7,7 @@ returns-clause-shown g c =
     let facts = c.args.season.now in
     let managers = c.requires.0 in
     let leagues = c.requires.1 in
-    let live = gameweek_is_live facts managers leagues c.args.player c.args.gameweek c.in_ok-locked.locked c.in_ok-there.there.now c.in_ok-there.ensures c.in_ok-locked.ensures in
+    let cups = c.requires.2 in
+    let live = gameweek_is_live facts managers leagues cups c.args.player c.args.gameweek c.in_ok-locked.locked c.in_ok-there.there.now c.in_ok-there.ensures c.in_ok-locked.ensures in
     gameweek_is_shown facts c.args.player c.args.gameweek c.in_ok-locked.locked c.in_ok-there.there.now c.gameweek_held-figures.result
-    c.in_ok-there.ensures c.in_ok-locked.ensures (c.gameweek_held-figures.ensures.value (books_seen facts managers leagues) c.requires.2.evaluated live)
+    c.in_ok-there.ensures c.in_ok-locked.ensures (c.gameweek_held-figures.ensures.value (books_seen facts managers leagues cups) c.requires.3.evaluated live)

@@ -38,8 +38,9 @@ answer_shown-requires g c =
     let managers = played_by running.facts.profile running.managers in (
       managers,
       running.leagues,
-      subst (λ (f : Facts). AreKept f managers running.leagues c.cells-cells.result.now) (sym c.season.ensures)
-          (subst (λ cells. AreKept running.facts managers running.leagues cells) (sym c.cells-cells.ensures)
+      running.cups,
+      subst (λ (f : Facts). AreKept f managers running.leagues running.cups c.cells-cells.result.now) (sym c.season.ensures)
+          (subst (λ cells. AreKept running.facts managers running.leagues running.cups cells) (sym c.cells-cells.ensures)
           (kept_of c.self.inside.operator c.self.inside.lasts c.args.self.now c.self.inside.running running c.args.cells.now c.in-Some-cells.kept
           c.self.view_is c.in-Some.is c.in-Some-cells.is c.requires)),
     )

@@ -6,7 +6,7 @@ use Rattle.season_records.specs.Commits.{HoldsLeft}
 use Rattle.season_running.specs.Standing.{HostRows}
 use Rattle.season_host.specs.Accepted.{locks_more}
 use Rattle.season_keeping.specs.Answering.{IsCaused, MayEnd, MayRest, ReadsFew, WouldChange}
-use Rattle.season_keeping.proofs.Counting.{cheap_from, few_from}
+use Rattle.season_keeping.proofs.Counting.{cheap_from, few_from, leaves_from}
 use Rattle.season_keeping.proofs.Acting.{backs_between, left_of_commit, left_of_ending, stands_between, then_leads}
 use Rattle.season_keeping.proofs.Ending.{caused_fault, caused_over, change_of_act, change_of_lock, fails_by, leads_map, may_behind, may_of_lock}
 use Rattle.season_keeping.proofs.Leading.{is_fresh}
@@ -192,3 +192,12 @@ returns-in-Ok-clause-views g c = λ is book stands.
 
 pub returns-in-Err-clause-views : goal.returns-in-Err-clause-views
 returns-in-Err-clause-views g c = λ is book stands. is_fresh (locks_more c.args.self.now.rows.facts c.args.now) c.in-Err.ensures.more is
+
+pub returns-in-Ok-clause-looks : goal.returns-in-Ok-clause-looks
+returns-in-Ok-clause-looks g c = λ is.
+    let stays = c.lock.ensures.rests is in
+    leaves_from _ c.args.request.now c.args.keeper.now c.lock.new.keeper c.answer_locked.new.keeper c.args.self.now c.lock.new.self c.answer_locked.new.self
+    stays.0 stays.1 c.answer_locked.ensures.looks
+
+pub returns-in-Err-clause-looks : goal.returns-in-Err-clause-looks
+returns-in-Err-clause-looks g c = λ is. is_fresh (locks_more c.args.self.now.rows.facts c.args.now) c.in-Err.ensures.more is

@@ -49,3 +49,9 @@ returns-in-View-clause-views g c = rw c.in-View.is (λ book stands.
 
 pub returns-in-Command-clause-views : goal.returns-in-Command-clause-views
 returns-in-Command-clause-views g c = rw c.in-Command.is (λ book stands. tt)
+
+pub returns-in-View-clause-looks : goal.returns-in-View-clause-looks
+returns-in-View-clause-looks g c = rw c.in-View.is (refl, refl)
+
+pub returns-in-Command-clause-looks : goal.returns-in-Command-clause-looks
+returns-in-Command-clause-looks g c = rw c.in-Command.is tt

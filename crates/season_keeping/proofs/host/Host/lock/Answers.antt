@@ -1,9 +1,9 @@
-use Rattle.std.proofs.Common.{◌≡◌, ◌∙◌, ◌⊎◌, true, inl, ap, refl, sym}
+use Rattle.std.proofs.Common.{◌≡◌, ◌∙◌, ◌⊎◌, true, true≢false, inl, ap, refl, sym}
 use Rattle.season_book.specs.Verdict.{pass}
 use Rattle.season_host.specs.Accepted.{locks_more}
 use Rattle.season_keeping.specs.Housed.{Housed}
 use Rattle.season_running.specs.Standing.{passed}
-use Rattle.season_keeping.proofs.Locking.{locked_leads, locked_stops, stays_of, unlocked_leads}
+use Rattle.season_keeping.proofs.Locking.{host_stays, locked_leads, locked_stops, stays_of, unlocked_leads}
 use Rattle.season_keeping.proofs.Wanting.{wanting_leads}
 use Rattle.season_keeping.proofs.host.Host.lock.Goals as goal
 
@@ -35,3 +35,15 @@ returns-then-not-passed-clause-locked g c = λ book stands.
     let new : Housed = record { rows = c.pass-passed.new.house; cells = c.pass-passed.new.cells; stale = true; reread = c.self.inside.reread } in
     wanting_leads _ g.K.Keeper.tells g.K.Keeper.serves g.K.Keeper.holds g.K.Keeper.passes c.args.keeper.now c.args.self.now new refl book
     (λ left. (left ≡ book) ⊎ (left ≡ pass book c.args.now)) (inl refl)
+
+pub returns-else-passed-clause-rests : goal.returns-else-passed-clause-rests
+returns-else-passed-clause-rests g c = λ is.
+    let inside : Housed = record { rows = c.self.inside.house; cells = c.self.inside.cells; stale = c.self.inside.stale; reread = c.self.inside.reread } in (
+      host_stays c.locks_keep_records.ensures.none inside c.args.self.now c.pass-passed.new.house c.pass-passed.new.cells c.args.now c.self.view_is
+          c.pass-passed.ensures.rows (c.pass-passed.ensures.stays c.if-passed.false) is,
+      refl,
+    )
+
+pub returns-then-passed-clause-rests : goal.returns-then-passed-clause-rests
+returns-then-passed-clause-rests g c = λ is.
+    absurd (true≢false (sym c.if-passed.true ∙ c.pass-passed.ensures.more ∙ ap (λ (h : Housed). locks_more h.rows.facts c.args.now) c.self.view_is ∙ is))

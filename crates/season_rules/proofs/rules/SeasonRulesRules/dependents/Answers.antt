@@ -3,7 +3,7 @@ use Rattle.season_nodes.specs.BookFacts.{facts_of}
 use Rattle.season_nodes.specs.IndexFacts.{holders_in}
 use Rattle.season_nodes.specs.declared.nodes.Node.TheVariants as node
 use Rattle.season_nodes.specs.Season.{is_live}
-use Rattle.season_nodes.specs.SeasonLaws.{match_alive}
+use Rattle.season_nodes.specs.SeasonLaws.{match_alive, tie_alive}
 use Rattle.season_nodes.proofs.DependentFacts.{dependents_are}
 use Rattle.season_rules.proofs.rules.SeasonRulesRules.dependents.Goals as goal
 
@@ -49,3 +49,11 @@ pub returns-in-HeadRow : goal.returns-in-HeadRow
 returns-in-HeadRow c =
     dependents_are (facts_of c.args.self.now.books) c.requires.0 (holders_in c.args.self.now.index.now) c.requires.1 c.args.n (node.HeadRow c.in-HeadRow.field-0 c.in-HeadRow.field-1)
     c.new-in-HeadRow.result.items c.in-HeadRow.is c.new-in-HeadRow.ensures.items
+
+pub returns-in_ok-tie_dependents-in-Tie : goal.returns-in_ok-tie_dependents-in-Tie
+returns-in_ok-tie_dependents-in-Tie c live =
+    let b = facts_of c.args.self.now.books in
+    let one = c.in-Tie in
+    let alive = tie_alive b one.cup one.round one.place (subst (λ q. is_live b q ≡ true) one.is live) in
+    dependents_are b c.requires.0 (holders_in c.args.self.now.index.now) c.requires.1 c.args.n (node.Tie one.cup one.round one.place)
+    c.in_ok-tie_dependents-in-Tie.field-0.items one.is (c.in_ok-tie_dependents-in-Tie.ensures alive.1) live

@@ -9,12 +9,14 @@ use Rattle.season_book.specs.declared.shown.Shown.TheVariants as showns
 use Rattle.season_views.specs.Reads.{reads_allowed}
 use Rattle.season_running.specs.Kept.{AreKeptBy}
 use Rattle.season_running.specs.Standing.{Plays, Running}
-use Rattle.season_running.proofs.KeptFacts.{kept_in}
+use Rattle.season_running.proofs.KeptFacts.{kept_at}
 use Rattle.season_running.proofs.running.RunningSeason.cup.Goals as goal
 
 pub cup-requires-clause-kept : goal.cup-requires-clause-kept
 cup-requires-clause-kept g c =
-    kept_in c.self.inside.season c.self.inside.managers c.self.inside.leagues c.args.cells.now c.self.invariant.profile
+    let b : Bracket = c.in-Some-get.there.now in
+    let at_id : entry_in c.self.inside.cups c.in-Some.id ≡ Some b = sym c.get.ensures.there ∙ ap option_copied c.in-Some-get.is in
+    kept_at c.self.inside.season c.self.inside.managers c.self.inside.leagues c.self.inside.cups c.in-Some.id b c.args.cells.now c.self.invariant.profile at_id
     (subst (λ (r : Running). AreKeptBy r c.args.cells.now) (sym c.self.view_is) c.requires)
 
 pub returns-in-Ok-clause-cost : goal.returns-in-Ok-clause-cost

@@ -19,4 +19,4 @@ returns-clause-changed c = λ caller.
     let before : Running = record { facts = c.self.inside.season; managers = c.self.inside.managers.managers; leagues = c.self.inside.leagues; cups = c.self.inside.cups } in
     let after : Running = record before { cups = c.do_cup.new.cups } in
     on_ok c.do_cup.result c.do_cup.ensures.done (λ same. subst (λ (r : Running). IsChangedBy caller c.args.command.now r after) c.self.view_is
-    (cups_changed caller c.args.command.now before c.do_cup.new.cups c.requires.part))
+    (cups_changed caller c.args.command.now before c.do_cup.new.cups c.requires.part same))

@@ -6,5 +6,5 @@ use Rattle.season_running.proofs.running.RunningSeason.entry_gameweek.Goals as g
 
 pub entry_gameweek-requires-clause-kept : goal.entry_gameweek-requires-clause-kept
 entry_gameweek-requires-clause-kept g c =
-    kept_in c.self.inside.season c.self.inside.managers c.self.inside.leagues c.args.cells.now c.self.invariant.profile
+    kept_in c.self.inside.season c.self.inside.managers c.self.inside.leagues c.self.inside.cups c.args.cells.now c.self.invariant.profile
     (subst (λ (r : Running). AreKeptBy r c.args.cells.now) (sym c.self.view_is) c.requires)

@@ -36,7 +36,7 @@ pub league-requires-clause-kept : goal.league-requires-clause-kept
 league-requires-clause-kept g c =
     let league : LeagueFacts = c.in-Some-get.there.now in
     let at_id : entry_in c.self.inside.leagues c.in-Some.id ≡ Some league = sym c.get.ensures ∙ ap option_copied c.in-Some-get.is in
-    kept_for c.self.inside.season c.self.inside.managers c.self.inside.leagues c.in-Some.id league c.args.cells.now c.self.invariant.profile at_id
+    kept_for c.self.inside.season c.self.inside.managers c.self.inside.leagues c.self.inside.cups c.in-Some.id league c.args.cells.now c.self.invariant.profile at_id
     (subst (λ (r : Running). AreKeptBy r c.args.cells.now) (sym c.self.view_is) c.requires)
 
 pub returns-in-Some-get-clause-cost : goal.returns-in-Some-get-clause-cost

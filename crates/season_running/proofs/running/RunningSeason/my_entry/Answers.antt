@@ -62,5 +62,5 @@ returns-in-None-clause-seen g c = λ book plays is_last.
 
 pub my_entry-requires-clause-kept : goal.my_entry-requires-clause-kept
 my_entry-requires-clause-kept g c =
-    kept_in c.self.inside.season c.self.inside.managers c.self.inside.leagues c.args.cells.now c.self.invariant.profile
+    kept_in c.self.inside.season c.self.inside.managers c.self.inside.leagues c.self.inside.cups c.args.cells.now c.self.invariant.profile
     (subst (λ (r : Running). AreKeptBy r c.args.cells.now) (sym c.self.view_is) c.requires)

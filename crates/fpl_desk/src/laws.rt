@@ -1,0 +1,18 @@
+// Laws on the definitions.
+ghost use Rattle.fpl_desk.specs.Answered.{SessionsAnswer};
+ghost use Rattle.fpl_desk.specs.Looks.{RunsReadFew};
+
+use fpl_base::Keeper;
+use fpl_session::Answering;
+
+/// A law on the definitions: however a session ends, it answered messages at the front of the bytes that it took, one after
+/// another, and left the state behind the last of them.
+pub fn sessions_answer<T: Answering>()
+    ensures { SessionsAnswer T.one }
+{}
+
+/// A law on the definitions: messages that ask nothing but views of a host that is not stale, and for which no gameweek is
+/// locked, leave the host and its keeper as they were, and no more reads are counted for them than these views allow in all.
+pub fn looks_read_few<K: Keeper>()
+    ensures { RunsReadFew K }
+{}

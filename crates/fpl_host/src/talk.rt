@@ -1,0 +1,60 @@
+// One session with a host that is open.
+ghost use Rattle.std.specs.Prelude.{◌≡◌, IfSome};
+ghost use Rattle.fpl_base.specs.Causes.{Rose};
+ghost use Rattle.fpl_session.specs.Replies.{Speaks};
+ghost use Rattle.fpl_session.specs.Sessions.{EndsAs, SessionOf};
+ghost use Rattle.fpl_desk.specs.Kept.{LeadsAll};
+ghost use Rattle.fpl_desk.specs.Looks.{CountsLooks, SessionReadsFew};
+ghost use Rattle.fpl_replies.specs.Replying.{IsReplyUntil};
+ghost use Rattle.fpl_replies.specs.Whole.{IsKeptReply};
+ghost use Rattle.fpl_host.specs.Pipe.{IsSession};
+
+use fpl_base::{Clock, Keeper, Sink, Source, Steps};
+use fpl_desk::{
+    ByRecords, ByRows, ByStops, Desk, HostWithScratch, ReadsFirst, RowsFirst, StopsFirst,
+    looks_read_few, sessions_answer,
+};
+use fpl_session::{Ending, session, sessions_lift, sessions_split};
+use std::alloc::Global;
+use std::sync::ledger::Ledger;
+
+/// Answers the messages of a source into a sink. While they ask nothing but views of a host that is not stale, and no
+/// deadline passes, the host and its keeper stay as they were, and no more reads are counted than these views allow in all.
+pub fn talk<S: Source, W: Sink, C: Clock, K: Keeper, L: Ledger>(
+    alloc: Global,
+    desk: &Desk,
+    host: &mut HostWithScratch,
+    keeper: &mut K,
+    source: &mut S,
+    sink: &mut W,
+    clock: &mut C,
+    steps: &mut Steps<L>,
+) -> Ending
+    ensures leads { LeadsAll K.tells K.serves K.holds K.passes
+        (record { host = host.old.host; moments = C.left clock.old; failed = K.faults keeper.old; keeper = keeper.old })
+        (record { host = host.new.host; moments = C.left clock.new; failed = K.faults keeper.new; keeper = keeper.new })
+        (IsSession IsReplyUntil (S.left source.old) (S.left source.new) (W.taken sink.old) (W.taken sink.new) result)
+        (IsSession IsKeptReply (S.left source.old) (S.left source.new) (W.taken sink.old) (W.taken sink.new) result) }
+
+    // How many reads are counted for each message, and so for all of them.
+    ensures counts { SessionOf (Speaks CountsLooks) (S.left source.old) (S.left source.new)
+        (record { kept = record { host = host.old.host; moments = C.left clock.old; failed = K.faults keeper.old; keeper = keeper.old }; reads = steps.old })
+        (record { kept = record { host = host.new.host; moments = C.left clock.new; failed = K.faults keeper.new; keeper = keeper.new }; reads = steps.new })
+        (W.taken sink.old) (W.taken sink.new) result }
+    ensures reads { SessionReadsFew (S.left source.old) (S.left source.new)
+        (record { kept = record { host = host.old.host; moments = C.left clock.old; failed = K.faults keeper.old; keeper = keeper.old }; reads = steps.old })
+        (record { kept = record { host = host.new.host; moments = C.left clock.new; failed = K.faults keeper.new; keeper = keeper.new }; reads = steps.new }) }
+    ensures exact { IfSome (S.left source.old) (λ all. EndsAs all result) }
+    ensures read { result ≡ Ending.Read → Rose (S.faults source.old) (S.faults source.new) }
+    ensures write { result ≡ Ending.Write → Rose (W.faults sink.old) (W.faults sink.new) }
+{
+    sessions_split::<ReadsFirst<K>>();
+    sessions_split::<RowsFirst<K>>();
+    sessions_split::<StopsFirst<K>>();
+    sessions_lift::<ByRows<K>>();
+    sessions_lift::<ByStops<K>>();
+    sessions_lift::<ByRecords<K>>();
+    sessions_answer::<ReadsFirst<K>>();
+    looks_read_few::<K>();
+    session(alloc, desk, host, keeper, source, sink, clock, steps)
+}

@@ -1,0 +1,112 @@
+-- The ties of a bracket: how many there are, which two lead to one, and who can reach it.
+use Rattle.std.proofs.Common.{◌≡◌, ℕ, zero, suc, ◌+◌, ◌-◌, ◌*◌, ◌/◌, ◌^◌, ◌<◌, ◌≤◌, ◌==◌, Bool, true, false, ◌||◌, cond, ◌⊎◌, inl, inr, ⊎_elim, List, [], ◌∷◌, Option, Some, None, length, refl, sym, ◌∙◌, ap, subst, arith}
+use Rattle.std.specs.List.{slice_get}
+use Rattle.std.specs.Option.{unwrap_or}
+use Rattle.std.proofs.Math.Nat.{div-eq_of_lt, mul-div-le, mul-le-mul_left, pow-le-pow_right}
+use Rattle.std.proofs.lemmas.Bool.{cases_lt}
+use Rattle.std.proofs.lemmas.Bool.Decides.{nat_tests}
+use Rattle.std.proofs.lemmas.Nat.{shr-shr, shr_le}
+use Rattle.std.proofs.lemmas.Option.{slice_get_within}
+use Rattle.rule_book.specs.Entries.{entry_in}
+use Rattle.rule_book.specs.declared.cup.Bracket.{Bracket}
+use Rattle.rescore_graph.specs.Graph.{Among}
+use Rattle.cup_rounds.specs.Shapes.{HasShape, IsTieAfter}
+use Rattle.season_nodes.specs.Brackets.{bracket_in, is_in, no_bracket, ties_after}
+
+same_id : (n m : ℕ) → (n == m) ≡ true → n ≡ m
+same_id n m e = grind (arith, nat_tests)
+
+same_test : (n m : ℕ) → n ≡ m → (n == m) ≡ true
+same_test n m e = grind (arith, nat_tests)
+
+or_case : (x y : Bool) → (x || y) ≡ true → (x ≡ true) ⊎ (y ≡ true)
+or_case true y e = inl refl
+or_case false y e = inr e
+
+or_left : (x y : Bool) → x ≡ true → (x || y) ≡ true
+or_left true y e = refl
+or_left false y e = absurd (cc)
+
+or_right : (x y : Bool) → y ≡ true → (x || y) ≡ true
+or_right true y e = refl
+or_right false y e = e
+
+-- who is in some slots is among them
+pub in_slots : (slots : List ℕ) (e : ℕ) → is_in slots e ≡ true → Among slots e
+in_slots [] e is = absurd (cc)
+in_slots (slot ∷ slots) e is = ⊎_elim (λ t. inl (same_id slot e t)) (λ r. inr (in_slots slots e r)) (or_case (slot == e) (is_in slots e) is)
+
+pub slots_in : (slots : List ℕ) (e : ℕ) → Among slots e → is_in slots e ≡ true
+slots_in [] e a = absurd a
+slots_in (slot ∷ slots) e (inl is) = or_left (slot == e) (is_in slots e) (same_test slot e is)
+slots_in (slot ∷ slots) e (inr a) = or_right (slot == e) (is_in slots e) (slots_in slots e a)
+
+halved : (n r : ℕ) → n / 2 ^ (r + 1) / 2 ≡ n / 2 ^ (suc r + 1)
+halved n r = let more : r + 1 + 1 ≡ suc r + 1 = omega arith in shr-shr n (r + 1) 1 ∙ ap (λ k. n / 2 ^ k) more
+
+-- the two ties that lead to one
+pub both_before : (n r i : ℕ) → i < n / 2 ^ (suc r + 1) → (2 * i < n / 2 ^ (r + 1)) × (2 * i + 1 < n / 2 ^ (r + 1))
+both_before n r i low =
+    let half = halved n r in
+    let both : 2 * i + 1 < n / 2 ^ (r + 1) = omega (arith, half, low) in
+    (omega (arith, both), both)
+
+-- the slots that lead to a tie
+pub part_within : (n r i : ℕ) → i < n / 2 ^ (r + 1) → 2 ^ (r + 1) * i + 2 ^ (r + 1) ≤ n
+part_within n r i low =
+    let w = 2 ^ (r + 1) in
+    let up : i + 1 ≤ n / w = omega (arith, low) in
+    let part : w * (i + 1) ≤ w * (n / w) = mul-le-mul_left w up in
+    let all : w * (n / w) ≤ n = mul-div-le n w in
+    omega (arith, part, all)
+
+-- a cup has ten rounds at most
+pub most_slots : (bracket : Bracket) → HasShape bracket → length bracket.slots ≤ 1024
+most_slots bracket ((r, lo, hi, e), coins) = let most : 2 ^ r ≤ 2 ^ 10 = pow-le-pow_right (omega arith) hi in omega (arith, e, most)
+
+pub none_after : (n r : ℕ) → n ≤ 1024 → 10 ≤ r → n / 2 ^ (r + 1) ≡ 0
+none_after n r few up =
+    let long : 11 ≤ r + 1 = omega (arith, up) in
+    let more : 2 ^ 11 ≤ 2 ^ (r + 1) = pow-le-pow_right (omega arith) long in
+    div-eq_of_lt (omega (arith, more, few))
+
+pub few_rounds : (n r i : ℕ) → n ≤ 1024 → i < n / 2 ^ (r + 1) → r < 10
+few_rounds n r i few low =
+    elim (cases_lt r 10) [
+      | inl less ↦ less
+      | inr more ↦ let none = none_after n r few more in absurd (omega (arith, none, low))
+    ]
+
+-- and half as many ties as slots
+pub few_ties : (n r : ℕ) → n ≤ 1024 → n / 2 ^ (r + 1) ≤ 512
+few_ties n r few =
+    let once : n / 2 ^ r / 2 ≡ n / 2 ^ (r + 1) = shr-shr n r 1 in
+    let less = shr_le n r in
+    omega (arith, once, less, few)
+
+-- the entry of a number stands at the place before it
+at_number : {X : Type 0} (xs : List X) (c : ℕ) (x : X) (t : Bool) → (c == 0) ≡ t → cond t None (slice_get xs (c - 1)) ≡ Some x → (1 ≤ c) × (c ≤ length xs)
+at_number xs c x true e at = absurd (cc)
+at_number xs zero x false e at = absurd (cc)
+at_number xs (suc c) x false e at =
+    let one : suc c - 1 ≡ c = omega arith in
+    let low : c < length xs = slice_get_within xs c x (subst (λ k. slice_get xs k ≡ Some x) one at) in
+    (omega arith, omega (arith, low))
+
+none_there : (r i : ℕ) → i < ties_after no_bracket r → ⊥
+none_there r i low = let none : 0 / 2 ^ (r + 1) ≤ 0 = shr_le 0 (r + 1) in omega (arith, none, low)
+
+within_case : (cups : List Bracket) (c r i : ℕ) (o : Option Bracket) → entry_in cups c ≡ o → i < ties_after (unwrap_or o no_bracket) r → (1 ≤ c) × (c ≤ length cups)
+within_case cups c r i None at low = absurd (none_there r i low)
+within_case cups c r i (Some bracket) at low = at_number cups c bracket (c == 0) refl at
+
+-- a cup that has ties is there
+pub cup_within : (cups : List Bracket) (c r i : ℕ) → i < ties_after (bracket_in cups c) r → (1 ≤ c) × (c ≤ length cups)
+cup_within cups c r i low = within_case cups c r i (entry_in cups c) refl low
+
+-- a tie of a cup that is there is one of its bracket
+pub tie_there : (cups : List Bracket) (c r i : ℕ) (bracket : Bracket) → entry_in cups c ≡ Some bracket → i < ties_after (bracket_in cups c) r → IsTieAfter bracket r i
+tie_there cups c r i bracket at low =
+    let here : i < ties_after bracket r = subst (λ (x : Bracket). i < ties_after x r) (ap (λ o. unwrap_or o no_bracket) at) low in
+    let once : length bracket.slots / 2 ^ r / 2 ≡ length bracket.slots / 2 ^ (r + 1) = shr-shr (length bracket.slots) r 1 in
+    subst (λ n. i < n) (sym once) here
