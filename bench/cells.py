@@ -10,6 +10,7 @@ valgrind's callgrind: of all cells the function that makes them, of a request th
 commit. Corrections give one goal more to players whom few entries hold, and to players whom many do. The table is that of a
 classic league of all entries, beside the function that writes its body. The peak of the memory is that of an opening.
 """
+import copy
 import os
 import shutil
 import subprocess
@@ -32,6 +33,8 @@ def position(player):
 
 class Stream(leagues.Stream):
     """The largest season."""
+
+    positions = [position(p) for p in range(1, PLAYERS + 1)]
 
     def __init__(self, gameweeks, entries):
         super().__init__(gameweeks, entries, 0, None)
@@ -123,25 +126,23 @@ class Season:
         source = self.place.folder / "requests"
         source.write_text("".join(stream.requests))
         with open(source) as opened:
-            surroundings = self.place.surroundings(stream) if stream.requests else dict(os.environ)
+            surroundings = self.place.surroundings(stream)
             done = subprocess.run(words, stdin=opened, capture_output=True, env=surroundings, check=True)
         self.place.accepted(stream, done.stdout)
         return done
 
     def later(self):
         """A stream that goes on behind the season."""
-        stream = object.__new__(Stream)
-        stream.__dict__ |= {name: it for name, it in self.stream.__dict__.items() if name not in ("requests", "moments")}
-        stream.numbers, stream.requests, stream.moments = dict(self.stream.numbers), [], []
+        stream = copy.deepcopy(self.stream)
+        stream.requests, stream.moments = [], []
         return stream
 
     def counted(self, stream):
         """What callgrind says of a run over a copy of the store."""
         self.anew()
         profile = self.place.folder / "profile"
-        self.run(["valgrind", "--tool=callgrind", f"--callgrind-out-file={profile}", *self.words], stream)
+        self.run([*managers.COUNTING, f"--callgrind-out-file={profile}", *self.words], stream)
         return Profile(profile)
-
 
     def peak(self):
         """In MiB, of a run that asks nothing."""

@@ -56,11 +56,11 @@ class Stream(managers.Stream):
             order = ",".join(map(str, random.Random(at).sample(members, len(members))))
             self.post(f"/leagues/{first + at}/draw", OPERATOR, f'"order":[{order}]')
 
-    def cup(self, slots):
+    def cup(self, slots, start=1):
         """A cup of so many entries, which stand in no order."""
         order = random.Random(slots).sample(range(1, self.entries + 1), slots)
         coins = [at % 2 for at in range(slots - 1)]
-        self.post("/cups", OPERATOR, f'"start":1,"slots":{order},"coins":{coins}'.replace(" ", ""))
+        self.post("/cups", OPERATOR, f'"start":{start},"slots":{order},"coins":{coins}'.replace(" ", ""))
 
     def spread(self, count):
         return [turn * self.entries // count + 1 for turn in range(count)]

@@ -6,8 +6,9 @@ The season has 20 clubs, 120 players and 38 gameweeks (or GAMEWEEKS), each with 
 lines, once it is locked. Each entry makes a transfer or sets its lineup in each gameweek, and plays a chip in three.
 Then come, in the last gameweek, TIMES (100) requests of a kind, by entries spread over all; of chips that stay, one an
 entry at most. What one takes is the difference between a run with them and one without them, by valgrind's callgrind,
-all but what the clock takes, which is that of tests/outside.c: gcc builds it. An answer that accepts nothing ends the
-script. The peak of the memory is read from /proc while a run without valgrind waits for more input.
+all but what the clock takes, which is that of tests/outside.c: gcc builds it, and shows the program nothing else of that
+file, whose malloc would add 20 instructions to a call. An answer that accepts nothing ends the script. The peak of the
+memory is read from /proc while a run without valgrind waits for more input.
 """
 import os
 import random
@@ -23,6 +24,7 @@ POSITIONS = "G" * 20 + "D" * 40 + "M" * 40 + "F" * 20  # of the players 1 to 120
 SHAPE = "GDDDDMMMMFFGDMF"  # of the slots 1 to 15
 CHIPS = {10: "wildcard", 20: "free_hit", 30: "bench_boost"}  # each after a lineup of that gameweek
 KINDS = ("lineup", "transfers", "chip", "chip, cancel", "me")
+COUNTING = ["valgrind", "--tool=callgrind", "--toggle-collect=clock_gettime", "--collect-atstart=yes"]  # all but the clock
 
 
 def club(player):
@@ -32,10 +34,12 @@ def club(player):
 class Stream:
     """The bytes of a season's requests, and the moment at which each is asked."""
 
+    positions = POSITIONS
+
     def __init__(self, gameweeks, entries):
         self.requests, self.moments, self.now, self.numbers = [], [], 500, {}
         self.random, self.gameweeks, self.entries = random.Random(7), gameweeks, entries
-        self.squads = {}
+        self.squads, self.refused = {}, set()  # the places of requests that are to be refused
         self.make()
 
     def ask(self, method, target, key, body=""):
@@ -89,12 +93,13 @@ class Stream:
         """Fifteen players by slot, of whom no club has more than three."""
         chosen = []
         for position in SHAPE:
-            chosen.append(self.random.choice([p for p in range(1, 121) if self.fits(p, position, chosen)]))
+            chosen.append(self.random.choice(self.fitting(position, chosen)))
         return chosen
 
-    def fits(self, player, position, others):
-        alike = POSITIONS[player - 1] == position and player not in others
-        return alike and sum(club(it) == club(player) for it in others) < 3
+    def fitting(self, position, others):
+        """The players of a position who can come to these."""
+        alike = [p for p, it in enumerate(self.positions, 1) if it == position and p not in others]
+        return [p for p in alike if sum(club(it) == club(p) for it in others) < 3]
 
     def order(self, entry):
         players = self.squads[entry]
@@ -121,8 +126,7 @@ class Stream:
         players = self.squads[entry]
         slot = self.random.randrange(15)
         others = players[:slot] + players[slot + 1 :]
-        fit = [p for p in range(1, 121) if p != players[slot] and self.fits(p, SHAPE[slot], others)]
-        comer = self.random.choice(fit)
+        comer = self.random.choice([p for p in self.fitting(SHAPE[slot], others) if p != players[slot]])
         self.post("/transfers", self.key(entry), f'"swaps":[{{"out":{players[slot]},"in":{comer}}}]')
         players[slot] = comer
 
@@ -148,7 +152,9 @@ class Place:
     def __init__(self, program, folder):
         self.words = [program, "pipe", "--key", "operator1"]
         self.folder, self.clock = Path(folder), Path(folder) / "clock.so"
-        subprocess.run(["gcc", "-O1", "-shared", "-fPIC", "-o", self.clock, TOP / "tests/outside.c"], check=True)
+        (self.folder / "shown").write_text("{ global: clock_gettime; local: *; };")
+        flags = ["-O1", "-shared", "-fPIC", f"-Wl,--version-script={self.folder / 'shown'}"]
+        subprocess.run(["gcc", *flags, "-o", self.clock, TOP / "tests/outside.c"], check=True)
 
     def surroundings(self, stream):
         (self.folder / "moments").write_text("".join(stream.moments))
@@ -156,20 +162,19 @@ class Place:
 
     def instructions(self, stream):
         (self.folder / "requests").write_text("".join(stream.requests))
-        counting = ["valgrind", "--tool=callgrind", "--callgrind-out-file=/dev/null"]
-        counting += ["--toggle-collect=clock_gettime", "--collect-atstart=yes"]  # all but the clock
         with open(self.folder / "requests") as source:
             surroundings = self.surroundings(stream)
-            words = counting + self.words
+            words = [*COUNTING, "--callgrind-out-file=/dev/null", *self.words]
             done = subprocess.run(words, stdin=source, capture_output=True, env=surroundings, check=True)
         self.accepted(stream, done.stdout)
         return int(re.search(rb"Collected : (\d+)", done.stderr).group(1))
 
     def accepted(self, stream, answers):
         statuses = re.findall(rb"HTTP/1.1 (\d+)", answers)
-        wrong = next((at for at, it in enumerate(statuses) if it not in (b"200", b"201")), len(statuses))
+        wanted = lambda at: (b"409",) if at in stream.refused else (b"200", b"201")
+        wrong = next((at for at, it in enumerate(statuses) if it not in wanted(at)), len(statuses))
         if wrong < len(stream.requests):
-            sys.exit(f"request {wrong} was not accepted: {stream.requests[wrong]}\n{answers[-300:].decode()}")
+            sys.exit(f"request {wrong} had another answer: {stream.requests[wrong]}\n{answers[-300:].decode()}")
 
     def peak(self, stream):
         """In KiB."""
