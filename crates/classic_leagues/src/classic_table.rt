@@ -47,6 +47,7 @@ fn all_placed(alloc: Global, rows: &[(EntryId, i32, u32)]) -> Result<Vec<Placed>
 {
     let mut placed = Vec::with_capacity(alloc, rows.len())?;
     for row in rows {
+        // That an entry has a number below 2^32, for the prover.
         let _entry = row.0.get();
         placed.push(placed_of(row))?;
     }

@@ -200,6 +200,7 @@ impl League {
         requires one_more { members ≡ (with_member e self.old).members }
         ensures { self.new ≡ with_member e self.old }
     {
+        // What the type tells of an entry, for the prover.
         let _entry = e;
         self.members = members;
     }

@@ -70,6 +70,7 @@ impl Name {
         ensures bytes { result.now ≡ self.now }
         ensures name { IsTrue (is_name self.now) }
     {
+        // That they are those of a name, for the prover.
         let _ = &self.bytes;
         self.bytes.as_slice()
     }
@@ -78,6 +79,7 @@ impl Name {
     pub fn copy(&self) -> Result<Self, Memory>
         ensures { IfOk result (λ copy. copy ≡ self.now) }
     {
+        // That they are those of a name, for the prover.
         let _ = &self.bytes;
         Ok(Name {
             bytes: self.bytes.clone()?,
@@ -116,6 +118,7 @@ impl Key {
         ensures bytes { result.now ≡ self.now }
         ensures key { IsTrue (is_key self.now) }
     {
+        // That they are those of a key, for the prover.
         let _ = &self.bytes;
         self.bytes.as_slice()
     }
@@ -124,6 +127,7 @@ impl Key {
     pub fn copy(&self) -> Result<Self, Memory>
         ensures { IfOk result (λ copy. copy ≡ self.now) }
     {
+        // That they are those of a key, for the prover.
         let _ = &self.bytes;
         Ok(Key {
             bytes: self.bytes.clone()?,
@@ -162,6 +166,7 @@ impl Code {
         ensures bytes { result.now ≡ self.now }
         ensures code { IsTrue (is_code self.now) }
     {
+        // That they are those of a code, for the prover.
         let _ = &self.bytes;
         self.bytes.as_slice()
     }
@@ -170,6 +175,7 @@ impl Code {
     pub fn copy(&self) -> Result<Self, Memory>
         ensures { IfOk result (λ copy. copy ≡ self.now) }
     {
+        // That they are those of a code, for the prover.
         let _ = &self.bytes;
         Ok(Code {
             bytes: self.bytes.clone()?,

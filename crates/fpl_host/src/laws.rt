@@ -10,6 +10,7 @@ use season_lawful::lawful_books_are_whole;
 pub fn one_score_is_due()
     ensures { OneScoreDue }
 {
+    // The law on which it stands, for the prover.
     input_scores_once();
 }
 
@@ -19,6 +20,7 @@ pub fn lawful_runs_are_whole<K: Keeper>()
     ensures pipe { PipesAreWhole K.tells K.serves K.holds K.passes K.faults }
     ensures serve { ServesAreWhole K.tells K.serves K.holds K.passes K.faults }
 {
+    // The laws on which it stands, for the prover.
     replies_are_whole();
     lawful_books_are_whole::<K>();
 }

@@ -48,6 +48,7 @@ pub fn talk<S: Source, W: Sink, C: Clock, K: Keeper, L: Ledger>(
     ensures read { result ≡ Ending.Read → Rose (S.faults source.old) (S.faults source.new) }
     ensures write { result ≡ Ending.Write → Rose (W.faults sink.old) (W.faults sink.new) }
 {
+    // The laws by which a session is told by each of the views, and reads few, for the prover.
     sessions_split::<ReadsFirst<K>>();
     sessions_split::<RowsFirst<K>>();
     sessions_split::<StopsFirst<K>>();

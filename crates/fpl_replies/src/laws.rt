@@ -13,6 +13,7 @@ use season_lawful::{books_are_lawful, lawful_books_are_judged};
 pub fn messages_ask_one_thing()
     ensures { OneAsked }
 {
+    // The law on which it stands, for the prover.
     targets_ask_one_thing();
 }
 
@@ -21,6 +22,7 @@ pub fn messages_ask_one_thing()
 pub fn messages_act_once()
     ensures { MessagesActOnce }
 {
+    // The law on which it stands, for the prover.
     commands_act_once();
 }
 
@@ -30,6 +32,7 @@ pub fn messages_act_once()
 pub fn messages_are_isolated()
     ensures { MessagesAreIsolated }
 {
+    // The law on which it stands, for the prover.
     answers_are_isolated();
 }
 
@@ -55,6 +58,7 @@ pub fn replies_are_whole()
     ensures run { RunsAreWhole }
     ensures session { SessionsAreWhole }
 {
+    // The laws on which it stands, for the prover.
     books_are_lawful();
     lawful_books_are_judged();
     targets_ask_one_thing();

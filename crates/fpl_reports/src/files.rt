@@ -96,6 +96,7 @@ impl Row for PlayerRow {
     ghost adds = { AddsPlayer };
 
     fn read(alloc: Global, before: &[Self], read: &ByteRecord) -> Result<Option<Self>, Memory> {
+        // No row of players is held against those before it.
         let _ = before;
         let Some((id, name, position, club, price)) = five_fields(read) else {
             return Ok(None);
@@ -143,6 +144,7 @@ impl Row for FixtureRow {
     ghost adds = { AddsFixture };
 
     fn read(alloc: Global, before: &[Self], read: &ByteRecord) -> Result<Option<Self>, Memory> {
+        // A row of fixtures takes no memory, and is held against none before it.
         let _ = alloc;
         let _ = before;
         Ok(fixture_of(read))

@@ -47,6 +47,7 @@ pub fn session<R: Service<H, K, C, L>, H, K: Keeper, S: Source, W: Sink, C: Cloc
     ensures read { result ≡ Ending.Read → Rose (S.faults src.old) (S.faults src.new) }
     ensures write { result ≡ Ending.Write → Rose (W.faults out.old) (W.faults out.new) }
 {
+    // The law that a stream is read in one way, for the prover.
     two_readings_are_one();
     open_session(alloc, service, host, keeper, src, out, clock, steps)
 }

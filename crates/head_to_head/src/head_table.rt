@@ -34,6 +34,7 @@ fn standings_of(alloc: Global, rows: &[(EntryId, HeadScore)]) -> Result<Vec<Stan
 {
     let mut standings = Vec::new(alloc);
     for row in rows {
+        // That an entry has a number below 2^32, for the prover.
         let _entry = row.0.get();
         standings.push(standing_of(row))?;
     }

@@ -436,6 +436,7 @@ impl ManagerBook {
     pub fn keeps_rows(&self)
         ensures { AreRisen self.now.managers }
     {
+        // What the type tells of the managers, for the prover.
         let _known = self.managers.len();
     }
 
@@ -502,6 +503,7 @@ impl ManagerBook {
         ensures history { (position : ℕ → Position) (h : List Event) → IsHistory h → HasRecords position h teams.now sales.now → OnOk result (StandsFor position (rows_of_records teams.now sales.now) h) }
         ensures err { OnErr result (self.new ≡ self.old) }
     {
+        // What the type tells of a gameweek, for the prover.
         let _first = first;
         let season = Entry::restore(self.alloc, teams, sales)?;
         let kept = EntrySales::of(self.alloc, sales)?;

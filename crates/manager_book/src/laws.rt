@@ -8,7 +8,7 @@ use season_ledger::rows_tell;
 pub fn rows_refuse_alike()
     ensures { RowsAlwaysRefuseAlike }
 {
-    // The laws on which it stands.
+    // The laws on which it stands, for the prover.
     rows_tell();
     told_values();
 }

@@ -191,7 +191,7 @@ pub fn register(
         Ok(team) => team,
         Err(rule) => return Err(Refused::Rule(rule)),
     };
-    // The players of a season have prices in range.
+    // That the players of a season have prices in range, for the prover.
     let _count = players.len();
     match season.register(g, &team) {
         Ok(()) => Ok(()),

@@ -48,6 +48,7 @@ fn deadline_at(calendar: &Calendar, place: u8) -> Moment
     requires { place < length calendar.now.deadlines }
     ensures { slice_get calendar.now.deadlines place ≡ Some result }
 {
+    // That a calendar has at most 38 gameweeks, for the prover.
     let _known = calendar.gameweeks();
     calendar.deadline(Gw::new(place + 1).unwrap()).unwrap()
 }

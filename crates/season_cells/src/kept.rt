@@ -167,6 +167,7 @@ fn mark(cells: &mut SeasonCells, rules: &SeasonRules, plan: &Plan) -> Result<(),
     let books = &rules.books;
     match plan {
         Plan::Nothing => {
+            // The law that nothing hangs on what changed, for the prover.
             books_alike(cells, books);
             Ok(())
         }

@@ -14,7 +14,7 @@ use season_graph::{
 pub fn plans_lead()
     ensures { PlansLead }
 {
-    // The laws of the facts and of draws, of which this is made.
+    // The laws of the facts, of draws and of rows, of which this is made, for the prover.
     facts_are_maps();
     matches_change();
     calendar_changes();

@@ -141,7 +141,7 @@ fn add(
     ensures done { OnOk result (cups.new ≡ cups_after cups.old (command.Cup start slots.now coins.now)) }
     ensures err { OnErr result (cups.new ≡ cups.old) }
 {
-    // The law that a cup which breaks no rule has the shape of one, for the prover.
+    // The law that a cup which breaks no rule has the shape of one, and what the type tells of the season, for the prover.
     unbroken_cups_have_shape();
     let _season = season;
     let slots = slots.copy()?;

@@ -75,6 +75,7 @@ fn judge_join(
 ) -> Result<(), Answer>
     ensures { IsAnswered (league_answer_by season.now managers.now.managers leagues.now (caller_number caller.now) (command.Join number code.now)) result }
 {
+    // What the type tells of the season, for the prover.
     let _season = season;
     let Some(id) = LeagueId::new(number) else {
         return Err(Answer::Unknown);
@@ -185,6 +186,7 @@ fn do_create(
     ensures done { OnOk result (leagues.new ≡ leagues_after leagues.old entry (command.League kind name.now code.now start)) }
     ensures err { OnErr result (leagues.new ≡ leagues.old) }
 {
+    // What the type tells of the managers, for the prover.
     let _managers = managers;
     let name = name.copy()?;
     let code = code.copy()?;

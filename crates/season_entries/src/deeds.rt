@@ -50,7 +50,7 @@ fn do_transfers(
     ensures done { OnOk result (IsDeedDone season.now e (command.Transfers swaps.now) managers.old managers.new) }
     ensures err { OnErr result (managers.new ≡ managers.old) }
 {
-    // The law by which the sales are those of the history, and that the ids of a season's players differ.
+    // The law by which the sales are those of the history, and that the ids of a season's players differ, for the prover.
     rows_refuse_alike();
     let _count = season.players().len();
     let next = season.calendar().next();
@@ -176,7 +176,7 @@ pub fn do_deed(
     ensures books { OnOk result (StandForBooksAfter season.now e command.now managers.old.managers managers.new.managers) }
     ensures err { OnErr result (managers.new ≡ managers.old) }
 {
-    // An entry has a number from 1 on.
+    // An entry has a number from 1 on, for the prover.
     let _number = e.get();
     do_by_rows(season, managers, e, command)
 }

@@ -87,9 +87,8 @@ pub fn judge_deed(
     ensures rows { IsAnswered (deed_answer season.now (rows_refusal season.now (season_of managers.now e) command.now) command.now) result }
     ensures books { IsJudgedByBooks season.now managers.now.managers e command.now result }
 {
-    // The law on which the clause of books stands.
+    // The law on which the clause of books stands, and that the ids of a season's players differ, for the prover.
     rows_refuse_alike();
-    // The ids of a season's players differ.
     let _count = season.players().len();
     judge_by_rows(season, managers, e, command)
 }

@@ -26,6 +26,7 @@ impl Season {
     {
         let fixture = self.the_fixture(number);
         let locked = self.is_in_locked(fixture);
+        // The law that no fixture and no player has two lines, for the prover.
         facts_are_maps();
         match self.matches.put_sheet(fixture, locked, lines, finished) {
             Ok(()) => Ok(()),
@@ -48,6 +49,7 @@ impl Season {
     {
         let fixture = self.the_fixture(number);
         let locked = self.is_in_locked(fixture);
+        // The law that no fixture and no player has two lines, for the prover.
         facts_are_maps();
         match self.matches.put_line(fixture, locked, player, line) {
             Ok(()) => Ok(()),
@@ -61,6 +63,7 @@ impl Season {
         ensures { self.new ≡ record self.old { matches = drop_line self.old.matches number player } }
     {
         let fixture = self.the_fixture(number);
+        // The law that no fixture and no player has two lines, for the prover.
         facts_are_maps();
         self.matches.drop_line(fixture, player);
     }
@@ -73,6 +76,7 @@ impl Season {
     {
         let fixture = self.the_fixture(number);
         let locked = self.is_in_locked(fixture);
+        // The law that no fixture and no player has two lines, for the prover.
         facts_are_maps();
         match self.matches.set_finished(fixture, locked, finished) {
             Ok(()) => Ok(()),

@@ -22,6 +22,7 @@ pub fn replay_is_told(rules: &SeasonRules)
     requires index { IsIndex (facts_of rules.now.books) (holders_in rules.now.index.now) }
     ensures { IsTold (facts_of rules.now.books) (replay (season_graph (facts_of rules.now.books))) }
 {
+    // The law on which it stands, for the prover.
     replay_is_one(rules);
 }
 
@@ -45,6 +46,7 @@ pub fn matches_change()
     ensures marked { MarkIsSet }
     ensures sheet { SheetIsPut }
 {
+    // The law on which they stand, for the prover.
     facts_are_maps();
 }
 

@@ -142,6 +142,7 @@ fn put_line<'a, L: Ledger>(
 {
     let fixture = fixture()?;
     taken(matches.put_line(fixture, true, player, line))?;
+    // The laws of what a line changes, for the prover.
     matches_change();
     index_stays();
     let rules = SeasonRules {
@@ -214,6 +215,7 @@ fn begin<'a, L: Ledger>(
     ensures sound { IfOk result (λ made. AreSound (facts_with profile.A calendar.now players.now matches.now managers.now leagues.now cups.now) made.0) }
     ensures index { IfOk result (λ made. IsIndex (facts_with profile.A calendar.now players.now matches.now managers.now leagues.now cups.now) (holders_in made.1)) }
 {
+    // The law that this is a season, and what the type tells of the calendar, for the prover.
     let _locked = calendar.locked();
     season_begins();
     let books = Books {

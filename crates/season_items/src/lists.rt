@@ -57,6 +57,7 @@ pub fn line(line: &Line)
 fn figures(figures: &[u16])
     ensures { AllByRecursion IsFigure figures.now }
 {
+    // The type tells it, for the prover.
     let _ = figures;
 }
 
@@ -110,6 +111,7 @@ pub fn slots(slots: &[u32])
     ensures below { AllByRecursion IsBelow32 slots.now }
     ensures between { AllByRecursion (λ n. IsTrue (is_between 0 4294967295 n)) slots.now }
 {
+    // The type tells it, for the prover.
     let _ = slots;
 }
 
@@ -117,5 +119,6 @@ pub fn coins(coins: &[u8])
     ensures below { AllByRecursion IsByte coins.now }
     ensures between { AllByRecursion (λ n. IsTrue (is_between 0 255 n)) coins.now }
 {
+    // The type tells it, for the prover.
     let _ = coins;
 }

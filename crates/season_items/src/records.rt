@@ -33,5 +33,6 @@ fn has_bytes(row: &(RecordKey, Bytes))
 pub fn keeps_bytes(bytes: &[u8])
     ensures { IsBytes bytes.now }
 {
+    // The type tells it, for the prover.
     let _ = bytes;
 }

@@ -105,6 +105,7 @@ impl Entry {
         ensures few { result ≤ 1000 }
         ensures history { (position : ℕ → Position) (h : List Event) → StandsFor position self.now h → result ≡ swaps_in h g }
     {
+        // What the type tells of its rows, for the prover.
         let _known = self.rows.len();
         match row_of(self.rows.as_slice(), g.get()) {
             Some(standing) => standing.made,
@@ -192,6 +193,7 @@ impl Entry {
     pub fn keeps_rows(&self)
         ensures { Rise self.now }
     {
+        // What the type tells of its rows, for the prover.
         let _known = self.rows.len();
     }
 
@@ -213,6 +215,7 @@ impl Entry {
         ensures history { (position : ℕ → Position) (h : List Event) → IsPlaced position team.now.picks → StandsFor position self.old h → OnOk result (StandsFor position self.new (h ++ in_gameweek g (First (holdings team.now.picks) team.now.captain team.now.vice ∷ []))) }
         ensures err { OnErr result (self.new ≡ self.old) }
     {
+        // What the types tell of the rows and of the gameweek, for the prover.
         let _known = (self.rows.len(), g.get());
         let standing = Standing {
             made: 0,
@@ -233,6 +236,7 @@ impl Entry {
         ensures history { (position : ℕ → Position) (h : List Event) → IsPlaced position after.now.picks → StandsFor position self.old h → OnOk result (StandsFor position self.new (h ++ in_gameweek g (map Swap sales.now))) }
         ensures err { OnErr result (self.new ≡ self.old) }
     {
+        // What the type tells of its rows, for the prover.
         let _known = self.rows.len();
         let made = self.made(g);
         let standing = Standing {
@@ -251,6 +255,7 @@ impl Entry {
         ensures history { (position : ℕ → Position) (h : List Event) → IsPlaced position after.now.picks → StandsFor position self.old h → OnOk result (StandsFor position self.new (h ++ in_gameweek g (Lineup (players_of after.now) after.now.captain after.now.vice ∷ []))) }
         ensures err { OnErr result (self.new ≡ self.old) }
     {
+        // What the type tells of its rows, for the prover.
         let _known = self.rows.len();
         let standing = Standing {
             made: self.made(g),

@@ -56,6 +56,7 @@ fn shape_of_one(bracket: &Bracket)
     requires { HasShape bracket.now }
     ensures { HasShape bracket.now }
 {
+    // What the type tells of a bracket, for the prover.
     let _start = bracket.start;
 }
 

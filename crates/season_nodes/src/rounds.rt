@@ -68,7 +68,7 @@ impl Books<'_> {
         ensures value { result ≡ opponent_in (facts_of self.now) league gameweek place }
         ensures within { (j : ℕ) → result ≡ Opponent.Place j → j < length (order_in self.now.leagues.now league) }
     {
-        // The law by which it meets one opponent.
+        // The law by which it meets one opponent, for the prover.
         opponent_is_the_one();
         let round = gameweek.get().saturating_sub(self.start(league));
         opponent(self.order(league).len(), u32::from(round), place)
@@ -90,6 +90,7 @@ impl Books<'_> {
         requires { place < length (order_in self.now.leagues.now league) }
         ensures { result ≡ lower_in (facts_of self.now) league gameweek place }
     {
+        // That a league has few members, for the prover.
         let _few = self.order(league);
         place.min(self.met(league, gameweek, place)) as u8
     }

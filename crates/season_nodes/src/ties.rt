@@ -67,6 +67,7 @@ impl Books<'_> {
         requires played { is_played (facts_of self.now) cup round ≡ true }
         ensures { result ≡ round_of (facts_of self.now) cup round }
     {
+        // That at most 38 gameweeks are locked, for the prover.
         let _few = self.calendar.locked();
         Gw::new(self.cup_start(cup) + round).unwrap()
     }
@@ -76,6 +77,7 @@ impl Books<'_> {
         requires { place < ties_after (bracket_of (facts_of self.now) cup) round }
         ensures { result.now ≡ part_of (bracket_of (facts_of self.now) cup) round place }
     {
+        // That a cup has few ties and rounds, for the prover.
         let _few = self.ties(cup, round);
         let width = 1usize << (round + 1);
         let low = width * place;

@@ -215,6 +215,7 @@ fn seen<L: Ledger>(
     ensures near { IsWithin 18000000 result.0 }
     ensures cost { steps.new ≤ steps.old + 1 }
 {
+    // That a league has few members, for the prover.
     let _few = books.order(league);
     let met = books.met(league, gameweek, place);
     let lower = place.min(met) as u8;

@@ -192,6 +192,7 @@ pub(crate) fn tie_winner<L: Ledger>(
     ensures value { result ≡ tie_by (facts_of books.now) (held_values cells.now) cup round place }
     ensures cost { steps.new ≤ steps.old + 4 }
 {
+    // That a cup has few ties, for the prover.
     let _few = books.ties(cup, round);
     let first = comer(books, cup, round, 2 * place, cells, steps);
     let second = comer(books, cup, round, 2 * place + 1, cells, steps);

@@ -77,7 +77,7 @@ fn classic_table(alloc: Global, rows: &[(EntryId, i32, u32)]) -> Result<Vec<Rank
     ensures entries { (n : ℕ) → All (λ e. e ≤ n) (map (λ row. row.0) rows.now)
         → IfOk result (λ table. All (λ row. row.entry ≤ n) table.items) }
 {
-    // The law by which there is one table.
+    // The law by which there is one table, for the prover.
     tables_are_the_one();
     table(alloc, rows)
 }

@@ -30,6 +30,7 @@ fn ties(bracket: &Bracket, round: u8) -> u16
     requires round { round < 10 }
     ensures { result ≡ length bracket.now.slots / 2 ^ (round + 1) }
 {
+    // What the type tells of the rounds of a cup, for the prover.
     let _rounds = rounds(bracket);
     (bracket.slots.as_slice().len() >> (round + 1)) as u16
 }

@@ -40,6 +40,7 @@ pub fn one_eleven()
 pub fn has_one_eleven(team: &Team, figures: &[Figures; 15], ended: bool)
     ensures { HasOneEleven team.now figures.now ended }
 {
+    // There is the one that this finds, for the prover.
     let _ = final_eleven(team, figures, ended);
 }
 
@@ -47,6 +48,7 @@ pub fn has_one_eleven(team: &Team, figures: &[Figures; 15], ended: bool)
 pub fn elevens_are_legal()
     ensures { ElevensAreLegal }
 {
+    // The law on which it stands, for the prover.
     enough_is_formation();
 }
 
