@@ -25,7 +25,9 @@ pub fn make_tree(alloc: Global, size: u32) -> Result<Tree, Memory>
 
 /// A dirty cell for each node of the tree.
 pub fn plant_all(alloc: Global, tree: &Tree) -> Result<Cells<u32, u32>, Memory>
-    ensures { IfOk result (λ cells. Sound (tree_graph (length tree.now.numbers.items) tree.now.numbers.items) (look nat_cmp cells)) }
+    ensures { IfOk result
+        (λ cells. Sound (tree_graph (length tree.now.numbers.items) tree.now.numbers.items)
+        (look nat_cmp cells)) }
 {
     let mut cells = Cells::new(alloc);
     let size = tree.numbers.len() as u32;
@@ -44,10 +46,14 @@ pub fn change(
 ) -> Result<(), Memory>
     requires low { 1 ≤ node }
     requires high { node ≤ length tree.old.numbers.items }
-    requires sound { Sound (tree_graph (length tree.old.numbers.items) tree.old.numbers.items) (look nat_cmp cells.old) }
-    ensures ok { OnOk result (Sound (tree_graph (length tree.new.numbers.items) tree.new.numbers.items) (look nat_cmp cells.new)) }
+    requires sound { Sound (tree_graph (length tree.old.numbers.items) tree.old.numbers.items)
+        (look nat_cmp cells.old) }
+    ensures ok { OnOk result
+        (Sound (tree_graph (length tree.new.numbers.items) tree.new.numbers.items)
+        (look nat_cmp cells.new)) }
     ensures size { length tree.new.numbers.items ≡ length tree.old.numbers.items }
-    ensures number { OnOk result (tree.new.numbers.items ≡ slice_set tree.old.numbers.items (node - 1) number) }
+    ensures number { OnOk result
+        (tree.new.numbers.items ≡ slice_set tree.old.numbers.items (node - 1) number) }
 {
     cells.mark(node)?;
     tree.numbers[node as usize - 1] = number;
@@ -57,8 +63,11 @@ pub fn change(
 /// Gives so many leaves, spread over the tree, another number.
 pub fn change_leaves(tree: &mut Tree, cells: &mut Cells<u32, u32>, count: u32) -> Result<(), Memory>
     requires some { 0 < count }
-    requires sound { Sound (tree_graph (length tree.old.numbers.items) tree.old.numbers.items) (look nat_cmp cells.old) }
-    ensures { OnOk result (Sound (tree_graph (length tree.new.numbers.items) tree.new.numbers.items) (look nat_cmp cells.new)) }
+    requires sound { Sound (tree_graph (length tree.old.numbers.items) tree.old.numbers.items)
+        (look nat_cmp cells.old) }
+    ensures { OnOk result
+        (Sound (tree_graph (length tree.new.numbers.items) tree.new.numbers.items)
+        (look nat_cmp cells.new)) }
 {
     let mut node = tree.numbers.len() as u32;
     let stride = node / 2 / count;

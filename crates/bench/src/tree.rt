@@ -39,7 +39,8 @@ impl Tree {
 
     // The value of a node, and 0 of one that is not there.
     fn part<L: Ledger>(&self, m: u32, cells: &Cells<u32, u32>, steps: &mut Steps<L>) -> u32
-        ensures value { result ≡ part (length self.now.numbers.items) (values_in (look nat_cmp cells.now)) m }
+        ensures value { result
+            ≡ part (length self.now.numbers.items) (values_in (look nat_cmp cells.now)) m }
         ensures cost { steps.new ≤ steps.old + 1 }
     {
         if m as usize <= self.numbers.len() {

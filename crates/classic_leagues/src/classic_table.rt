@@ -79,7 +79,8 @@ fn next_rank(rows: &[Placed], place: usize, rank: u32) -> u32
     requires among { place < length rows.now }
     requires few { length rows.now < 2 ^ 32 }
     requires in_order { IsSorted by_place rows.now }
-    requires last { (d : Placed) → 0 < place → rank ≡ rank_placed rows.now (get_or rows.now (place - 1) d) }
+    requires last { (d : Placed) → 0 < place
+        → rank ≡ rank_placed rows.now (get_or rows.now (place - 1) d) }
     ensures { (d : Placed) → result ≡ rank_placed rows.now (get_or rows.now place d) }
 {
     if place == 0 {

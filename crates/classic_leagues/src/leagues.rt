@@ -94,7 +94,8 @@ impl Leagues {
     /// Whether an entry may join a league with a code: what `join` refuses for.
     pub fn judge_join(&self, e: EntryId, l: LeagueId, code: &Code) -> Result<(), Rule>
         requires there { IsSome (entry_in self.now l) }
-        ensures { (league : LeagueFacts) → entry_in self.now l ≡ Some league → IsJudged (join_refusal self.now e league code.now) result }
+        ensures { (league : LeagueFacts) → entry_in self.now l ≡ Some league
+            → IsJudged (join_refusal self.now e league code.now) result }
     {
         let has_room = self.has_room_for(e);
         let league = &self.leagues[l.get() as usize - 1];
@@ -177,7 +178,8 @@ impl Leagues {
     /// kind can have.
     pub fn join(&mut self, e: EntryId, l: LeagueId, code: &Code) -> Result<(), Refused>
         requires there { IsSome (entry_in self.old l) }
-        ensures judged { (league : LeagueFacts) → entry_in self.old l ≡ Some league → IsJudgedOrOut (join_refusal self.old e league code.now) result }
+        ensures judged { (league : LeagueFacts) → entry_in self.old l ≡ Some league
+            → IsJudgedOrOut (join_refusal self.old e league code.now) result }
         ensures ok { OnOk result (self.new ≡ changed_in (with_member e) self.old l) }
         ensures err { OnErr result (self.new ≡ self.old) }
     {

@@ -71,7 +71,8 @@ impl Cups {
     /// refused, or for which there is no memory, is let go. `check` says whether a cup has the shape.
     pub fn add(&mut self, b: Bracket) -> Result<CupId, Refused>
         requires shape { HasShape b }
-        ensures judged { IsJudgedOrOut (unless (nat_lt (length self.old) most_cups) rule.CupsFull) result }
+        ensures judged { IsJudgedOrOut
+            (unless (nat_lt (length self.old) most_cups) rule.CupsFull) result }
         ensures made { IfOk result (λ c. c ≡ length self.old + 1) }
         ensures ok { OnOk result (self.new ≡ self.old ++ b ∷ []) }
         ensures err { OnErr result (self.new ≡ self.old) }

@@ -34,10 +34,14 @@ pub fn check_draw(
     gameweeks: u8,
     locked: u8,
 ) -> Result<(), Rule>
-    ensures judged { IsJudged (wrong_cup (record { start = start; slots = slots.now; coins = coins.now }) gameweeks locked) result }
+    ensures judged { IsJudged
+        (wrong_cup
+        (record { start = start; slots = slots.now; coins = coins.now }) gameweeks locked) result }
     ensures open { OnOk result (locked < start) }
-    ensures cup { OnOk result (IsCup (record { start = start; slots = slots.now; coins = coins.now }) gameweeks) }
-    ensures wrong { result ≡ Err Rule.DrawWrong → ¬ IsCup (record { start = start; slots = slots.now; coins = coins.now }) gameweeks }
+    ensures cup { OnOk result
+        (IsCup (record { start = start; slots = slots.now; coins = coins.now }) gameweeks) }
+    ensures wrong { result ≡ Err Rule.DrawWrong
+        → ¬ IsCup (record { start = start; slots = slots.now; coins = coins.now }) gameweeks }
 {
     if start.get() <= locked {
         return Err(Rule::StartPassed { gameweek: start });
@@ -50,7 +54,8 @@ pub fn check_draw(
 
 // Whether the draw is one that can be played.
 fn can_be_played(start: Gw, slots: &[u32], coins: &[u8], gameweeks: u8) -> bool
-    ensures { IsTrue result ↔ IsCup (record { start = start; slots = slots.now; coins = coins.now }) gameweeks }
+    ensures { IsTrue result
+        ↔ IsCup (record { start = start; slots = slots.now; coins = coins.now }) gameweeks }
 {
     let Some(rounds) = rounds_of(slots.len()) else {
         return false;

@@ -18,7 +18,8 @@ pub fn winners_meet()
 /// A law: in a cup that can be played each tie, from the first round on, is won by an entry of one of the slots that lead
 /// to it, and never by a bye.
 pub fn entrants_win()
-    ensures { (b : Bracket) (gameweeks : ℕ) (side : ℕ → ℕ → Side) (r i : ℕ) → IsCup b gameweeks → 1 ≤ r → 2 ^ r * (i + 1) ≤ length b.slots → WonByEntrant b side r i }
+    ensures { (b : Bracket) (gameweeks : ℕ) (side : ℕ → ℕ → Side) (r i : ℕ) → IsCup b gameweeks
+        → 1 ≤ r → 2 ^ r * (i + 1) ≤ length b.slots → WonByEntrant b side r i }
 {}
 
 /// A law: a cup that can be played has the shape of one.
@@ -28,7 +29,8 @@ pub fn cups_have_shape()
 
 /// A law: so does a draw that breaks no rule, wherever the season stands.
 pub fn unbroken_cups_have_shape()
-    ensures { (b : Bracket) (gameweeks locked : ℕ) → wrong_cup b gameweeks locked ≡ None → HasShape b }
+    ensures { (b : Bracket) (gameweeks locked : ℕ) → wrong_cup b gameweeks locked ≡ None
+        → HasShape b }
 {}
 
 /// A law: before the first round the winners are the slots; those of each round are half as many as before, and are who
@@ -37,5 +39,6 @@ pub fn rounds_follow()
     ensures start { (b : Bracket) (side : ℕ → ℕ → Side) → winners_of b side 0 ≡ b.slots }
     ensures count { (b : Bracket) (side : ℕ → ℕ → Side) (round : ℕ) → WinnersHalve b side round }
     ensures follows { (b : Bracket) (side : ℕ → ℕ → Side) (round : ℕ) → RoundFollows b side round }
-    ensures last { (b : Bracket) (side : ℕ → ℕ → Side) → HasShape b → length (winners_of b side (rounds_of b)) ≡ 1 }
+    ensures last { (b : Bracket) (side : ℕ → ℕ → Side) → HasShape b
+        → length (winners_of b side (rounds_of b)) ≡ 1 }
 {}

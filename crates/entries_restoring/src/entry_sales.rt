@@ -94,7 +94,10 @@ fn add_sales(
     gameweek: Gw,
     sales: &mut Vec<(Gw, Sale)>,
 ) -> Result<(), Memory>
-    ensures { OnOk result (sales.new.items ≡ sales.old.items ++ with_gameweek gameweek (sales_told (map_of stored.now) entry gameweek)) }
+    ensures { OnOk result
+        (sales.new.items
+        ≡ sales.old.items
+        ++ with_gameweek gameweek (sales_told (map_of stored.now) entry gameweek)) }
 {
     for number in 1..MOST_SALES + 1 {
         if !add_sale(alloc, stored, entry, gameweek, number, sales)? {

@@ -103,7 +103,8 @@ fn team_of(
     gameweek: Gw,
 ) -> Result<Option<Team>, Memory>
     requires { HaveBanks (map_of stored.now) entry }
-    ensures { IfOk result (λ team. team ≡ placed (position_in players.now) (map_of stored.now) entry gameweek) }
+    ensures { IfOk result
+        (λ team. team ≡ placed (position_in players.now) (map_of stored.now) entry gameweek) }
 {
     let slot = Slot::Team(entry.get(), u32::from(gameweek.get()));
     let item = stored.item(alloc, slot)?;
@@ -120,7 +121,10 @@ fn add_team(
     teams: &mut Vec<(Gw, Team)>,
 ) -> Result<(), Memory>
     requires { HaveBanks (map_of stored.now) entry }
-    ensures { OnOk result (teams.new.items ≡ teams.old.items ++ beside gameweek (placed (position_in players.now) (map_of stored.now) entry gameweek)) }
+    ensures { OnOk result
+        (teams.new.items
+        ≡ teams.old.items
+        ++ beside gameweek (placed (position_in players.now) (map_of stored.now) entry gameweek)) }
 {
     match team_of(alloc, stored, players, entry, gameweek)? {
         Some(team) => {
@@ -151,7 +155,8 @@ pub(crate) fn teams_of(
     entry: EntryId,
 ) -> Result<Vec<(Gw, Team)>, Memory>
     requires { HaveBanks (map_of stored.now) entry }
-    ensures { IfOk result (λ teams. teams.items ≡ teams_told (position_in players.now) (map_of stored.now) entry) }
+    ensures { IfOk result
+        (λ teams. teams.items ≡ teams_told (position_in players.now) (map_of stored.now) entry) }
 {
     let mut teams = Vec::new(alloc);
     for number in 1..39u8 {

@@ -52,7 +52,8 @@ fn restore(
     requires told { IsTold (map_of stored.now) entry first key name }
     ensures profile { IfOk result (λ done. book.new.profile ≡ book.old.profile) }
     ensures count { IfOk result (λ done. length book.new.managers ≡ length book.old.managers + 1) }
-    ensures restored { IfOk result (λ done. AreRestored (map_of stored.now) players.now book.new.managers) }
+    ensures restored { IfOk result
+        (λ done. AreRestored (map_of stored.now) players.now book.new.managers) }
 {
     let teams = teams_of(alloc, stored, players, entry)?;
     let sales = sales_of(alloc, stored, entry)?;
@@ -87,8 +88,11 @@ fn restore_next(
     requires players { ArePlayersTold players.now (map_of stored.now) }
     requires restored { AreRestored (map_of stored.now) players.now book.old.managers }
     ensures profile { IfOk result (λ there. book.new.profile ≡ book.old.profile) }
-    ensures restored { IfOk result (λ there. AreRestored (map_of stored.now) players.now book.new.managers) }
-    ensures goes { IfOk result (λ there. HasIssued (map_of stored.now) there (length book.old.managers) (length book.new.managers)) }
+    ensures restored { IfOk result
+        (λ there. AreRestored (map_of stored.now) players.now book.new.managers) }
+    ensures goes { IfOk result
+        (λ there. HasIssued (map_of stored.now) there (length book.old.managers)
+        (length book.new.managers)) }
 {
     let Some(entry) = EntryId::new(book.entries() + 1) else {
         unreachable!();
@@ -113,7 +117,8 @@ fn restored(
     requires lawful { judged stored.now ≡ None }
     requires players { ArePlayersTold players.now (map_of stored.now) }
     ensures profile { IfOk result (λ book. book.profile ≡ profile) }
-    ensures restored { IfOk result (λ book. AreRestored (map_of stored.now) players.now book.managers) }
+    ensures restored { IfOk result
+        (λ book. AreRestored (map_of stored.now) players.now book.managers) }
     ensures all { IfOk result (λ book. EndsAt (map_of stored.now) (length book.managers)) }
 {
     let mut book = ManagerBook::new(alloc, profile);
@@ -138,14 +143,18 @@ pub fn managers_of(
     requires players { ArePlayersTold players.now (map_of rows.now) }
     ensures profile { IfOk result (λ book. book.profile ≡ profile) }
     ensures entries { IfOk result (λ book. (e : ℕ) →
-        option_map (manager_item e) (entry_in book.managers e) ≡ told (map_of rows.now) (slot.Entry e)) }
+        option_map (manager_item e) (entry_in book.managers e)
+        ≡ told (map_of rows.now) (slot.Entry e)) }
     ensures teams { IfOk result (λ book. (e g : ℕ) →
-        option_and_then (team_by e g) (entry_in book.managers e) ≡ told (map_of rows.now) (slot.Team e g)) }
+        option_and_then (team_by e g) (entry_in book.managers e)
+        ≡ told (map_of rows.now) (slot.Team e g)) }
     ensures transfers { IfOk result (λ book. (e g n : ℕ) →
-        option_and_then (transfer_by e g n) (entry_in book.managers e) ≡ told (map_of rows.now) (slot.Transfer e g n)) }
+        option_and_then (transfer_by e g n) (entry_in book.managers e)
+        ≡ told (map_of rows.now) (slot.Transfer e g n)) }
     ensures ordered { IfOk result (λ book. Each (IsManagerInOrder players.now) book.managers) }
     ensures early { IfOk result (λ book. (facts : Facts) →
-        told_in facts slot.Season ≡ told (map_of rows.now) slot.Season → AreEarly facts book.managers) }
+        told_in facts slot.Season ≡ told (map_of rows.now) slot.Season
+        → AreEarly facts book.managers) }
 {
     restored(alloc, &Stored::new(rows), profile, players)
 }

@@ -44,7 +44,14 @@ impl Model for Parts {
 
     ghost Value = { Facts };
 
-    ghost view = { λ s. record { profile = s.profile; calendar = s.calendar; clubs = s.clubs.entries; players = s.players; matches = s.matches } };
+    ghost view = { λ s.
+        record {
+          profile = s.profile;
+          calendar = s.calendar;
+          clubs = s.clubs.entries;
+          players = s.players;
+          matches = s.matches;
+        } };
 
     ghost invariant = { λ s. AreSorted s.clubs.entries };
 }
@@ -140,7 +147,9 @@ impl Parts {
     }
 
     fn take_club(&mut self, club: ClubId, name: Name) -> Result<(), Memory>
-        ensures { OnOk result (self.new ≡ record self.old { clubs = placed_at self.old.clubs club ((club, name) ∷ []) }) }
+        ensures { OnOk result
+            (self.new
+            ≡ record self.old { clubs = placed_at self.old.clubs club ((club, name) ∷ []) }) }
     {
         self.clubs.insert(club, name)?;
         Ok(())
@@ -148,7 +157,8 @@ impl Parts {
 
     fn take_player(&mut self, player: Player) -> Result<(), Memory>
         requires { player_refusal self.old.players player ≡ None }
-        ensures { OnOk result (self.new ≡ record self.old { players = with_player self.old.players player }) }
+        ensures { OnOk result
+            (self.new ≡ record self.old { players = with_player self.old.players player }) }
     {
         match self.players.add(player) {
             Ok(()) => Ok(()),
@@ -161,7 +171,12 @@ impl Parts {
     fn take_fixture(&mut self, fixture: Fixture, finished: bool) -> Result<(), Memory>
         requires in_season { IfSome fixture.gw (λ g. g ≤ length self.old.calendar.deadlines) }
         requires unbroken { fixture_refusal self.old.calendar fixture ≡ None }
-        ensures { OnOk result (self.new ≡ record self.old { calendar = with_fixture self.old.calendar fixture; matches = set_finished self.old.matches fixture.id finished }) }
+        ensures { OnOk result
+            (self.new
+            ≡ record self.old {
+              calendar = with_fixture self.old.calendar fixture;
+              matches = set_finished self.old.matches fixture.id finished;
+            }) }
     {
         let id = fixture.id;
         match self.calendar.add_fixture(fixture) {
@@ -179,7 +194,9 @@ impl Parts {
     // A line, which stands in a locked gameweek.
     fn take_line(&mut self, fixture: FixtureId, player: PlayerId, line: &Line) -> Result<(), Memory>
         requires { line_refusal self.old.matches fixture true player line.now ≡ None }
-        ensures { OnOk result (self.new ≡ record self.old { matches = put_line self.old.matches fixture player line.now }) }
+        ensures { OnOk result
+            (self.new
+            ≡ record self.old { matches = put_line self.old.matches fixture player line.now }) }
     {
         match self.matches.put_line(fixture, true, player, line) {
             Ok(()) => Ok(()),

@@ -19,7 +19,8 @@ pub fn facts_of(alloc: Global, rows: &[(RecordKey, Bytes)]) -> Result<Option<Sea
     requires rise { KeysRise rows.now }
     requires lawful { judged rows.now ≡ None }
     ensures none { IfOk result (λ season. IsNone season → rows.now ≡ []) }
-    ensures told { IfOk result (λ season. IfSome season (λ facts. TellsFacts (map_of rows.now) facts)) }
+    ensures told { IfOk result
+        (λ season. IfSome season (λ facts. TellsFacts (map_of rows.now) facts)) }
     ensures ordered { IfOk result (λ season. IfSome season (λ facts. AreInOrder facts)) }
 {
     let Some(first) = rows.first() else {
@@ -70,7 +71,8 @@ fn restored(alloc: Global, terms: &Terms, rows: &[(RecordKey, Bytes)]) -> Result
     requires rise { KeysRise rows.now }
     requires lawful { judged rows.now ≡ None }
     requires terms { AreTerms rows.now terms.now }
-    ensures { IfOk result (λ season. season ≡ with_locked (with_rows (begun terms.now) rows.now) terms.now.locked) }
+    ensures { IfOk result
+        (λ season. season ≡ with_locked (with_rows (begun terms.now) rows.now) terms.now.locked) }
 {
     let begun = Parts::begin(alloc, terms.profile, &terms.deadlines, terms.split)?;
     with_rows(alloc, begun, rows)?.into_season(alloc, terms.locked)

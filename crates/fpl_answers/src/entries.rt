@@ -44,7 +44,8 @@ fn write_free(out: &mut Writer, free: Option<u8>) -> Result<(), AllocError>
 }
 
 fn write_picks(out: &mut Writer, picks: &[ShownPick]) -> Result<(), AllocError>
-    ensures { Appends result out.old out.new (tokens_of (array (items_of (map pick_data picks.now)))) }
+    ensures { Appends result out.old out.new
+        (tokens_of (array (items_of (map pick_data picks.now)))) }
 {
     out.begin_array()?;
     for pick in picks {
@@ -116,7 +117,8 @@ fn write_slots(out: &mut Writer, slots: &[u8]) -> Result<(), AllocError>
 }
 
 fn write_players(out: &mut Writer, players: &[PlayerId]) -> Result<(), AllocError>
-    ensures { Appends result out.old out.new (tokens_of (array (items_of (map count players.now)))) }
+    ensures { Appends result out.old out.new
+        (tokens_of (array (items_of (map count players.now)))) }
 {
     out.begin_array()?;
     for player in players {

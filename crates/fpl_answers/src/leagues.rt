@@ -24,7 +24,8 @@ pub(crate) fn write_classic(out: &mut Writer, league: &ShownClassic) -> Result<(
 }
 
 fn write_table(out: &mut Writer, rows: &[ShownRanked]) -> Result<(), AllocError>
-    ensures { Appends result out.old out.new (tokens_of (array (items_of (map ranked_data rows.now)))) }
+    ensures { Appends result out.old out.new
+        (tokens_of (array (items_of (map ranked_data rows.now)))) }
 {
     out.begin_array()?;
     for ranked in rows {
@@ -59,7 +60,8 @@ pub(crate) fn write_head(out: &mut Writer, league: &ShownHead) -> Result<(), All
 }
 
 fn write_head_table(out: &mut Writer, rows: &[ShownHeadRanked]) -> Result<(), AllocError>
-    ensures { Appends result out.old out.new (tokens_of (array (items_of (map head_ranked_data rows.now)))) }
+    ensures { Appends result out.old out.new
+        (tokens_of (array (items_of (map head_ranked_data rows.now)))) }
 {
     out.begin_array()?;
     for ranked in rows {
@@ -96,7 +98,8 @@ pub(crate) fn write_cup(out: &mut Writer, cup: &ShownCup) -> Result<(), AllocErr
 }
 
 fn write_rounds(out: &mut Writer, rounds: &[Option<Slots>]) -> Result<(), AllocError>
-    ensures { Appends result out.old out.new (tokens_of (array (items_of (map round_data rounds.now)))) }
+    ensures { Appends result out.old out.new
+        (tokens_of (array (items_of (map round_data rounds.now)))) }
 {
     out.begin_array()?;
     for round in rounds {
@@ -116,7 +119,8 @@ fn write_round(out: &mut Writer, round: &Option<Slots>) -> Result<(), AllocError
 }
 
 fn write_winners(out: &mut Writer, winners: &[u32]) -> Result<(), AllocError>
-    ensures { Appends result out.old out.new (tokens_of (array (items_of (map count winners.now)))) }
+    ensures { Appends result out.old out.new
+        (tokens_of (array (items_of (map count winners.now)))) }
 {
     out.begin_array()?;
     for winner in winners {

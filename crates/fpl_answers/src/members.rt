@@ -56,7 +56,8 @@ pub(crate) fn write_nothing(out: &mut Writer, name: &str) -> Result<(), AllocErr
 
 /// A gameweek, or `null` where there is none.
 pub(crate) fn write_gameweek(out: &mut Writer, gameweek: Option<Gw>) -> Result<(), AllocError>
-    ensures { Appends result out.old out.new (member_tokens (codes "gameweek") (count_or_null gameweek)) }
+    ensures { Appends result out.old out.new
+        (member_tokens (codes "gameweek") (count_or_null gameweek)) }
 {
     match gameweek {
         Some(gameweek) => write_count(out, "gameweek", u64::from(gameweek.get())),
@@ -66,7 +67,8 @@ pub(crate) fn write_gameweek(out: &mut Writer, gameweek: Option<Gw>) -> Result<(
 
 /// An object of one number.
 pub(crate) fn write_one(out: &mut Writer, name: &str, n: u64) -> Result<(), AllocError>
-    ensures { Appends result out.old out.new (tokens_of (object (member name.now (count n) no_members))) }
+    ensures { Appends result out.old out.new
+        (tokens_of (object (member name.now (count n) no_members))) }
 {
     out.begin_object()?;
     write_count(out, name, n)?;

@@ -78,7 +78,8 @@ fn write_season(out: &mut Writer, season: &ShownSeason) -> Result<(), AllocError
 }
 
 fn write_clubs(out: &mut Writer, clubs: &[(ClubId, Name)]) -> Result<(), AllocError>
-    ensures { Appends result out.old out.new (tokens_of (array (items_of (map club_data clubs.now)))) }
+    ensures { Appends result out.old out.new
+        (tokens_of (array (items_of (map club_data clubs.now)))) }
 {
     out.begin_array()?;
     for (id, name) in clubs {
@@ -97,7 +98,8 @@ fn write_club(out: &mut Writer, id: ClubId, name: &Name) -> Result<(), AllocErro
 }
 
 fn write_moments(out: &mut Writer, moments: &[Moment]) -> Result<(), AllocError>
-    ensures { Appends result out.old out.new (tokens_of (array (items_of (map count moments.now)))) }
+    ensures { Appends result out.old out.new
+        (tokens_of (array (items_of (map count moments.now)))) }
 {
     out.begin_array()?;
     for moment in moments {
@@ -147,7 +149,8 @@ fn write_fixture(out: &mut Writer, shown: &ShownFixture) -> Result<(), AllocErro
 }
 
 fn write_lines(out: &mut Writer, lines: &[ShownLine]) -> Result<(), AllocError>
-    ensures { Appends result out.old out.new (tokens_of (array (items_of (map line_data lines.now)))) }
+    ensures { Appends result out.old out.new
+        (tokens_of (array (items_of (map line_data lines.now)))) }
 {
     out.begin_array()?;
     for line in lines {

@@ -27,8 +27,10 @@ pub fn ask_at<K: Keeper, L: Ledger>(
         (record { host = host.old; moments = moments; failed = K.faults keeper.old; keeper = keeper.old })
         (record { host = host.new; moments = moments; failed = K.faults keeper.new; keeper = keeper.new })
         (λ served behind. IsHeardAt now served caller request.now result behind) }
-    ensures stale { host.new.stale ≡ true → (result ≡ answer_of.Memory) ⊎ (result ≡ answer_of.Keeper) }
-    ensures caused { IsCaused (record { before = K.faults keeper.old; behind = K.faults keeper.new }) result }
+    ensures stale { host.new.stale ≡ true
+        → (result ≡ answer_of.Memory) ⊎ (result ≡ answer_of.Keeper) }
+    ensures caused { IsCaused
+        (record { before = K.faults keeper.old; behind = K.faults keeper.new }) result }
     ensures later { K.faults keeper.old ≤ K.faults keeper.new }
 {
     host.answer(keeper, caller, now, request, steps)
@@ -49,8 +51,10 @@ pub fn ask<K: Keeper, C: Clock, L: Ledger>(
         (record { host = host.old; moments = C.left clock.old; failed = K.faults keeper.old; keeper = keeper.old })
         (record { host = host.new; moments = C.left clock.new; failed = K.faults keeper.new; keeper = keeper.new })
         (λ served behind. IsHeard served caller request.now result behind) }
-    ensures stale { host.new.stale ≡ true → (result ≡ answer_of.Memory) ⊎ (result ≡ answer_of.Keeper) }
-    ensures caused { IsCaused (record { before = K.faults keeper.old; behind = K.faults keeper.new }) result }
+    ensures stale { host.new.stale ≡ true
+        → (result ≡ answer_of.Memory) ⊎ (result ≡ answer_of.Keeper) }
+    ensures caused { IsCaused
+        (record { before = K.faults keeper.old; behind = K.faults keeper.new }) result }
     ensures later { K.faults keeper.old ≤ K.faults keeper.new }
 {
     let now = clock.now();

@@ -159,11 +159,17 @@ impl Keeper for FaultyKeeper {
 
     fn load(&mut self, alloc: Global) -> Result<Vec<(RecordKey, Bytes)>, KeeperFault>
         ensures rise { IfOk result (λ pairs. KeysRise pairs.items) }
-        ensures gave { IfOk result (λ pairs. ⊤ → (m : Map) → m ≡ map_of self.old.records → m ≡ map_of pairs.items) }
-        ensures alone { OnOk result (⊤ → (m : Map) → m ≡ map_of self.old.records → (x : Map) → x ≡ map_of self.new.records → x ≡ m) }
-        ensures done { OnOk result (⊤ → (m : Map) → m ≡ map_of self.old.records → m ≡ map_of self.new.records) }
-        ensures kept { OnErr result (⊤ → ⊤ → (m : Map) → m ≡ map_of self.old.records → m ≡ map_of self.new.records) }
-        ensures stops { ⊤ → (m : Map) → m ≡ map_of self.old.records → (x : Map) → x ≡ map_of self.new.records → x ≡ map_of self.old.records }
+        ensures gave { IfOk result
+            (λ pairs. ⊤ → (m : Map) → m ≡ map_of self.old.records → m ≡ map_of pairs.items) }
+        ensures alone { OnOk result
+            (⊤ → (m : Map) → m ≡ map_of self.old.records → (x : Map) → x ≡ map_of self.new.records
+            → x ≡ m) }
+        ensures done { OnOk result
+            (⊤ → (m : Map) → m ≡ map_of self.old.records → m ≡ map_of self.new.records) }
+        ensures kept { OnErr result
+            (⊤ → ⊤ → (m : Map) → m ≡ map_of self.old.records → m ≡ map_of self.new.records) }
+        ensures stops { ⊤ → (m : Map) → m ≡ map_of self.old.records → (x : Map)
+            → x ≡ map_of self.new.records → x ≡ map_of self.old.records }
         ensures told { ⊤ → ⊤ }
         ensures served { ⊤ → ⊤ → ⊤ }
         ensures serves { OnOk result (⊤ → ⊤) }
@@ -179,18 +185,28 @@ impl Keeper for FaultyKeeper {
     }
 
     fn commit(&mut self, alloc: Global, ops: &[Op]) -> Result<(), KeeperFault>
-        ensures done { OnOk result (⊤ → (m : Map) → m ≡ map_of self.old.records → applied m ops.now ≡ map_of self.new.records) }
-        ensures alone { OnOk result (⊤ → (m : Map) → m ≡ map_of self.old.records → (x : Map) → x ≡ map_of self.new.records → x ≡ applied m ops.now) }
-        ensures failed { OnErr result (⊤ → ⊤ → (m : Map) → m ≡ map_of self.old.records → (m ≡ map_of self.new.records) ⊎ (applied m ops.now ≡ map_of self.new.records)) }
-        ensures kept { result ≡ Err fault.Memory → ⊤ → ⊤ → (m : Map) → m ≡ map_of self.old.records → m ≡ map_of self.new.records }
-        ensures stops { ⊤ → (m : Map) → m ≡ map_of self.old.records → (x : Map) → x ≡ map_of self.new.records → (x ≡ map_of self.old.records) ⊎ (x ≡ applied m ops.now) }
+        ensures done { OnOk result
+            (⊤ → (m : Map) → m ≡ map_of self.old.records
+            → applied m ops.now ≡ map_of self.new.records) }
+        ensures alone { OnOk result
+            (⊤ → (m : Map) → m ≡ map_of self.old.records → (x : Map) → x ≡ map_of self.new.records
+            → x ≡ applied m ops.now) }
+        ensures failed { OnErr result
+            (⊤ → ⊤ → (m : Map) → m ≡ map_of self.old.records
+            → (m ≡ map_of self.new.records) ⊎ (applied m ops.now ≡ map_of self.new.records)) }
+        ensures kept { result ≡ Err fault.Memory → ⊤ → ⊤ → (m : Map) → m ≡ map_of self.old.records
+            → m ≡ map_of self.new.records }
+        ensures stops { ⊤ → (m : Map) → m ≡ map_of self.old.records → (x : Map)
+            → x ≡ map_of self.new.records
+            → (x ≡ map_of self.old.records) ⊎ (x ≡ applied m ops.now) }
         ensures told { ⊤ → ⊤ }
         ensures served { ⊤ → ⊤ → ⊤ }
         ensures serves { OnOk result (⊤ → ⊤) }
         ensures cause { HasKeeperCause self.old.plan.faults self.new.plan.faults result }
         ensures plan { self.new.plan ≡ after_call self.old.plan }
         ensures fails { (result ≡ Err fault.Failed) ↔ IsTrue (fails_next self.old.plan) }
-        ensures unstored { IsTrue (fails_next self.old.plan) → self.old.stores ≡ false → self.new.records ≡ self.old.records }
+        ensures unstored { IsTrue (fails_next self.old.plan) → self.old.stores ≡ false
+            → self.new.records ≡ self.old.records }
         ensures stores { self.new.stores ≡ self.old.stores }
     {
         if self.plan.next_fails() {

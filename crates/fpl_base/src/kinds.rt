@@ -29,7 +29,8 @@ impl Position {
 
     /// The position of this letter; `None` exactly where no position has it.
     pub fn from_letter(letter: &[u8]) -> Option<Self>
-        ensures { MatchOption result ((p : Position) → letter.now ≢ letter_of p) (λ p. letter.now ≡ letter_of p) }
+        ensures { MatchOption result ((p : Position) → letter.now ≢ letter_of p)
+            (λ p. letter.now ≡ letter_of p) }
     {
         match letter {
             b"G" => Some(Position::Keeper),

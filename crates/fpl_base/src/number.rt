@@ -7,7 +7,8 @@ use std::str;
 /// The number that these bytes spell in decimal, without a sign and without a zero in front of another digit, where it
 /// is at most `greatest`; `None` exactly where they spell no such number.
 pub fn read_number(bytes: &[u8], greatest: u64) -> Option<u64>
-    ensures { MatchOption result ((n : ℕ) → n ≤ greatest → bytes.now ≢ decimal n) (λ n. (n ≤ greatest) × (bytes.now ≡ decimal n)) }
+    ensures { MatchOption result ((n : ℕ) → n ≤ greatest → bytes.now ≢ decimal n)
+        (λ n. (n ≤ greatest) × (bytes.now ≡ decimal n)) }
 {
     if !has_plain_front(bytes) {
         return None;
@@ -26,7 +27,8 @@ pub fn read_number(bytes: &[u8], greatest: u64) -> Option<u64>
 
 // There is no plus in front, and no zero but alone.
 fn has_plain_front(bytes: &[u8]) -> bool
-    ensures { IsTrue result ↔ ((slice_index bytes.now 0 ≢ 43) × (slice_index bytes.now 0 ≡ 48 → length bytes.now ≡ 1)) }
+    ensures { IsTrue result
+        ↔ ((slice_index bytes.now 0 ≢ 43) × (slice_index bytes.now 0 ≡ 48 → length bytes.now ≡ 1)) }
 {
     match bytes {
         [b'+', ..] => false,

@@ -101,11 +101,17 @@ pub trait Keeper {
     /// All records, in the order of their keys. It takes memory.
     fn load(&mut self, alloc: Global) -> Result<Vec<(RecordKey, Bytes)>, KeeperFault>
         ensures rise { IfOk result (λ pairs. KeysRise pairs.items) }
-        ensures gave { IfOk result (λ pairs. tells self.new → (m : Map) → holds self.old m → m ≡ map_of pairs.items) }
-        ensures alone { OnOk result (tells self.new → (m : Map) → holds self.old m → (x : Map) → passes self.new x → x ≡ m) }
-        ensures done { OnOk result (tells self.new → (m : Map) → holds self.old m → holds self.new m) }
-        ensures kept { OnErr result (tells self.new → serves self.new → (m : Map) → holds self.old m → holds self.new m) }
-        ensures stops { tells self.new → (m : Map) → holds self.old m → (x : Map) → passes self.new x → passes self.old x }
+        ensures gave { IfOk result
+            (λ pairs. tells self.new → (m : Map) → holds self.old m → m ≡ map_of pairs.items) }
+        ensures alone { OnOk result
+            (tells self.new → (m : Map) → holds self.old m → (x : Map) → passes self.new x
+            → x ≡ m) }
+        ensures done { OnOk result
+            (tells self.new → (m : Map) → holds self.old m → holds self.new m) }
+        ensures kept { OnErr result
+            (tells self.new → serves self.new → (m : Map) → holds self.old m → holds self.new m) }
+        ensures stops { tells self.new → (m : Map) → holds self.old m → (x : Map)
+            → passes self.new x → passes self.old x }
         ensures told { tells self.new → tells self.old }
         ensures served { tells self.new → serves self.new → serves self.old }
         ensures serves { OnOk result (tells self.new → serves self.new) }
@@ -113,11 +119,18 @@ pub trait Keeper {
 
     /// Applies all changes, in their order, or none. It takes memory.
     fn commit(&mut self, alloc: Global, ops: &[Op]) -> Result<(), KeeperFault>
-        ensures done { OnOk result (tells self.new → (m : Map) → holds self.old m → holds self.new (applied m ops.now)) }
-        ensures alone { OnOk result (tells self.new → (m : Map) → holds self.old m → (x : Map) → passes self.new x → x ≡ applied m ops.now) }
-        ensures failed { OnErr result (tells self.new → serves self.new → (m : Map) → holds self.old m → holds self.new m ⊎ holds self.new (applied m ops.now)) }
-        ensures kept { result ≡ Err fault.Memory → tells self.new → serves self.new → (m : Map) → holds self.old m → holds self.new m }
-        ensures stops { tells self.new → (m : Map) → holds self.old m → (x : Map) → passes self.new x → passes self.old x ⊎ (x ≡ applied m ops.now) }
+        ensures done { OnOk result
+            (tells self.new → (m : Map) → holds self.old m → holds self.new (applied m ops.now)) }
+        ensures alone { OnOk result
+            (tells self.new → (m : Map) → holds self.old m → (x : Map) → passes self.new x
+            → x ≡ applied m ops.now) }
+        ensures failed { OnErr result
+            (tells self.new → serves self.new → (m : Map) → holds self.old m
+            → holds self.new m ⊎ holds self.new (applied m ops.now)) }
+        ensures kept { result ≡ Err fault.Memory → tells self.new → serves self.new → (m : Map)
+            → holds self.old m → holds self.new m }
+        ensures stops { tells self.new → (m : Map) → holds self.old m → (x : Map)
+            → passes self.new x → passes self.old x ⊎ (x ≡ applied m ops.now) }
         ensures told { tells self.new → tells self.old }
         ensures served { tells self.new → serves self.new → serves self.old }
         ensures serves { OnOk result (tells self.new → serves self.new) }
@@ -142,15 +155,24 @@ pub trait Doors {
     /// The next connection. Its counts of faults are 0.
     fn next(&mut self) -> Result<(Self::In, Self::Out), Failed>
         requires { IfSome (coming self.old) (λ all. 0 < length all) }
-        ensures opened { IfOk result (λ ends. Opens (coming self.old) (coming self.new) (Self.In.left ends.0) (Self.Out.taken ends.1)) }
-        ensures counts { IfOk result (λ ends. (Self.In.faults ends.0 ≡ 0) × (Self.Out.faults ends.1 ≡ 0)) }
+        ensures opened { IfOk result
+            (λ ends. Opens (coming self.old) (coming self.new) (Self.In.left ends.0)
+            (Self.Out.taken ends.1)) }
+        ensures counts { IfOk result
+            (λ ends. (Self.In.faults ends.0 ≡ 0) × (Self.Out.faults ends.1 ≡ 0)) }
         ensures kept { OnErr result (coming self.new ≡ coming self.old) }
         ensures back { given_back self.new ≡ given_back self.old }
         ensures cause { HasCause (faults self.old) (faults self.new) result };
 
     /// Gives a connection back that has ended.
     fn give_back(&mut self, source: Self::In, sink: Self::Out)
-        ensures back { GivesBack (given_back self.old) (given_back self.new) (record { left = Self.In.left source; taken = Self.Out.taken sink; read_faults = Self.In.faults source; write_faults = Self.Out.faults sink }) }
+        ensures back { GivesBack (given_back self.old) (given_back self.new)
+            (record {
+              left = Self.In.left source;
+              taken = Self.Out.taken sink;
+              read_faults = Self.In.faults source;
+              write_faults = Self.Out.faults sink;
+            }) }
         ensures coming { coming self.new ≡ coming self.old }
         ensures faults { faults self.new ≡ faults self.old };
 }
@@ -188,9 +210,11 @@ pub trait Shelf {
 
     /// The bytes of the file of a name. It takes memory.
     fn read(&mut self, alloc: Global, name: &str) -> Result<Bytes, ShelfFault>
-        ensures gave { IfOk result (λ bytes. IfSome (files self.old) (λ bytes_of. bytes ≡ bytes_of name.now)) }
+        ensures gave { IfOk result
+            (λ bytes. IfSome (files self.old) (λ bytes_of. bytes ≡ bytes_of name.now)) }
         ensures short { IfOk result (λ bytes. length bytes ≤ 4194304) }
-        ensures long { result ≡ Err fault.Long → IfSome (files self.old) (λ bytes_of. 4194304 < length (bytes_of name.now)) }
+        ensures long { result ≡ Err fault.Long
+            → IfSome (files self.old) (λ bytes_of. 4194304 < length (bytes_of name.now)) }
         ensures kept { files self.new ≡ files self.old }
         ensures cause { HasShelfCause (faults self.old) (faults self.new) result };
 }

@@ -17,8 +17,10 @@ fn place_of(rows: &[(RecordKey, Bytes)], key: RecordKey) -> usize
 
 // Whether the record of this key stands at the place.
 fn stands_at(rows: &[(RecordKey, Bytes)], at: usize, key: RecordKey) -> bool
-    ensures there { IsTrue result → (at < length rows.now) × HoldsAt (λ row. row.0 ≡ key) rows.now at }
-    ensures away { result ≡ false → at < length rows.now → HoldsAt (λ row. is_same_key row.0 key ≡ false) rows.now at }
+    ensures there { IsTrue result
+        → (at < length rows.now) × HoldsAt (λ row. row.0 ≡ key) rows.now at }
+    ensures away { result ≡ false → at < length rows.now
+        → HoldsAt (λ row. is_same_key row.0 key ≡ false) rows.now at }
 {
     at < rows.len() && rows[at].0 == key
 }
@@ -29,7 +31,8 @@ pub fn put(rows: &mut Vec<(RecordKey, Bytes)>, key: RecordKey, body: Bytes)
     requires room { vec_len rows.old < vec_capacity rows.old }
     ensures map { map_of rows.new.items ≡ applied_one (map_of rows.old.items) (op.Put key body) }
     ensures rise { KeysRise rows.new.items }
-    ensures room { (vec_capacity rows.new ≡ vec_capacity rows.old) × (vec_len rows.new ≤ vec_len rows.old + 1) }
+    ensures room { (vec_capacity rows.new ≡ vec_capacity rows.old)
+        × (vec_len rows.new ≤ vec_len rows.old + 1) }
 {
     let at = place_of(rows, key);
     if stands_at(rows, at, key) {
@@ -44,7 +47,8 @@ pub fn delete(rows: &mut Vec<(RecordKey, Bytes)>, key: RecordKey)
     requires rise { KeysRise rows.old.items }
     ensures map { map_of rows.new.items ≡ applied_one (map_of rows.old.items) (op.Delete key) }
     ensures rise { KeysRise rows.new.items }
-    ensures room { (vec_capacity rows.new ≡ vec_capacity rows.old) × (vec_len rows.new ≤ vec_len rows.old) }
+    ensures room { (vec_capacity rows.new ≡ vec_capacity rows.old)
+        × (vec_len rows.new ≤ vec_len rows.old) }
 {
     let at = place_of(rows, key);
     if stands_at(rows, at, key) {

@@ -66,7 +66,9 @@ pub fn opened<K: Keeper, L: Ledger>(
     keeper: &mut K,
     steps: &mut Steps<L>,
 ) -> Result<(Desk, HostWithScratch), OpenFault>
-    ensures opened { MatchResult result (λ opened. Opens K.tells K.holds K.passes keeper.old keeper.new opened.1.host) (Withholds K.tells K.holds K.passes K.faults keeper.old keeper.new) }
+    ensures opened { MatchResult result
+        (λ opened. Opens K.tells K.holds K.passes keeper.old keeper.new opened.1.host)
+        (Withholds K.tells K.holds K.passes K.faults keeper.old keeper.new) }
     ensures operator { IfOk result (λ opened. opened.1.host.rows.operator ≡ key.now) }
     ensures reread { IfOk result (λ opened. opened.1.host.reread ≡ false) }
     ensures counts { result ≢ Err fault.Keeper → K.faults keeper.new ≡ K.faults keeper.old }
@@ -151,7 +153,9 @@ fn answered<K: Keeper, C: Clock, L: Ledger>(
     ensures answered { Leads K.tells K.serves K.holds K.passes
         (record { host = host.old.host; moments = C.left clock.old; failed = K.faults keeper.old; keeper = keeper.old })
         (record { host = host.new.host; moments = C.left clock.new; failed = K.faults keeper.new; keeper = keeper.new })
-        (λ served behind. RepliesAs (asked_in host.old.host.rows (request_seen message.now) route ids.now) served (answer_in result) behind) }
+        (λ served behind. RepliesAs
+        (asked_in host.old.host.rows (request_seen message.now) route ids.now) served
+        (answer_in result) behind) }
     ensures counts { CountsAs (asked_in host.old.host.rows (request_seen message.now) route ids.now)
         (record { kept = record { host = host.old.host; moments = C.left clock.old; failed = K.faults keeper.old; keeper = keeper.old }; reads = steps.old })
         (record { kept = record { host = host.new.host; moments = C.left clock.new; failed = K.faults keeper.new; keeper = keeper.new }; reads = steps.new }) }
@@ -262,12 +266,25 @@ fn unready(alloc: Global, fault: OpenFault) -> Result<Reply, Memory>
 impl<K: Keeper, C: Clock, L: Ledger> Service<HostWithScratch, K, C, L> for Desk {
     ghost State = { Counted K };
 
-    ghost see = { λ now. record { kept = record { host = now.0.host; moments = C.left now.2; failed = K.faults now.1; keeper = now.1 }; reads = now.3 } };
+    ghost see = { λ now.
+        record {
+          kept
+              = record {
+                host = now.0.host;
+                moments = C.left now.2;
+                failed = K.faults now.1;
+                keeper = now.1;
+              };
+          reads = now.3;
+        } };
 
     // How many reads are counted; and what is answered by the rows, with what a stop leaves, and by the keeper's records.
-    ghost answers = { λ _. Both CountsLooks (Both (LiftsWhile (λ _. ⊤) (λ now. IsStoodByRows now.kept) IsReplyUntil)
-        (Both (LiftsWhile (λ now. K.tells now.kept.keeper) (λ now. IsStoodByStops K.holds K.passes now.kept) IsReplyUntil)
-        (LiftsWhile (λ now. K.tells now.kept.keeper × K.serves now.kept.keeper) (λ now. StandsByRecords K.holds K.passes now.kept) IsKeptReply))) };
+    ghost answers = { λ _. Both CountsLooks
+        (Both (LiftsWhile (λ _. ⊤) (λ now. IsStoodByRows now.kept) IsReplyUntil)
+        (Both (LiftsWhile (λ now. K.tells now.kept.keeper)
+        (λ now. IsStoodByStops K.holds K.passes now.kept) IsReplyUntil)
+        (LiftsWhile (λ now. K.tells now.kept.keeper × K.serves now.kept.keeper)
+        (λ now. StandsByRecords K.holds K.passes now.kept) IsKeptReply))) };
 
     ghost ready = { λ _ _. ⊤ };
 

@@ -76,8 +76,10 @@ impl<K: Keeper> Answering for ReadsFirst<K> {
     ghost one = { CountsLooks };
 
     ghost other = { Both (LiftsWhile (λ _. ⊤) (λ now. IsStoodByRows now.kept) IsReplyUntil)
-        (Both (LiftsWhile (λ now. K.tells now.kept.keeper) (λ now. IsStoodByStops K.holds K.passes now.kept) IsReplyUntil)
-        (LiftsWhile (λ now. K.tells now.kept.keeper × K.serves now.kept.keeper) (λ now. StandsByRecords K.holds K.passes now.kept) IsKeptReply)) };
+        (Both (LiftsWhile (λ now. K.tells now.kept.keeper)
+        (λ now. IsStoodByStops K.holds K.passes now.kept) IsReplyUntil)
+        (LiftsWhile (λ now. K.tells now.kept.keeper × K.serves now.kept.keeper)
+        (λ now. StandsByRecords K.holds K.passes now.kept) IsKeptReply)) };
 }
 
 /// What they stand for: by the rows, and by the other two.
@@ -91,8 +93,11 @@ impl<K: Keeper> Answering for RowsFirst<K> {
 
     ghost one = { LiftsWhile (λ _. ⊤) (λ now. IsStoodByRows now.kept) IsReplyUntil };
 
-    ghost other = { Both (LiftsWhile (λ now. K.tells now.kept.keeper) (λ now. IsStoodByStops K.holds K.passes now.kept) IsReplyUntil)
-        (LiftsWhile (λ now. K.tells now.kept.keeper × K.serves now.kept.keeper) (λ now. StandsByRecords K.holds K.passes now.kept) IsKeptReply) };
+    ghost other = { Both
+        (LiftsWhile (λ now. K.tells now.kept.keeper)
+        (λ now. IsStoodByStops K.holds K.passes now.kept) IsReplyUntil)
+        (LiftsWhile (λ now. K.tells now.kept.keeper × K.serves now.kept.keeper)
+        (λ now. StandsByRecords K.holds K.passes now.kept) IsKeptReply) };
 }
 
 /// The other two: with what a stop leaves, and by the keeper's records.
@@ -104,7 +109,9 @@ pub struct StopsFirst<K: Keeper> {
 impl<K: Keeper> Answering for StopsFirst<K> {
     ghost State = { Counted K };
 
-    ghost one = { LiftsWhile (λ now. K.tells now.kept.keeper) (λ now. IsStoodByStops K.holds K.passes now.kept) IsReplyUntil };
+    ghost one = { LiftsWhile (λ now. K.tells now.kept.keeper)
+        (λ now. IsStoodByStops K.holds K.passes now.kept) IsReplyUntil };
 
-    ghost other = { LiftsWhile (λ now. K.tells now.kept.keeper × K.serves now.kept.keeper) (λ now. StandsByRecords K.holds K.passes now.kept) IsKeptReply };
+    ghost other = { LiftsWhile (λ now. K.tells now.kept.keeper × K.serves now.kept.keeper)
+        (λ now. StandsByRecords K.holds K.passes now.kept) IsKeptReply };
 }

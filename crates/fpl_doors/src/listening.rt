@@ -38,7 +38,8 @@ impl<'a, R: Net> Listening<'a, R> {
     }
 
     fn open(&mut self) -> io::Result<(Hearing<R::Stream>, Telling<R::Stream>)>
-        ensures counts { IfOk result (λ ends. (ends.0.faults ≡ 0) × (⟦<Telling<R::Stream> as Sink>⟧.faults ends.1 ≡ 0)) }
+        ensures counts { IfOk result
+            (λ ends. (ends.0.faults ≡ 0) × (⟦<Telling<R::Stream> as Sink>⟧.faults ends.1 ≡ 0)) }
         ensures faults { self.new.faults ≡ self.old.faults }
     {
         if self.listener.is_none() {
@@ -64,7 +65,8 @@ fn taken_from<L: OpenListener>(listener: &L) -> io::Result<L::Stream> {
 
 // The two ends of a stream.
 fn ends_of<T: Write + OpenStream + Drop>(stream: T) -> io::Result<(Hearing<T>, Telling<T>)>
-    ensures { IfOk result (λ ends. (ends.0.faults ≡ 0) × (⟦<Telling<T> as Sink>⟧.faults ends.1 ≡ 0)) }
+    ensures { IfOk result
+        (λ ends. (ends.0.faults ≡ 0) × (⟦<Telling<T> as Sink>⟧.faults ends.1 ≡ 0)) }
 {
     let patience = Some(Duration::from_secs(PATIENCE));
     stream.set_read_timeout(patience)?;

@@ -85,7 +85,12 @@ impl<'a> Model for MemoryDoors<'a> {
 
     ghost Value = { KnownDoors };
 
-    ghost view = { λ d. record { coming = map (λ v. v.bytes.now) d.coming.items; given_back = ended_in d.past; piece = d.piece } };
+    ghost view = { λ d.
+        record {
+          coming = map (λ v. v.bytes.now) d.coming.items;
+          given_back = ended_in d.past;
+          piece = d.piece;
+        } };
 }
 
 impl<'a> MemoryDoors<'a> {
@@ -97,7 +102,12 @@ impl<'a> MemoryDoors<'a> {
         piece: usize,
         room: usize,
     ) -> Result<Self, Memory>
-        ensures { IfOk result (λ d. d ≡ record { coming = map (λ c. c.now) connections.now; given_back = []; piece = piece }) }
+        ensures { IfOk result
+            (λ d. d ≡ record {
+              coming = map (λ c. c.now) connections.now;
+              given_back = [];
+              piece = piece;
+            }) }
     {
         let mut coming = VecDeque::new(alloc);
         for bytes in connections {
@@ -118,7 +128,8 @@ impl<'a> MemoryDoors<'a> {
     pub fn take_last(&mut self) -> Option<(MemorySource<'a>, FaultySink)>
         ensures coming { self.new.coming ≡ self.old.coming }
         ensures piece { self.new.piece ≡ self.old.piece }
-        ensures last { MatchOption result ((self.old.given_back ≡ []) × (self.new.given_back ≡ [])) (λ ends. self.old.given_back ≡ self.new.given_back ++ ended_with ends.0 ends.1 ∷ []) }
+        ensures last { MatchOption result ((self.old.given_back ≡ []) × (self.new.given_back ≡ []))
+            (λ ends. self.old.given_back ≡ self.new.given_back ++ ended_with ends.0 ends.1 ∷ []) }
     {
         match mem::replace(&mut self.past, Past::Empty) {
             Past::Empty => None,
@@ -143,8 +154,12 @@ impl<'a> Doors for MemoryDoors<'a> {
 
     fn next(&mut self) -> Result<(MemorySource<'a>, MemorySink<'a>), Failed>
         requires { 0 < length self.old.coming }
-        ensures opened { IfOk result (λ ends. Opens (Some self.old.coming) (Some self.new.coming) (Some ends.0.left) (Some ends.1.taken)) }
-        ensures counts { IfOk result (λ ends. (⟦<MemorySource<'a> as Source>⟧.faults ends.0 ≡ 0) × (ends.1.plan.faults ≡ 0)) }
+        ensures opened { IfOk result
+            (λ ends. Opens (Some self.old.coming) (Some self.new.coming) (Some ends.0.left)
+            (Some ends.1.taken)) }
+        ensures counts { IfOk result
+            (λ ends. (⟦<MemorySource<'a> as Source>⟧.faults ends.0 ≡ 0)
+            × (ends.1.plan.faults ≡ 0)) }
         ensures kept { OnErr result (Some self.new.coming ≡ Some self.old.coming) }
         ensures back { Some self.new.given_back ≡ Some self.old.given_back }
         ensures cause { HasCause 0 0 result }
@@ -178,12 +193,24 @@ impl<'a> Model for FaultyDoors<'a> {
 
     ghost Value = { PlannedDoors };
 
-    ghost view = { λ d. record { coming = d.doors.coming; given_back = d.doors.given_back; piece = d.doors.piece; plan = d.calls.plan } };
+    ghost view = { λ d.
+        record {
+          coming = d.doors.coming;
+          given_back = d.doors.given_back;
+          piece = d.doors.piece;
+          plan = d.calls.plan;
+        } };
 }
 
 impl<'a> FaultyDoors<'a> {
     pub fn new(doors: MemoryDoors<'a>, plan: Plan) -> Self
-        ensures { result ≡ record { coming = doors.entry.coming; given_back = doors.entry.given_back; piece = doors.entry.piece; plan = plan } }
+        ensures { result
+            ≡ record {
+              coming = doors.entry.coming;
+              given_back = doors.entry.given_back;
+              piece = doors.entry.piece;
+              plan = plan;
+            } }
     {
         FaultyDoors {
             doors,
@@ -196,7 +223,8 @@ impl<'a> FaultyDoors<'a> {
         ensures coming { self.new.coming ≡ self.old.coming }
         ensures piece { self.new.piece ≡ self.old.piece }
         ensures plan { self.new.plan ≡ self.old.plan }
-        ensures last { MatchOption result ((self.old.given_back ≡ []) × (self.new.given_back ≡ [])) (λ ends. self.old.given_back ≡ self.new.given_back ++ ended_with ends.0 ends.1 ∷ []) }
+        ensures last { MatchOption result ((self.old.given_back ≡ []) × (self.new.given_back ≡ []))
+            (λ ends. self.old.given_back ≡ self.new.given_back ++ ended_with ends.0 ends.1 ∷ []) }
     {
         self.doors.take_last()
     }
@@ -215,8 +243,12 @@ impl<'a> Doors for FaultyDoors<'a> {
 
     fn next(&mut self) -> Result<(MemorySource<'a>, MemorySink<'a>), Failed>
         requires { 0 < length self.old.coming }
-        ensures opened { IfOk result (λ ends. Opens (Some self.old.coming) (Some self.new.coming) (Some ends.0.left) (Some ends.1.taken)) }
-        ensures counts { IfOk result (λ ends. (⟦<MemorySource<'a> as Source>⟧.faults ends.0 ≡ 0) × (ends.1.plan.faults ≡ 0)) }
+        ensures opened { IfOk result
+            (λ ends. Opens (Some self.old.coming) (Some self.new.coming) (Some ends.0.left)
+            (Some ends.1.taken)) }
+        ensures counts { IfOk result
+            (λ ends. (⟦<MemorySource<'a> as Source>⟧.faults ends.0 ≡ 0)
+            × (ends.1.plan.faults ≡ 0)) }
         ensures kept { OnErr result (Some self.new.coming ≡ Some self.old.coming) }
         ensures back { Some self.new.given_back ≡ Some self.old.given_back }
         ensures cause { HasCause self.old.plan.faults self.new.plan.faults result }

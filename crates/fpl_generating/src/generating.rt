@@ -93,7 +93,8 @@ fn tabled_behind<W: Sink, K: Keeper, L: Ledger>(
     ensures same { season.new ≡ season.old }
     ensures fresh { OnOk result (host.new.stale ≡ false) }
     ensures output { OnOk result (output.new ≡ output.old) }
-    ensures statuses { IfErr result (λ status. (status ≡ 3) ⊎ (status ≡ 4) ⊎ (status ≡ 6) ⊎ (status ≡ 13)) }
+    ensures statuses { IfErr result
+        (λ status. (status ≡ 3) ⊎ (status ≡ 4) ⊎ (status ≡ 6) ⊎ (status ≡ 13)) }
     ensures keeper { result ≡ Err 4 → Rose (K.faults keeper.old) (K.faults keeper.new) }
     ensures write { result ≡ Err 3 → Rose (W.faults output.old) (W.faults output.new) }
     ensures later { K.faults keeper.old ≤ K.faults keeper.new }
@@ -104,7 +105,9 @@ fn tabled_behind<W: Sink, K: Keeper, L: Ledger>(
 
 // Writes the summary of the tables before the last step and behind it.
 fn summarised<W: Sink>(alloc: Global, first: &Table, second: &Table, output: &mut W) -> u8
-    ensures printed { PrintsOne (λ text. text ≡ summary_text first.now.sum second.now.sum second.now.entry second.now.total) 0 result (W.taken output.old) (W.taken output.new) }
+    ensures printed { PrintsOne
+        (λ text. text ≡ summary_text first.now.sum second.now.sum second.now.entry second.now.total)
+        0 result (W.taken output.old) (W.taken output.new) }
     ensures statuses { (result ≡ 0) ⊎ (result ≡ 3) ⊎ (result ≡ 6) }
     ensures write { result ≡ 3 → Rose (W.faults output.old) (W.faults output.new) }
 {
@@ -116,7 +119,8 @@ fn summarised<W: Sink>(alloc: Global, first: &Table, second: &Table, output: &mu
 
 fn summary_of(alloc: Global, first: &Table, second: &Table) -> Result<String, AllocError>
     ensures { IfOk result (λ text.
-        string_bytes text ≡ summary_text first.now.sum second.now.sum second.now.entry second.now.total) }
+        string_bytes text
+        ≡ summary_text first.now.sum second.now.sum second.now.entry second.now.total) }
 {
     lines_of(
         alloc,

@@ -38,7 +38,8 @@ pub(crate) fn tabled<W: Sink, K: Keeper, L: Ledger>(
         (IsTabled (W.taken output.old) (W.taken output.new) result) }
     ensures fresh { OnOk result (host.new.stale ≡ false) }
     ensures output { OnOk result (output.new ≡ output.old) }
-    ensures statuses { IfErr result (λ status. (status ≡ 3) ⊎ (status ≡ 4) ⊎ (status ≡ 6) ⊎ (status ≡ 13)) }
+    ensures statuses { IfErr result
+        (λ status. (status ≡ 3) ⊎ (status ≡ 4) ⊎ (status ≡ 6) ⊎ (status ≡ 13)) }
     ensures keeper { result ≡ Err 4 → Rose (K.faults keeper.old) (K.faults keeper.new) }
     ensures write { result ≡ Err 3 → Rose (W.faults output.old) (W.faults output.new) }
     ensures later { K.faults keeper.old ≤ K.faults keeper.new }

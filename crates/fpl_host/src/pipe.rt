@@ -22,7 +22,9 @@ pub fn pipe<S: Source, W: Sink, C: Clock, K: Keeper, L: Ledger>(
     keeper: &mut K,
     steps: &mut Steps<L>,
 ) -> u8
-    ensures session { Pipes K.tells K.serves K.holds K.passes K.faults keeper.old keeper.new key.now (S.left input.old) (S.left input.new) (C.left clock.old) (C.left clock.new) (W.taken output.old) (W.taken output.new) result }
+    ensures session { Pipes K.tells K.serves K.holds K.passes K.faults keeper.old keeper.new key.now
+        (S.left input.old) (S.left input.new) (C.left clock.old) (C.left clock.new)
+        (W.taken output.old) (W.taken output.new) result }
     ensures read { result ≡ 1 → Rose (S.faults input.old) (S.faults input.new) }
     ensures write { result ≡ 3 → Rose (W.faults output.old) (W.faults output.new) }
     ensures keeper { result ≡ 4 → Rose (K.faults keeper.old) (K.faults keeper.new) }

@@ -32,8 +32,11 @@ pub fn report<W: Sink, C: Clock, K: Keeper, L: Ledger>(
     keeper: &mut K,
     steps: &mut Steps<L>,
 ) -> u8
-    ensures reports { Reports K.tells K.serves K.holds K.passes K.faults keeper.old keeper.new key.now what (C.left clock.old) (C.left clock.new) (W.taken output.old) (W.taken output.new) result }
-    ensures statuses { (result ≡ 0) ⊎ (result ≡ 3) ⊎ (result ≡ 4) ⊎ (result ≡ 5) ⊎ (result ≡ 6) ⊎ (result ≡ 13) }
+    ensures reports { Reports K.tells K.serves K.holds K.passes K.faults keeper.old keeper.new
+        key.now what (C.left clock.old) (C.left clock.new) (W.taken output.old)
+        (W.taken output.new) result }
+    ensures statuses { (result ≡ 0) ⊎ (result ≡ 3) ⊎ (result ≡ 4) ⊎ (result ≡ 5) ⊎ (result ≡ 6)
+        ⊎ (result ≡ 13) }
     ensures write { result ≡ 3 → Rose (W.faults output.old) (W.faults output.new) }
     ensures keeper { result ≡ 4 → Rose (K.faults keeper.old) (K.faults keeper.new) }
 {
@@ -80,8 +83,11 @@ pub fn load<W: Sink, C: Clock, K: Keeper, F: Shelf, L: Ledger>(
     shelf: &mut F,
     steps: &mut Steps<L>,
 ) -> u8
-    ensures loads { Loads K.tells K.serves K.holds K.passes K.faults keeper.old keeper.new key.now (F.files shelf.old) folder.now split profile (C.left clock.old) (C.left clock.new) (W.taken output.old) (W.taken output.new) result }
-    ensures statuses { (result ≡ 0) ⊎ (result ≡ 3) ⊎ (result ≡ 4) ⊎ (result ≡ 5) ⊎ (result ≡ 6) ⊎ (result ≡ 9) ⊎ (result ≡ 10) ⊎ (result ≡ 11) ⊎ (result ≡ 13) }
+    ensures loads { Loads K.tells K.serves K.holds K.passes K.faults keeper.old keeper.new key.now
+        (F.files shelf.old) folder.now split profile (C.left clock.old) (C.left clock.new)
+        (W.taken output.old) (W.taken output.new) result }
+    ensures statuses { (result ≡ 0) ⊎ (result ≡ 3) ⊎ (result ≡ 4) ⊎ (result ≡ 5) ⊎ (result ≡ 6)
+        ⊎ (result ≡ 9) ⊎ (result ≡ 10) ⊎ (result ≡ 11) ⊎ (result ≡ 13) }
     ensures write { result ≡ 3 → Rose (W.faults output.old) (W.faults output.new) }
     ensures keeper { result ≡ 4 → Rose (K.faults keeper.old) (K.faults keeper.new) }
     ensures shelf { result ≡ 9 → Rose (F.faults shelf.old) (F.faults shelf.new) }
@@ -103,9 +109,12 @@ fn load_all<W: Sink, C: Clock, K: Keeper, L: Ledger>(
     steps: &mut Steps<L>,
 ) -> u8
     requires { All IsCommand commands.items }
-    ensures loads { RunsThrough K.tells K.serves K.holds K.passes K.faults keeper.old keeper.new key.now (C.left clock.old) (C.left clock.new) (W.taken output.old) (W.taken output.new) result
+    ensures loads { RunsThrough K.tells K.serves K.holds K.passes K.faults keeper.old keeper.new
+        key.now (C.left clock.old) (C.left clock.new) (W.taken output.old)
+        (W.taken output.new) result
         (IsLoad commands.items (W.taken output.old) (W.taken output.new) result) }
-    ensures statuses { (result ≡ 0) ⊎ (result ≡ 3) ⊎ (result ≡ 4) ⊎ (result ≡ 5) ⊎ (result ≡ 6) ⊎ (result ≡ 13) }
+    ensures statuses { (result ≡ 0) ⊎ (result ≡ 3) ⊎ (result ≡ 4) ⊎ (result ≡ 5) ⊎ (result ≡ 6)
+        ⊎ (result ≡ 13) }
     ensures write { result ≡ 3 → Rose (W.faults output.old) (W.faults output.new) }
     ensures keeper { result ≡ 4 → Rose (K.faults keeper.old) (K.faults keeper.new) }
 {
@@ -123,8 +132,11 @@ pub fn generate<W: Sink, K: Keeper, L: Ledger>(
     keeper: &mut K,
     steps: &mut Steps<L>,
 ) -> u8
-    ensures generates { (moments : Option Moments) → Generates K.tells K.serves K.holds K.passes K.faults keeper.old keeper.new seed moments (W.taken output.old) (W.taken output.new) result }
-    ensures statuses { (result ≡ 0) ⊎ (result ≡ 3) ⊎ (result ≡ 4) ⊎ (result ≡ 5) ⊎ (result ≡ 6) ⊎ (result ≡ 13) }
+    ensures generates { (moments : Option Moments)
+        → Generates K.tells K.serves K.holds K.passes K.faults keeper.old keeper.new seed moments
+        (W.taken output.old) (W.taken output.new) result }
+    ensures statuses { (result ≡ 0) ⊎ (result ≡ 3) ⊎ (result ≡ 4) ⊎ (result ≡ 5) ⊎ (result ≡ 6)
+        ⊎ (result ≡ 13) }
     ensures write { result ≡ 3 → Rose (W.faults output.old) (W.faults output.new) }
     ensures keeper { result ≡ 4 → Rose (K.faults keeper.old) (K.faults keeper.new) }
 {
@@ -143,9 +155,12 @@ fn generate_as<W: Sink, K: Keeper, L: Ledger>(
     keeper: &mut K,
     steps: &mut Steps<L>,
 ) -> u8
-    ensures generates { (moments : Option Moments) → RunsThrough K.tells K.serves K.holds K.passes K.faults keeper.old keeper.new key.now moments moments (W.taken output.old) (W.taken output.new) result
+    ensures generates { (moments : Option Moments)
+        → RunsThrough K.tells K.serves K.holds K.passes K.faults keeper.old keeper.new key.now
+        moments moments (W.taken output.old) (W.taken output.new) result
         (IsGenerated seed (W.taken output.old) (W.taken output.new) result) }
-    ensures statuses { (result ≡ 0) ⊎ (result ≡ 3) ⊎ (result ≡ 4) ⊎ (result ≡ 5) ⊎ (result ≡ 6) ⊎ (result ≡ 13) }
+    ensures statuses { (result ≡ 0) ⊎ (result ≡ 3) ⊎ (result ≡ 4) ⊎ (result ≡ 5) ⊎ (result ≡ 6)
+        ⊎ (result ≡ 13) }
     ensures write { result ≡ 3 → Rose (W.faults output.old) (W.faults output.new) }
     ensures keeper { result ≡ 4 → Rose (K.faults keeper.old) (K.faults keeper.new) }
 {

@@ -102,9 +102,12 @@ pub fn run<S: Source, W: Sink, C: Clock, K: Keeper, D: Doors, F: Shelf, L: Ledge
 
 // Scores the match whose rows are the input.
 fn score<S: Source, W: Sink>(alloc: Global, profile: Profile, input: &mut S, output: &mut W) -> u8
-    ensures score { IfSome (S.left input.old) (λ bytes. Ends (IsScoreDue profile bytes) result (W.taken output.old) (W.taken output.new)) }
+    ensures score { IfSome (S.left input.old)
+        (λ bytes. Ends (IsScoreDue profile bytes) result (W.taken output.old)
+        (W.taken output.new)) }
     ensures end { result ≡ 0 → IsAtEnd (S.left input.new) }
-    ensures statuses { (result ≡ 0) ⊎ (result ≡ 1) ⊎ (result ≡ 3) ⊎ (result ≡ 6) ⊎ (result ≡ 10) ⊎ (result ≡ 11) }
+    ensures statuses { (result ≡ 0) ⊎ (result ≡ 1) ⊎ (result ≡ 3) ⊎ (result ≡ 6) ⊎ (result ≡ 10)
+        ⊎ (result ≡ 11) }
     ensures read { result ≡ 1 → Rose (S.faults input.old) (S.faults input.new) }
     ensures write { result ≡ 3 → Rose (W.faults output.old) (W.faults output.new) }
     ensures memory { result ≡ 6 → Keeps (W.taken output.old) (W.taken output.new) }

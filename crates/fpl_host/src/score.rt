@@ -38,9 +38,12 @@ impl From<Memory> for Halt {
 
 /// What is due for the match whose rows are the input, by the rules of a profile.
 pub fn score_due<S: Source>(alloc: Global, profile: Profile, input: &mut S) -> Result<Due, Halt>
-    ensures due { IfOk result (λ due. IfSome (S.left input.old) (λ bytes. IsScoreDue profile bytes due.status (string_bytes due.text))) }
+    ensures due { IfOk result
+        (λ due. IfSome (S.left input.old)
+        (λ bytes. IsScoreDue profile bytes due.status (string_bytes due.text))) }
     ensures end { IfOk result (λ due. due.status ≡ 0 → IsAtEnd (S.left input.new)) }
-    ensures statuses { IfOk result (λ due. (due.status ≡ 0) ⊎ (due.status ≡ 11) ⊎ (due.status ≡ 10)) }
+    ensures statuses { IfOk result
+        (λ due. (due.status ≡ 0) ⊎ (due.status ≡ 11) ⊎ (due.status ≡ 10)) }
     ensures read { result ≡ Err Halt.Read → Rose (S.faults input.old) (S.faults input.new) }
     ensures later { S.faults input.old ≤ S.faults input.new }
 {
@@ -58,7 +61,8 @@ pub fn score_due<S: Source>(alloc: Global, profile: Profile, input: &mut S) -> R
 // What is due for these bytes, which are not too many.
 fn sheet_due(alloc: Global, profile: Profile, bytes: &[u8]) -> Result<Due, Memory>
     requires { length bytes.now ≤ 65536 }
-    ensures due { IfOk result (λ due. IsScoreDue profile bytes.now due.status (string_bytes due.text)) }
+    ensures due { IfOk result
+        (λ due. IsScoreDue profile bytes.now due.status (string_bytes due.text)) }
     ensures statuses { IfOk result (λ due. (due.status ≡ 0) ⊎ (due.status ≡ 11)) }
 {
     match score_sheet(alloc, profile, bytes) {

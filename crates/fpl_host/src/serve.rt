@@ -26,12 +26,15 @@ pub fn serve<W: Sink, C: Clock, K: Keeper, D: Doors, L: Ledger>(
     doors: &mut D,
     steps: &mut Steps<L>,
 ) -> u8
-    requires { MatchOption (D.coming doors.old) ((d : D) → D.coming d ≡ None) (λ all. connections ≤ length all) }
-    ensures served { Serves K.tells K.serves K.holds K.passes K.faults keeper.old keeper.new key.now connections
+    requires { MatchOption (D.coming doors.old) ((d : D) → D.coming d ≡ None)
+        (λ all. connections ≤ length all) }
+    ensures served { Serves K.tells K.serves K.holds K.passes K.faults keeper.old keeper.new key.now
+        connections
         (record { coming = D.coming doors.old; given_back = D.given_back doors.old; faults = D.faults doors.old })
         (record { coming = D.coming doors.new; given_back = D.given_back doors.new; faults = D.faults doors.new })
         (C.left clock.old) (C.left clock.new) (W.taken output.old) (W.taken output.new) result }
-    ensures statuses { (result ≡ 0) ⊎ (result ≡ 3) ⊎ (result ≡ 4) ⊎ (result ≡ 5) ⊎ (result ≡ 6) ⊎ (result ≡ 8) }
+    ensures statuses { (result ≡ 0) ⊎ (result ≡ 3) ⊎ (result ≡ 4) ⊎ (result ≡ 5) ⊎ (result ≡ 6)
+        ⊎ (result ≡ 8) }
     ensures write { result ≡ 3 → Rose (W.faults output.old) (W.faults output.new) }
     ensures keeper { result ≡ 4 → Rose (K.faults keeper.old) (K.faults keeper.new) }
     ensures doors { result ≡ 8 → Rose (D.faults doors.old) (D.faults doors.new) }
@@ -62,7 +65,8 @@ fn serve_all<C: Clock, K: Keeper, D: Doors, L: Ledger>(
     doors: &mut D,
     steps: &mut Steps<L>,
 ) -> u8
-    requires { MatchOption (D.coming doors.old) ((d : D) → D.coming d ≡ None) (λ all. connections ≤ length all) }
+    requires { MatchOption (D.coming doors.old) ((d : D) → D.coming d ≡ None)
+        (λ all. connections ≤ length all) }
     ensures served { LeadsAll K.tells K.serves K.holds K.passes
         (record { host = host.old.host; moments = C.left clock.old; failed = K.faults keeper.old; keeper = keeper.old })
         (record { host = host.new.host; moments = C.left clock.new; failed = K.faults keeper.new; keeper = keeper.new })

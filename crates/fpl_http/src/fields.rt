@@ -38,7 +38,8 @@ fn is_named(name: &[u8], wanted: &[u8]) -> bool
 /// The values of a field.
 pub fn seek_field(buf: &[u8], headers: &[HeaderSpan], name: &[u8]) -> Sought
     requires { All (IsHeaderWithin (length buf.now)) headers.now }
-    ensures shows { Shows buf.now result (values_of name.now (map (header_bytes buf.now) headers.now)) }
+    ensures shows { Shows buf.now result
+        (values_of name.now (map (header_bytes buf.now) headers.now)) }
     ensures within { SoughtWithin (length buf.now) result }
 {
     let mut seen = Sought::Absent;

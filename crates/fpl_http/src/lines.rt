@@ -37,7 +37,8 @@ pub fn blank_lines_length(bytes: &[u8]) -> usize
 /// The length of the first line, with its LF.
 fn line_length(bytes: &[u8]) -> Option<usize>
     ensures ends { IfSome result (λ n. head_len bytes.now ≡ head_len_behind n bytes.now) }
-    ensures counted { IfSome result (λ n. line_count bytes.now ≡ 1 + line_count (drop n bytes.now)) }
+    ensures counted { IfSome result
+        (λ n. line_count bytes.now ≡ 1 + line_count (drop n bytes.now)) }
     ensures within { IfSome result (λ n. (1 ≤ n) × (n ≤ length bytes.now)) }
     ensures none { IfNone result ((head_len bytes.now ≡ None) × (line_count bytes.now ≡ 0)) }
 {

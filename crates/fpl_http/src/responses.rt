@@ -89,7 +89,8 @@ pub fn append_response(
     closing: bool,
 ) -> Result<(), Memory>
     requires { IsTrue (is_answer_status status) }
-    ensures ok { OnOk result (out.new.items ≡ out.old.items ++ response_text status body.now closing) }
+    ensures ok { OnOk result
+        (out.new.items ≡ out.old.items ++ response_text status body.now closing) }
     ensures err { OnErr result (out.new.items ≡ out.old.items) }
     ensures capacity { vec_capacity out.old ≤ vec_capacity out.new }
 {

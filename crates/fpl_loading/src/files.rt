@@ -40,7 +40,8 @@ pub fn ordered_by<F: Shelf>(
     profile: Profile,
     folder: &Text,
 ) -> Result<Vec<Command>, LoadFault>
-    ensures orders { IfOk result (λ commands. AreOrdered (F.files shelf.old) folder.now split profile commands.items) }
+    ensures orders { IfOk result
+        (λ commands. AreOrdered (F.files shelf.old) folder.now split profile commands.items) }
     ensures lawful { IfOk result (λ commands. All IsCommand commands.items) }
     ensures fault { IfErr result (ExplainsLoad (F.files shelf.old) folder.now split) }
     ensures kept { F.files shelf.new ≡ F.files shelf.old }
@@ -70,7 +71,8 @@ fn texts_of<F: Shelf>(
     shelf: &mut F,
     folder: &Text,
 ) -> Result<(Bytes, Bytes, Bytes), ShelfFault>
-    ensures texts { IfOk result (λ texts. AreFiles (F.files shelf.old) folder.now texts.0 texts.1 texts.2) }
+    ensures texts { IfOk result
+        (λ texts. AreFiles (F.files shelf.old) folder.now texts.0 texts.1 texts.2) }
     ensures long { result ≡ Err fault_of.Long → IfSome (F.files shelf.old) (HasLong folder.now) }
     ensures kept { F.files shelf.new ≡ F.files shelf.old }
     ensures cause { HasShelfCause (F.faults shelf.old) (F.faults shelf.new) result }
@@ -89,7 +91,8 @@ fn text_of<F: Shelf>(
     name: &str,
 ) -> Result<Bytes, ShelfFault>
     ensures text { IfOk result (IsFile (F.files shelf.old) (path_in folder.now name.now)) }
-    ensures long { result ≡ Err fault_of.Long → IfSome (F.files shelf.old) (λ bytes_of. IsLong bytes_of (path_in folder.now name.now)) }
+    ensures long { result ≡ Err fault_of.Long
+        → IfSome (F.files shelf.old) (λ bytes_of. IsLong bytes_of (path_in folder.now name.now)) }
     ensures kept { F.files shelf.new ≡ F.files shelf.old }
     ensures cause { HasShelfCause (F.faults shelf.old) (F.faults shelf.new) result }
 {

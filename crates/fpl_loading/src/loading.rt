@@ -75,9 +75,12 @@ fn ask_command<C: Clock, K: Keeper, L: Ledger>(
     ensures heard { Leads K.tells K.serves K.holds K.passes
         (record { host = host.old; moments = C.left clock.old; failed = K.faults keeper.old; keeper = keeper.old })
         (record { host = host.new; moments = C.left clock.new; failed = K.faults keeper.new; keeper = keeper.new })
-        (λ served behind. IsHeard served caller_of.Operator (request_of.Command number command) result behind) }
-    ensures stale { host.new.stale ≡ true → (result ≡ answer_of.Memory) ⊎ (result ≡ answer_of.Keeper) }
-    ensures caused { IsCaused (record { before = K.faults keeper.old; behind = K.faults keeper.new }) result }
+        (λ served behind. IsHeard served caller_of.Operator
+        (request_of.Command number command) result behind) }
+    ensures stale { host.new.stale ≡ true
+        → (result ≡ answer_of.Memory) ⊎ (result ≡ answer_of.Keeper) }
+    ensures caused { IsCaused
+        (record { before = K.faults keeper.old; behind = K.faults keeper.new }) result }
     ensures later { K.faults keeper.old ≤ K.faults keeper.new }
 {
     let asked = Request::Command { number, command };
@@ -127,7 +130,8 @@ fn is_number_old(broken: &Rule) -> bool
 
 // Writes how many commands were loaded, and how many were there before.
 fn tell<W: Sink>(alloc: Global, loaded: u64, there: u64, output: &mut W) -> u8
-    ensures told { PrintsOne (λ text. text ≡ loaded_text loaded there) 0 result (W.taken output.old) (W.taken output.new) }
+    ensures told { PrintsOne (λ text. text ≡ loaded_text loaded there) 0 result (W.taken output.old)
+        (W.taken output.new) }
     ensures statuses { (result ≡ 0) ⊎ (result ≡ 3) ⊎ (result ≡ 6) }
     ensures write { result ≡ 3 → Rose (W.faults output.old) (W.faults output.new) }
 {

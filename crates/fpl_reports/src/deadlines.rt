@@ -52,7 +52,8 @@ fn gameweeks_of(rows: &[FixtureRow]) -> u8
 // The first kick-off of each gameweek.
 fn first_kickoffs(rows: &[FixtureRow]) -> [Option<u64>; MAX_GAMEWEEKS]
     requires { All (λ (row : FixtureRow). 5400 ≤ row.kickoff) rows.now }
-    ensures first { (k : ℕ) → k < 38 → slice_index_or result k None ≡ first_kickoff rows.now (k + 1) }
+    ensures first { (k : ℕ) → k < 38
+        → slice_index_or result k None ≡ first_kickoff rows.now (k + 1) }
     ensures range { (k : ℕ) → k < 38
         → IfSome (slice_index_or result k None) (λ t. (5400 ≤ t) × (t ≤ 253402300799)) }
 {

@@ -35,7 +35,8 @@ fn put_slots(
     players: &[PlayerId],
 ) -> Result<Report, Memory>
     requires { length players.now ≤ 15 }
-    ensures { IfOk result (λ longer. longer ≡ report ++ rows_text (slot_rows entry.now 1 players.now)) }
+    ensures { IfOk result
+        (λ longer. longer ≡ report ++ rows_text (slot_rows entry.now 1 players.now)) }
 {
     let mut longer = report;
     let mut slot = 0u8;

@@ -125,7 +125,8 @@ fn orders_of(
     fixtures: Vec<FixtureRow>,
 ) -> Result<Vec<Command>, Memory>
     ensures { IfOk result (λ commands.
-        commands.items ≡ season ∷ (map order_of_player players.items ++ map order_of_fixture fixtures.items)) }
+        commands.items
+        ≡ season ∷ (map order_of_player players.items ++ map order_of_fixture fixtures.items)) }
 {
     let mut commands = Vec::new(alloc);
     commands.push(season)?;

@@ -78,7 +78,8 @@ pub(crate) trait Line: Sized {
 
     /// A report with its row at the end.
     fn put(&self, alloc: Global, report: Report) -> Result<Report, Memory>
-        ensures { IfOk result (λ longer. longer ≡ report ++ row_text default_writer (fields self.now)) };
+        ensures { IfOk result
+            (λ longer. longer ≡ report ++ row_text default_writer (fields self.now)) };
 }
 
 // The report with the rows of all at its end.

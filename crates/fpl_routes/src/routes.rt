@@ -277,7 +277,8 @@ fn place_at(router: &Router<Place>, method: Method, target: &[u8]) -> Option<Pla
 
 // The ids of a target, 0 where there is none.
 fn read_ids(ids: Ids, target: &[u8]) -> Option<[u32; 2]>
-    ensures { MatchOption result ((ns : List ℕ) → AreIds ids target.now ns → ⊥) (AreIds ids target.now) }
+    ensures { MatchOption result ((ns : List ℕ) → AreIds ids target.now ns → ⊥)
+        (AreIds ids target.now) }
 {
     match ids {
         Ids::None => Some([0, 0]),

@@ -20,7 +20,8 @@ fn read_piece<S: Source>(src: &mut S, into: &mut [u8], most: u64) -> Result<usiz
     requires most { 0 < most }
     requires room { 0 < length into.old }
     ensures taken { MatchResult result
-        (λ n. Consumes (S.left src.old) (S.left src.new) (take n into.new) × (n ≤ length into.new) × (n ≤ most)
+        (λ n. Consumes (S.left src.old) (S.left src.new) (take n into.new) × (n ≤ length into.new)
+        × (n ≤ most)
         × (n ≡ 0 → IsAtEnd (S.left src.new)))
         (λ _. Consumes (S.left src.old) (S.left src.new) []) }
     ensures later { S.faults src.old ≤ S.faults src.new }
@@ -64,7 +65,8 @@ pub fn exchange<R: Service<H, K, C, L>, H, K: Keeper, S: Source, W: Sink, C: Clo
     requires ready { R.ready service.now (host.old, keeper.old, clock.old, steps.old) }
     ensures empty { places.new.outbox ≡ [] }
     ensures ready { R.ready service.now (host.new, keeper.new, clock.new, steps.new) }
-    ensures exchanged { Exchanged (Speaks (R.answers service.now)) most (S.left src.old) (S.left src.new)
+    ensures exchanged { Exchanged (Speaks (R.answers service.now)) most (S.left src.old)
+        (S.left src.new)
         places.old.decoder places.new.decoder
         (R.see (host.old, keeper.old, clock.old, steps.old)) (R.see (host.new, keeper.new, clock.new, steps.new))
         (W.taken out.old) (W.taken out.new) result }

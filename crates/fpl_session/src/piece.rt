@@ -29,7 +29,8 @@ fn answer_all<R: Service<H, K, C, L>, H, K: Keeper, C: Clock, L: Ledger, W: Sink
     requires ready { R.ready service.now (host.old, keeper.old, clock.old, steps.old) }
     ensures empty { places.new.outbox ≡ [] }
     ensures ready { R.ready service.now (host.new, keeper.new, clock.new, steps.new) }
-    ensures served { PieceServed (Speaks (R.answers service.now)) places.old.decoder.pending places.new.decoder
+    ensures served { PieceServed
+        (Speaks (R.answers service.now)) places.old.decoder.pending places.new.decoder
         (R.see (host.old, keeper.old, clock.old, steps.old)) (R.see (host.new, keeper.new, clock.new, steps.new))
         (W.taken out.old) (W.taken out.new) result }
     ensures later { W.faults out.old ≤ W.faults out.new }

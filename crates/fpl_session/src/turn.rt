@@ -42,7 +42,8 @@ fn answer_message<R: Service<H, K, C, L>, H, K: Keeper, C: Clock, L: Ledger>(
     requires room { length outbox.old ≤ 262144 }
     requires ready { R.ready service.now (host.old, keeper.old, clock.old, steps.old) }
     ensures ready { R.ready service.now (host.new, keeper.new, clock.new, steps.new) }
-    ensures answered { (t : List ℕ) × Speaks (R.answers service.now) (R.see (host.old, keeper.old, clock.old, steps.old))
+    ensures answered { (t : List ℕ)
+        × Speaks (R.answers service.now) (R.see (host.old, keeper.old, clock.old, steps.old))
         (request_seen message.now) t (R.see (host.new, keeper.new, clock.new, steps.new))
         × (outbox.new ≡ outbox.old ++ t) }
 {

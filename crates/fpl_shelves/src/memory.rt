@@ -35,7 +35,10 @@ impl<'a> MemoryShelf<'a> {
 
     // The bytes of the file of a name.
     fn find(&self, name: &str) -> Option<&[u8]>
-        ensures { MatchOption result ((has_file self.now name.now ≡ false) × (bytes_of self.now name.now ≡ [])) (λ bytes. (has_file self.now name.now ≡ true) × (bytes.now ≡ bytes_of self.now name.now)) }
+        ensures { MatchOption result
+            ((has_file self.now name.now ≡ false) × (bytes_of self.now name.now ≡ []))
+            (λ bytes. (has_file self.now name.now ≡ true)
+            × (bytes.now ≡ bytes_of self.now name.now)) }
     {
         found(self.files, name)
     }
@@ -43,7 +46,11 @@ impl<'a> MemoryShelf<'a> {
 
 // The bytes of the first of these files that has the name.
 fn found<'a>(files: &[(&'a str, &'a [u8])], name: &str) -> Option<&'a [u8]>
-    ensures { MatchOption result ((has_file (map (λ file. (file.0.now, file.1.now)) files.now) name.now ≡ false) × (bytes_of (map (λ file. (file.0.now, file.1.now)) files.now) name.now ≡ [])) (λ bytes. (has_file (map (λ file. (file.0.now, file.1.now)) files.now) name.now ≡ true) × (bytes.now ≡ bytes_of (map (λ file. (file.0.now, file.1.now)) files.now) name.now)) }
+    ensures { MatchOption result
+        ((has_file (map (λ file. (file.0.now, file.1.now)) files.now) name.now ≡ false)
+        × (bytes_of (map (λ file. (file.0.now, file.1.now)) files.now) name.now ≡ []))
+        (λ bytes. (has_file (map (λ file. (file.0.now, file.1.now)) files.now) name.now ≡ true)
+        × (bytes.now ≡ bytes_of (map (λ file. (file.0.now, file.1.now)) files.now) name.now)) }
 {
     match files {
         [] => None,
@@ -135,7 +142,8 @@ impl<'a> Shelf for FaultyShelf<'a> {
     fn read(&mut self, alloc: Global, name: &str) -> Result<Bytes, ShelfFault>
         ensures gave { IfOk result (λ bytes. bytes ≡ bytes_of self.old.files name.now) }
         ensures short { IfOk result (λ bytes. length bytes ≤ 4194304) }
-        ensures long { result ≡ Err fault.Long → 4194304 < length (bytes_of self.old.files name.now) }
+        ensures long { result ≡ Err fault.Long
+            → 4194304 < length (bytes_of self.old.files name.now) }
         ensures kept { Some (bytes_of self.new.files) ≡ Some (bytes_of self.old.files) }
         ensures cause { HasShelfCause (faults_of self.old) (faults_of self.new) result }
         ensures fails { (result ≡ Err fault.Failed) ↔ IsTrue (read_fails self.old name.now) }

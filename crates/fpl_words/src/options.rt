@@ -34,7 +34,9 @@ fn host_command<'a>(alloc: Global) -> Result<Command<'a>, AllocError>
 }
 
 fn front_command<'a>(alloc: Global) -> Result<Command<'a>, AllocError>
-    ensures app { IfOk result (λ c. app_of c ≡ with_subcommand (with_subcommand (with_subcommand bare score.top) pipe.top) serve.top) }
+    ensures app { IfOk result
+        (λ c. app_of c
+        ≡ with_subcommand (with_subcommand (with_subcommand bare score.top) pipe.top) serve.top) }
     ensures local { IfOk result (λ c. (out-Command c).has_globals ≡ false) }
 {
     let command = bare_command(alloc);
@@ -116,8 +118,10 @@ fn wanting<'a>(
     command: Command<'a>,
     name: &'a str,
 ) -> Result<Command<'a>, AllocError>
-    ensures app { IfOk result (λ c. app_of c ≡ with_rule (app_of command.entry) (wanted name.entry.now)) }
-    ensures local { IfOk result (λ c. (out-Command c).has_globals ≡ (out-Command command.entry).has_globals) }
+    ensures app { IfOk result
+        (λ c. app_of c ≡ with_rule (app_of command.entry) (wanted name.entry.now)) }
+    ensures local { IfOk result
+        (λ c. (out-Command c).has_globals ≡ (out-Command command.entry).has_globals) }
 {
     command.arg(wanted_option(alloc, name))
 }
@@ -128,8 +132,10 @@ fn offering<'a>(
     command: Command<'a>,
     name: &'a str,
 ) -> Result<Command<'a>, AllocError>
-    ensures app { IfOk result (λ c. app_of c ≡ with_rule (app_of command.entry) (offered name.entry.now)) }
-    ensures local { IfOk result (λ c. (out-Command c).has_globals ≡ (out-Command command.entry).has_globals) }
+    ensures app { IfOk result
+        (λ c. app_of c ≡ with_rule (app_of command.entry) (offered name.entry.now)) }
+    ensures local { IfOk result
+        (λ c. (out-Command c).has_globals ≡ (out-Command command.entry).has_globals) }
 {
     command.arg(offered_option(alloc, name))
 }
@@ -151,8 +157,10 @@ fn offered_option<'a>(alloc: Global, name: &'a str) -> Arg<'a>
 // The command with one more command below it.
 fn with_command<'a>(command: Command<'a>, other: Command<'a>) -> Result<Command<'a>, AllocError>
     requires plain { (out-Command other).has_globals ≡ false }
-    ensures app { IfOk result (λ c. app_of c ≡ with_subcommand (app_of command.entry) (app_of other.entry).top) }
-    ensures local { IfOk result (λ c. (out-Command c).has_globals ≡ (out-Command command.entry).has_globals) }
+    ensures app { IfOk result
+        (λ c. app_of c ≡ with_subcommand (app_of command.entry) (app_of other.entry).top) }
+    ensures local { IfOk result
+        (λ c. (out-Command c).has_globals ≡ (out-Command command.entry).has_globals) }
 {
     command.subcommand(other)
 }
@@ -166,7 +174,8 @@ pub fn value_of<'a>(given: &ArgMatches<'a>, name: &str) -> Option<&'a str>
 
 /// The command that the words name, and what `clap` found for it.
 pub fn entered<'b, 'a>(matches: &'b ArgMatches<'a>) -> Option<(&'a str, &'b ArgMatches<'a>)>
-    ensures { option_map (λ p. (p.0.now, rows_of (found_of p.1.now))) result ≡ subcommand_rows_of matches.now }
+    ensures { option_map (λ p. (p.0.now, rows_of (found_of p.1.now))) result
+        ≡ subcommand_rows_of matches.now }
 {
     matches.subcommand()
 }

@@ -9,7 +9,8 @@ ghost use Rattle.rule_book.specs.Opponents.{MeanIsTheOne, OpponentIsTheOne};
 /// opponent.
 pub fn each_meets_one()
     ensures places { (n k i : ℕ) → n % 2 ≡ 0 → i < n → MeetsOne n k i }
-    ensures opponents { (members k i : ℕ) (a b : Opponent) → 2 ≤ members → i < members → IsOpponent members k i a → IsOpponent members k i b → a ≡ b }
+    ensures opponents { (members k i : ℕ) (a b : Opponent) → 2 ≤ members → i < members
+        → IsOpponent members k i a → IsOpponent members k i b → a ≡ b }
 {}
 
 /// A law: over as many rounds as there are places but one, any two of an even number of places meet once.
@@ -19,8 +20,10 @@ pub fn meet_once()
 
 /// A law: each match is won, drawn or lost, and the match points are 3 for each that was won and 1 for each drawn.
 pub fn points_by_results()
-    ensures results { (ms : List (ℤ × ℤ)) → (head_score ms).won + (head_score ms).drawn + (head_score ms).lost ≡ length ms }
-    ensures points { (ms : List (ℤ × ℤ)) → (head_score ms).points ≡ 3 * (head_score ms).won + (head_score ms).drawn }
+    ensures results { (ms : List (ℤ × ℤ))
+        → (head_score ms).won + (head_score ms).drawn + (head_score ms).lost ≡ length ms }
+    ensures points { (ms : List (ℤ × ℤ))
+        → (head_score ms).points ≡ 3 * (head_score ms).won + (head_score ms).drawn }
 {}
 
 /// A law: of two members or more, the opponent of a place in a round is `opponent_of`, and no other.

@@ -26,7 +26,9 @@ const CUP: u8 = 11;
 pub fn cups_of(alloc: Global, rows: &[(RecordKey, Bytes)]) -> Result<Cups, Memory>
     requires rise { KeysRise rows.now }
     requires lawful { judged rows.now ≡ None }
-    ensures { IfOk result (λ cups. (c : ℕ) → option_map (cup_item c) (entry_in cups c) ≡ told (map_of rows.now) (slot.Cup c)) }
+    ensures { IfOk result
+        (λ cups. (c : ℕ)
+        → option_map (cup_item c) (entry_in cups c) ≡ told (map_of rows.now) (slot.Cup c)) }
 {
     let mut cups = Cups::new(alloc);
     for row in of_kind(rows, CUP) {
@@ -39,7 +41,9 @@ pub fn cups_of(alloc: Global, rows: &[(RecordKey, Bytes)]) -> Result<Cups, Memor
 fn add_cup(alloc: Global, row: &(RecordKey, Bytes), cups: &mut Cups) -> Result<(), Memory>
     requires room { length cups.old < most_cups }
     requires row { IsCupRow (length cups.old + 1) row.now.0 row.now.1 }
-    ensures told { OnOk result ((m : Map) → TellsCups m cups.old → TellsCups (applied_one m (op.Put row.now.0 row.now.1)) cups.new) }
+    ensures told { OnOk result
+        ((m : Map) → TellsCups m cups.old
+        → TellsCups (applied_one m (op.Put row.now.0 row.now.1)) cups.new) }
     ensures one_more { OnOk result (length cups.new ≡ length cups.old + 1) }
 {
     match &decode(alloc, row.0, row.1.as_slice())? {

@@ -27,10 +27,15 @@ const LAST: u8 = 12;
 pub fn lasts_of(alloc: Global, rows: &[(RecordKey, Bytes)]) -> Result<Lasts, Memory>
     requires rise { KeysRise rows.now }
     requires lawful { judged rows.now ≡ None }
-    ensures told { IfOk result (λ lasts. (c : ℕ) → option_map (last_item c) (at_id lasts c) ≡ told (map_of rows.now) (slot.Last c)) }
+    ensures told { IfOk result
+        (λ lasts. (c : ℕ)
+        → option_map (last_item c) (at_id lasts c) ≡ told (map_of rows.now) (slot.Last c)) }
     ensures sorted { IfOk result (λ lasts. AreSorted lasts) }
-    ensures makes { IfOk result (λ lasts. (c : ℕ) (last : Last) → at_id lasts c ≡ Some last → last.made ≡ made_by last.command (made_id last.made)) }
-    ensures commands { IfOk result (λ lasts. (c : ℕ) (last : Last) → at_id lasts c ≡ Some last → IsCommand last.command) }
+    ensures makes { IfOk result
+        (λ lasts. (c : ℕ) (last : Last) → at_id lasts c ≡ Some last
+        → last.made ≡ made_by last.command (made_id last.made)) }
+    ensures commands { IfOk result
+        (λ lasts. (c : ℕ) (last : Last) → at_id lasts c ≡ Some last → IsCommand last.command) }
 {
     let mut lasts = Lasts::new(alloc);
     for row in of_kind(rows, LAST) {
@@ -42,7 +47,9 @@ pub fn lasts_of(alloc: Global, rows: &[(RecordKey, Bytes)]) -> Result<Lasts, Mem
 // Puts what the record of a last command tells of in its caller's place.
 fn put_last(alloc: Global, row: &(RecordKey, Bytes), lasts: &mut Lasts) -> Result<(), Memory>
     requires { IsLastRow row.now.0 row.now.1 }
-    ensures { OnOk result ((m : Map) → AreLasts m lasts.old → AreLasts (applied_one m (op.Put row.now.0 row.now.1)) lasts.new) }
+    ensures { OnOk result
+        ((m : Map) → AreLasts m lasts.old
+        → AreLasts (applied_one m (op.Put row.now.0 row.now.1)) lasts.new) }
 {
     match &decode(alloc, row.0, row.1.as_slice())? {
         Some(

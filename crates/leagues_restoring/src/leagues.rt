@@ -38,7 +38,8 @@ fn league_of(
 ) -> Result<League, Memory>
     requires rise { KeysRise stored.now }
     requires lawful { judged stored.now ≡ None }
-    requires told { told (map_of stored.now) (slot.League number) ≡ Some (item.League number kind start creator order.now code.now name.now) }
+    requires told { told (map_of stored.now) (slot.League number)
+        ≡ Some (item.League number kind start creator order.now code.now name.now) }
     ensures { IfOk result (λ league. IsLeagueRestored stored.now number league) }
 {
     let members = members_of(alloc, stored, number)?;
@@ -129,10 +130,20 @@ fn restored(alloc: Global, stored: &Stored) -> Result<Leagues, Memory>
 pub fn leagues_of(alloc: Global, rows: &[(RecordKey, Bytes)]) -> Result<Leagues, Memory>
     requires rise { KeysRise rows.now }
     requires lawful { judged rows.now ≡ None }
-    ensures leagues { IfOk result (λ book. (l : ℕ) → option_map (league_item l) (entry_in book l) ≡ told (map_of rows.now) (slot.League l)) }
-    ensures members { IfOk result (λ book. (l e : ℕ) → option_and_then (member_told l e) (entry_in book l) ≡ told (map_of rows.now) (slot.Member l e)) }
-    ensures ordered { IfOk result (λ book. (l : ℕ) (league : LeagueFacts) → entry_in book l ≡ Some league → AllPairs (λ m n. m < n) league.members) }
-    ensures entries { IfOk result (λ book. (n : ℕ) → ((e : ℕ) (i : Item) → told (map_of rows.now) (slot.Entry e) ≡ Some i → e ≤ n) → AreMembers n book) }
+    ensures leagues { IfOk result
+        (λ book. (l : ℕ)
+        → option_map (league_item l) (entry_in book l) ≡ told (map_of rows.now) (slot.League l)) }
+    ensures members { IfOk result
+        (λ book. (l e : ℕ)
+        → option_and_then (member_told l e) (entry_in book l)
+        ≡ told (map_of rows.now) (slot.Member l e)) }
+    ensures ordered { IfOk result
+        (λ book. (l : ℕ) (league : LeagueFacts) → entry_in book l ≡ Some league
+        → AllPairs (λ m n. m < n) league.members) }
+    ensures entries { IfOk result
+        (λ book. (n : ℕ)
+        → ((e : ℕ) (i : Item) → told (map_of rows.now) (slot.Entry e) ≡ Some i → e ≤ n)
+        → AreMembers n book) }
 {
     restored(alloc, &Stored::new(rows))
 }

@@ -37,7 +37,8 @@ impl BonusLevels {
 
     /// Whether it makes a difference that one more has this number.
     pub fn counts(&self, number: i32) -> bool
-        ensures { result ≡ false → (own : ℤ) → bonus_by self.now own ≡ bonus_by self.now own - above own number }
+        ensures { result ≡ false → (own : ℤ)
+            → bonus_by self.now own ≡ bonus_by self.now own - above own number }
     {
         is_above(number, &self.third)
     }

@@ -80,7 +80,8 @@ fn points_of_a_goal(profile: Profile, position: Position) -> u32
 }
 
 fn points_of_saves(position: Position, saves: u32) -> u32
-    ensures value { result ≡ gain (by_position (gives_one_per 3) nothing nothing nothing position) saves }
+    ensures value { result
+        ≡ gain (by_position (gives_one_per 3) nothing nothing nothing position) saves }
     ensures bound { result ≤ saves }
 {
     match position {
@@ -90,7 +91,8 @@ fn points_of_saves(position: Position, saves: u32) -> u32
 }
 
 fn cost_of_conceded(position: Position, goals: u32) -> u32
-    ensures value { result ≡ loss (by_position (takes_one_per 2) (takes_one_per 2) nothing nothing position) goals }
+    ensures value { result
+        ≡ loss (by_position (takes_one_per 2) (takes_one_per 2) nothing nothing position) goals }
     ensures bound { result ≤ goals }
 {
     match position {

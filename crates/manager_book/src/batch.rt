@@ -43,7 +43,8 @@ pub fn judge_batch(
     requires few { length swaps.now ≤ 15 }
     requires there { AreIncomersThere players.now swaps.now }
     ensures judged { IsJudged (transfer_broken season.now players.now swaps.now g) result }
-    ensures batch { IfOk result (λ done. IsBatchOf g players.now swaps.now season.now done.1 done.0) }
+    ensures batch { IfOk result
+        (λ done. IsBatchOf g players.now swaps.now season.now done.1 done.0) }
 {
     let Some(standing) = season.standing(g) else {
         return Err(Rule::NotRegistered);
@@ -69,9 +70,14 @@ fn write(
     requires batch { BatchOn sales.now (standing_at season.old g) after.now }
     requires sold { Each (λ s. s.sold ≤ 200) sales.now }
     requires fit { IsFitTeam after.now }
-    ensures rows { OnOk result (season.new ≡ put_row season.old g (record { made = used_by season.old g + length sales.now; team = after.now })) }
+    ensures rows { OnOk result
+        (season.new
+        ≡ put_row season.old g
+        (record { made = used_by season.old g + length sales.now; team = after.now })) }
     ensures sales { OnOk result (kept.new ≡ kept.old ++ with_gameweek g sales.now) }
-    ensures history { (position : ℕ → Position) (h : List Event) → IsPlaced position after.now.picks → StandsFor position season.old h → OnOk result (StandsFor position season.new (h ++ in_gameweek g (map Swapped sales.now))) }
+    ensures history { (position : ℕ → Position) (h : List Event) → IsPlaced position after.now.picks
+        → StandsFor position season.old h
+        → OnOk result (StandsFor position season.new (h ++ in_gameweek g (map Swapped sales.now))) }
     ensures err { OnErr result (season.new ≡ season.old) }
     ensures err_sales { OnErr result (kept.new ≡ kept.old) }
 {
@@ -102,9 +108,13 @@ pub fn transfer(
     requires there { AreIncomersThere players.now swaps.now }
     ensures judged { IsJudgedOrOut (transfer_broken season.old players.now swaps.now g) result }
     ensures before { IfOk result (λ done. done.0 ≡ used_by season.old g) }
-    ensures moves { IfOk result (λ done. Moves g players.now swaps.now done.1 season.old season.new) }
+    ensures moves { IfOk result
+        (λ done. Moves g players.now swaps.now done.1 season.old season.new) }
     ensures sales { IfOk result (λ done. kept.new ≡ kept.old ++ with_gameweek g done.1) }
-    ensures history { (position : ℕ → Position) (h : List Event) → HavePositions position players.now → StandsFor position season.old h → IfOk result (λ done. StandsFor position season.new (h ++ in_gameweek g (map Swapped done.1))) }
+    ensures history { (position : ℕ → Position) (h : List Event)
+        → HavePositions position players.now → StandsFor position season.old h
+        → IfOk result
+        (λ done. StandsFor position season.new (h ++ in_gameweek g (map Swapped done.1))) }
     ensures err { OnErr result (season.new ≡ season.old) }
     ensures err_sales { OnErr result (kept.new ≡ kept.old) }
 {

@@ -152,8 +152,10 @@ impl ManagerBook {
     // An entry's team in a gameweek.
     fn team_in(&self, e: EntryId, g: Gw) -> Option<Team>
         ensures rows { result ≡ team_at (season_of self.now e) g }
-        ensures history { (position : ℕ → Position) (h : List Event) → StandsFor position (season_of self.now e) h → TeamTold position h g result }
-        ensures laws { (position : ℕ → Position) (h : List Event) → StandsFor position (season_of self.now e) h → TeamBalances h g result }
+        ensures history { (position : ℕ → Position) (h : List Event)
+            → StandsFor position (season_of self.now e) h → TeamTold position h g result }
+        ensures laws { (position : ℕ → Position) (h : List Event)
+            → StandsFor position (season_of self.now e) h → TeamBalances h g result }
     {
         match self.season(e) {
             Some(season) => season.team(g),
@@ -164,7 +166,8 @@ impl ManagerBook {
     // An entry's free transfers in a gameweek.
     fn free_in(&self, e: EntryId, g: Gw) -> Option<u8>
         ensures rows { result ≡ free_in self.now.profile (season_of self.now e) g }
-        ensures history { (position : ℕ → Position) (h : List Event) → StandsFor position (season_of self.now e) h → FreeTold self.now.profile h g result }
+        ensures history { (position : ℕ → Position) (h : List Event)
+            → StandsFor position (season_of self.now e) h → FreeTold self.now.profile h g result }
     {
         let profile = self.profile;
         match self.season(e) {
@@ -177,7 +180,8 @@ impl ManagerBook {
     fn cost_in(&self, e: EntryId, g: Gw) -> u32
         ensures rows { result ≡ cost_by self.now.profile (season_of self.now e) g }
         ensures most { result ≤ 4000 }
-        ensures history { (position : ℕ → Position) (h : List Event) → StandsFor position (season_of self.now e) h → result ≡ cost_at self.now.profile h g }
+        ensures history { (position : ℕ → Position) (h : List Event)
+            → StandsFor position (season_of self.now e) h → result ≡ cost_at self.now.profile h g }
     {
         let profile = self.profile;
         match self.season(e) {
@@ -189,7 +193,8 @@ impl ManagerBook {
     // An entry's transfers that a table counts.
     fn counted_in(&self, e: EntryId, through: u8) -> u32
         ensures rows { result ≡ counted_by (season_of self.now e) through }
-        ensures history { (position : ℕ → Position) (h : List Event) → StandsFor position (season_of self.now e) h → result ≡ counted_through h through }
+        ensures history { (position : ℕ → Position) (h : List Event)
+            → StandsFor position (season_of self.now e) h → result ≡ counted_through h through }
     {
         match self.season(e) {
             Some(season) => season.counted(through),
@@ -221,7 +226,8 @@ impl ManagerBook {
     /// An entry's first gameweek; None where it is not registered.
     pub fn first(&self, e: EntryId) -> Option<Gw>
         ensures rows { result ≡ first_in (season_of self.now e) }
-        ensures history { (position : ℕ → Position) (h : List Event) → StandsFor position (season_of self.now e) h → FirstTold h result }
+        ensures history { (position : ℕ → Position) (h : List Event)
+            → StandsFor position (season_of self.now e) h → FirstTold h result }
     {
         match self.season(e) {
             Some(season) => season.first(),
@@ -234,8 +240,10 @@ impl ManagerBook {
     pub fn team_at<L: Ledger>(&self, e: EntryId, g: Gw, steps: &mut Steps<L>) -> Option<Team>
         ensures counted { steps.new ≡ steps.old + 1 }
         ensures rows { result ≡ team_at (season_of self.now e) g }
-        ensures history { (position : ℕ → Position) (h : List Event) → StandsFor position (season_of self.now e) h → TeamTold position h g result }
-        ensures laws { (position : ℕ → Position) (h : List Event) → StandsFor position (season_of self.now e) h → TeamBalances h g result }
+        ensures history { (position : ℕ → Position) (h : List Event)
+            → StandsFor position (season_of self.now e) h → TeamTold position h g result }
+        ensures laws { (position : ℕ → Position) (h : List Event)
+            → StandsFor position (season_of self.now e) h → TeamBalances h g result }
     {
         steps.tick();
         self.team_in(e, g)
@@ -246,7 +254,8 @@ impl ManagerBook {
     pub fn free<L: Ledger>(&self, e: EntryId, g: Gw, steps: &mut Steps<L>) -> Option<u8>
         ensures counted { steps.new ≡ steps.old + 1 }
         ensures rows { result ≡ free_in self.now.profile (season_of self.now e) g }
-        ensures history { (position : ℕ → Position) (h : List Event) → StandsFor position (season_of self.now e) h → FreeTold self.now.profile h g result }
+        ensures history { (position : ℕ → Position) (h : List Event)
+            → StandsFor position (season_of self.now e) h → FreeTold self.now.profile h g result }
     {
         steps.tick();
         self.free_in(e, g)
@@ -258,7 +267,8 @@ impl ManagerBook {
         ensures counted { steps.new ≡ steps.old + 1 }
         ensures rows { result ≡ cost_by self.now.profile (season_of self.now e) g }
         ensures most { result ≤ 4000 }
-        ensures history { (position : ℕ → Position) (h : List Event) → StandsFor position (season_of self.now e) h → result ≡ cost_at self.now.profile h g }
+        ensures history { (position : ℕ → Position) (h : List Event)
+            → StandsFor position (season_of self.now e) h → result ≡ cost_at self.now.profile h g }
     {
         steps.tick();
         self.cost_in(e, g)
@@ -269,7 +279,8 @@ impl ManagerBook {
     pub fn counted_transfers<L: Ledger>(&self, e: EntryId, through: u8, steps: &mut Steps<L>) -> u32
         ensures counted { steps.new ≡ steps.old + 1 }
         ensures rows { result ≡ counted_by (season_of self.now e) through }
-        ensures history { (position : ℕ → Position) (h : List Event) → StandsFor position (season_of self.now e) h → result ≡ counted_through h through }
+        ensures history { (position : ℕ → Position) (h : List Event)
+            → StandsFor position (season_of self.now e) h → result ≡ counted_through h through }
     {
         steps.tick();
         self.counted_in(e, through)
@@ -291,9 +302,22 @@ impl ManagerBook {
     ) -> Result<(), Refused>
         requires issued { e ≤ length self.old.managers }
         requires there { All (λ id. IsSome (player_of players.now id)) squad.now }
-        ensures rows { (g : ℕ) → next ≡ Some g → OnOk result (Registers g players.now squad.now (slot_of squad.now captain) (slot_of squad.now vice) (season_of self.old e) (season_of self.new e)) }
-        ensures judged { IsJudgedOrOut (in_next next (λ _. register_broken (season_of self.old e) players.now squad.now (slot_of squad.now captain) (slot_of squad.now vice))) result }
-        ensures history { (position : ℕ → Position) (h : List Event) (g : ℕ) → HavePositions position players.now → StandsFor position (season_of self.old e) h → next ≡ Some g → OnOk result (StandsFor position (season_of self.new e) (h ++ in_gameweek g (First (holdings (picks_from players.now squad.now)) (slot_of squad.now captain) (slot_of squad.now vice) ∷ []))) }
+        ensures rows { (g : ℕ) → next ≡ Some g
+            → OnOk result
+            (Registers g players.now squad.now (slot_of squad.now captain) (slot_of squad.now vice)
+            (season_of self.old e) (season_of self.new e)) }
+        ensures judged { IsJudgedOrOut
+            (in_next next
+            (λ _. register_broken (season_of self.old e) players.now squad.now
+            (slot_of squad.now captain) (slot_of squad.now vice))) result }
+        ensures history { (position : ℕ → Position) (h : List Event) (g : ℕ)
+            → HavePositions position players.now → StandsFor position (season_of self.old e) h
+            → next ≡ Some g
+            → OnOk result
+            (StandsFor position (season_of self.new e)
+            (h ++ in_gameweek g
+            (First (holdings (picks_from players.now squad.now)) (slot_of squad.now captain)
+            (slot_of squad.now vice) ∷ []))) }
         ensures sales { sales_of self.new e ≡ sales_of self.old e }
         ensures others { IsSameBut e self.old self.new }
         ensures err { OnErr result (self.new ≡ self.old) }
@@ -326,11 +350,23 @@ impl ManagerBook {
         requires some { 0 < length swaps.now }
         requires few { length swaps.now ≤ 15 }
         requires there { AreIncomersThere players.now swaps.now }
-        ensures judged { IsJudgedOrOut (in_next next (transfer_broken (season_of self.old e) players.now swaps.now)) result }
-        ensures before { (g : ℕ) → next ≡ Some g → IfOk result (λ done. done.0 ≡ used_by (season_of self.old e) g) }
-        ensures moves { (g : ℕ) → next ≡ Some g → IfOk result (λ done. Moves g players.now swaps.now done.1 (season_of self.old e) (season_of self.new e)) }
-        ensures history { (position : ℕ → Position) (h : List Event) (g : ℕ) → HavePositions position players.now → StandsFor position (season_of self.old e) h → next ≡ Some g → IfOk result (λ done. StandsFor position (season_of self.new e) (h ++ in_gameweek g (map Swapped done.1))) }
-        ensures sales { (g : ℕ) → next ≡ Some g → IfOk result (λ done. sales_of self.new e ≡ sales_of self.old e ++ with_gameweek g done.1) }
+        ensures judged { IsJudgedOrOut
+            (in_next next (transfer_broken (season_of self.old e) players.now swaps.now)) result }
+        ensures before { (g : ℕ) → next ≡ Some g
+            → IfOk result (λ done. done.0 ≡ used_by (season_of self.old e) g) }
+        ensures moves { (g : ℕ) → next ≡ Some g
+            → IfOk result
+            (λ done. Moves g players.now swaps.now done.1 (season_of self.old e)
+            (season_of self.new e)) }
+        ensures history { (position : ℕ → Position) (h : List Event) (g : ℕ)
+            → HavePositions position players.now → StandsFor position (season_of self.old e) h
+            → next ≡ Some g
+            → IfOk result
+            (λ done. StandsFor position (season_of self.new e)
+            (h ++ in_gameweek g (map Swapped done.1))) }
+        ensures sales { (g : ℕ) → next ≡ Some g
+            → IfOk result
+            (λ done. sales_of self.new e ≡ sales_of self.old e ++ with_gameweek g done.1) }
         ensures others { IsSameBut e self.old self.new }
         ensures err { OnErr result (self.new ≡ self.old) }
     {
@@ -359,9 +395,20 @@ impl ManagerBook {
     ) -> Result<(), Refused>
         requires issued { e ≤ length self.old.managers }
         requires later { IfSome next (λ g. AllUpTo g (season_of self.old e)) }
-        ensures rows { (g : ℕ) → next ≡ Some g → OnOk result (LinesUp g order.now (slot_of order.now captain) (slot_of order.now vice) (season_of self.old e) (season_of self.new e)) }
-        ensures judged { IsJudgedOrOut (in_next next (lineup_broken (season_of self.old e) order.now (slot_of order.now captain) (slot_of order.now vice))) result }
-        ensures history { (position : ℕ → Position) (h : List Event) (g : ℕ) → StandsFor position (season_of self.old e) h → next ≡ Some g → OnOk result (StandsFor position (season_of self.new e) (h ++ in_gameweek g (Lineup order.now (slot_of order.now captain) (slot_of order.now vice) ∷ []))) }
+        ensures rows { (g : ℕ) → next ≡ Some g
+            → OnOk result
+            (LinesUp g order.now (slot_of order.now captain) (slot_of order.now vice)
+            (season_of self.old e) (season_of self.new e)) }
+        ensures judged { IsJudgedOrOut
+            (in_next next
+            (lineup_broken (season_of self.old e) order.now (slot_of order.now captain)
+            (slot_of order.now vice))) result }
+        ensures history { (position : ℕ → Position) (h : List Event) (g : ℕ)
+            → StandsFor position (season_of self.old e) h → next ≡ Some g
+            → OnOk result
+            (StandsFor position (season_of self.new e)
+            (h ++ in_gameweek g
+            (Lineup order.now (slot_of order.now captain) (slot_of order.now vice) ∷ []))) }
         ensures sales { sales_of self.new e ≡ sales_of self.old e }
         ensures others { IsSameBut e self.old self.new }
         ensures err { OnErr result (self.new ≡ self.old) }
@@ -391,9 +438,14 @@ impl ManagerBook {
         requires issued { e ≤ length self.old.managers }
         requires later { IfSome next (λ g. AllUpTo g (season_of self.old e)) }
         requires chip { chip ≢ NoChip }
-        ensures rows { (g : ℕ) → next ≡ Some g → OnOk result (season_of self.new e ≡ put_chip (season_of self.old e) g chip) }
-        ensures judged { IsJudgedOrOut (in_next next (play_broken (season_of self.old e) split chip)) result }
-        ensures history { (position : ℕ → Position) (h : List Event) (g : ℕ) → StandsFor position (season_of self.old e) h → next ≡ Some g → OnOk result (StandsFor position (season_of self.new e) (h ++ in_gameweek g (Play chip ∷ []))) }
+        ensures rows { (g : ℕ) → next ≡ Some g
+            → OnOk result (season_of self.new e ≡ put_chip (season_of self.old e) g chip) }
+        ensures judged { IsJudgedOrOut
+            (in_next next (play_broken (season_of self.old e) split chip)) result }
+        ensures history { (position : ℕ → Position) (h : List Event) (g : ℕ)
+            → StandsFor position (season_of self.old e) h → next ≡ Some g
+            → OnOk result
+            (StandsFor position (season_of self.new e) (h ++ in_gameweek g (Play chip ∷ []))) }
         ensures sales { sales_of self.new e ≡ sales_of self.old e }
         ensures others { IsSameBut e self.old self.new }
         ensures err { OnErr result (self.new ≡ self.old) }
@@ -415,9 +467,13 @@ impl ManagerBook {
     pub fn cancel_chip(&mut self, e: EntryId, next: Option<Gw>) -> Result<(), Rule>
         requires issued { e ≤ length self.old.managers }
         requires later { IfSome next (λ g. AllUpTo g (season_of self.old e)) }
-        ensures rows { (g : ℕ) → next ≡ Some g → OnOk result (season_of self.new e ≡ put_chip (season_of self.old e) g NoChip) }
+        ensures rows { (g : ℕ) → next ≡ Some g
+            → OnOk result (season_of self.new e ≡ put_chip (season_of self.old e) g NoChip) }
         ensures judged { IsJudged (in_next next (cancel_broken (season_of self.old e))) result }
-        ensures history { (position : ℕ → Position) (h : List Event) (g : ℕ) → StandsFor position (season_of self.old e) h → next ≡ Some g → OnOk result (StandsFor position (season_of self.new e) (h ++ in_gameweek g (Cancel ∷ []))) }
+        ensures history { (position : ℕ → Position) (h : List Event) (g : ℕ)
+            → StandsFor position (season_of self.old e) h → next ≡ Some g
+            → OnOk result
+            (StandsFor position (season_of self.new e) (h ++ in_gameweek g (Cancel ∷ []))) }
         ensures sales { sales_of self.new e ≡ sales_of self.old e }
         ensures others { IsSameBut e self.old self.new }
         ensures err { OnErr result (self.new ≡ self.old) }
@@ -444,7 +500,13 @@ impl ManagerBook {
     fn add(&mut self, key: Key, name: Name, season: Entry, sales: EntrySales) -> Result<(), Memory>
         requires room { length self.old.managers < 2048 }
         requires fresh { entry_with self.old key ≡ None }
-        ensures ok { OnOk result (self.new ≡ record { profile = self.old.profile; managers = self.old.managers ++ record { key = key; name = name; season = season; sales = sales } ∷ [] }) }
+        ensures ok { OnOk result
+            (self.new
+            ≡ record {
+              profile = self.old.profile;
+              managers = self.old.managers
+                  ++ record { key = key; name = name; season = season; sales = sales } ∷ [];
+            }) }
         ensures err { OnErr result (self.new ≡ self.old) }
     {
         // The law that the rows rise, for the prover.
@@ -471,7 +533,13 @@ impl ManagerBook {
     pub fn issue(&mut self, key: Key, name: Name) -> Result<EntryId, Refused>
         ensures judged { IsJudgedOrOut (issue_refusal self.old key) result }
         ensures id { IfOk result (λ e. e ≡ length self.old.managers + 1) }
-        ensures ok { OnOk result (self.new ≡ record { profile = self.old.profile; managers = self.old.managers ++ record { key = key; name = name; season = []; sales = [] } ∷ [] }) }
+        ensures ok { OnOk result
+            (self.new
+            ≡ record {
+              profile = self.old.profile;
+              managers = self.old.managers
+                  ++ record { key = key; name = name; season = []; sales = [] } ∷ [];
+            }) }
         ensures err { OnErr result (self.new ≡ self.old) }
     {
         self.judge_issue(&key)?;
@@ -499,8 +567,21 @@ impl ManagerBook {
         requires room { length self.old.managers < 2048 }
         requires fresh { entry_with self.old key ≡ None }
         requires records { AreEntryRecords first teams.now sales.now }
-        ensures ok { OnOk result (self.new ≡ record { profile = self.old.profile; managers = self.old.managers ++ record { key = key; name = name; season = rows_of_records teams.now sales.now; sales = sales.now } ∷ [] }) }
-        ensures history { (position : ℕ → Position) (h : List Event) → IsHistory h → HasRecords position h teams.now sales.now → OnOk result (StandsFor position (rows_of_records teams.now sales.now) h) }
+        ensures ok { OnOk result
+            (self.new
+            ≡ record {
+              profile = self.old.profile;
+              managers = self.old.managers
+                  ++ record {
+                    key = key;
+                    name = name;
+                    season = rows_of_records teams.now sales.now;
+                    sales = sales.now;
+                  } ∷ [];
+            }) }
+        ensures history { (position : ℕ → Position) (h : List Event) → IsHistory h
+            → HasRecords position h teams.now sales.now
+            → OnOk result (StandsFor position (rows_of_records teams.now sales.now) h) }
         ensures err { OnErr result (self.new ≡ self.old) }
     {
         // What the type tells of a gameweek, for the prover.

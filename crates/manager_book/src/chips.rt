@@ -90,7 +90,8 @@ pub fn play(season: &mut Entry, g: Gw, split: u8, chip: Chip) -> Result<(), Refu
     requires chip { chip ≢ NoChip }
     ensures judged { IsJudgedOrOut (play_broken season.old split chip g) result }
     ensures rows { OnOk result (season.new ≡ put_chip season.old g chip) }
-    ensures history { (position : ℕ → Position) (h : List Event) → StandsFor position season.old h → OnOk result (StandsFor position season.new (h ++ in_gameweek g (Play chip ∷ []))) }
+    ensures history { (position : ℕ → Position) (h : List Event) → StandsFor position season.old h
+        → OnOk result (StandsFor position season.new (h ++ in_gameweek g (Play chip ∷ []))) }
     ensures err { OnErr result (season.new ≡ season.old) }
 {
     judge_chip(season, g, split, chip)?;
@@ -124,7 +125,8 @@ pub fn cancel(season: &mut Entry, g: Gw) -> Result<(), Rule>
     requires later { AllUpTo g season.old }
     ensures judged { IsJudged (cancel_broken season.old g) result }
     ensures rows { OnOk result (season.new ≡ put_chip season.old g NoChip) }
-    ensures history { (position : ℕ → Position) (h : List Event) → StandsFor position season.old h → OnOk result (StandsFor position season.new (h ++ in_gameweek g (Cancel ∷ []))) }
+    ensures history { (position : ℕ → Position) (h : List Event) → StandsFor position season.old h
+        → OnOk result (StandsFor position season.new (h ++ in_gameweek g (Cancel ∷ []))) }
     ensures err { OnErr result (season.new ≡ season.old) }
 {
     judge_cancel(season, g)?;

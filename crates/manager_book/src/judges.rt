@@ -33,7 +33,9 @@ impl ManagerBook {
     ) -> Result<(), Rule>
         requires issued { e ≤ length self.now.managers }
         requires there { All (λ id. IsSome (player_of players.now id)) squad.now }
-        ensures { IsJudged (in_next next (λ _. squad_broken (season_of self.now e) players.now squad.now captain vice)) result }
+        ensures { IsJudged
+            (in_next next
+            (λ _. squad_broken (season_of self.now e) players.now squad.now captain vice)) result }
     {
         if next.is_none() {
             return Err(Rule::SeasonOver);
@@ -57,7 +59,8 @@ impl ManagerBook {
         requires some { 0 < length swaps.now }
         requires few { length swaps.now ≤ 15 }
         requires there { AreIncomersThere players.now swaps.now }
-        ensures { IsJudged (in_next next (transfer_broken (season_of self.now e) players.now swaps.now)) result }
+        ensures { IsJudged
+            (in_next next (transfer_broken (season_of self.now e) players.now swaps.now)) result }
     {
         let Some(g) = next else {
             return Err(Rule::SeasonOver);
@@ -79,7 +82,8 @@ impl ManagerBook {
     ) -> Result<(), Rule>
         requires issued { e ≤ length self.now.managers }
         requires later { IfSome next (λ g. AllUpTo g (season_of self.now e)) }
-        ensures { IsJudged (in_next next (order_broken (season_of self.now e) order.now captain vice)) result }
+        ensures { IsJudged
+            (in_next next (order_broken (season_of self.now e) order.now captain vice)) result }
     {
         let Some(g) = next else {
             return Err(Rule::SeasonOver);

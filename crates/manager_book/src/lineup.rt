@@ -41,7 +41,9 @@ pub fn slot_of(players: &[PlayerId; 15], player: PlayerId) -> u8
 
 // The picks of the players in their order, or the first of them whom the team does not have.
 fn lined(picks: &[Pick; 15], order: &[PlayerId; 15]) -> Result<[Pick; 15], PlayerId>
-    ensures { MatchResult result (λ ks. (first_stranger picks.now order.now ≡ None) × (ks ≡ lined_picks picks.now order.now)) (λ p. first_stranger picks.now order.now ≡ Some p) }
+    ensures { MatchResult result
+        (λ ks. (first_stranger picks.now order.now ≡ None) × (ks ≡ lined_picks picks.now order.now))
+        (λ p. first_stranger picks.now order.now ≡ Some p) }
 {
     let mut lined = [picks[0]; 15];
     for i in 0..15usize {
@@ -88,7 +90,8 @@ pub fn judge_lineup(
 ) -> Result<Team, Rule>
     requires later { AllUpTo g season.now }
     ensures judged { IsJudged (order_broken season.now order.now captain vice g) result }
-    ensures lineup { IfOk result (IsLineupOf g order.now (slot_of order.now captain) (slot_of order.now vice) season.now) }
+    ensures lineup { IfOk result
+        (IsLineupOf g order.now (slot_of order.now captain) (slot_of order.now vice) season.now) }
 {
     let Some(standing) = season.standing(g) else {
         return Err(Rule::NotRegistered);
@@ -107,9 +110,17 @@ pub fn line_up(
     vice: PlayerId,
 ) -> Result<(), Refused>
     requires later { AllUpTo g season.old }
-    ensures judged { IsJudgedOrOut (lineup_broken season.old order.now (slot_of order.now captain) (slot_of order.now vice) g) result }
-    ensures rows { OnOk result (LinesUp g order.now (slot_of order.now captain) (slot_of order.now vice) season.old season.new) }
-    ensures history { (position : ℕ → Position) (h : List Event) → StandsFor position season.old h → OnOk result (StandsFor position season.new (h ++ in_gameweek g (Lineup order.now (slot_of order.now captain) (slot_of order.now vice) ∷ []))) }
+    ensures judged { IsJudgedOrOut
+        (lineup_broken season.old order.now (slot_of order.now captain) (slot_of order.now vice) g)
+        result }
+    ensures rows { OnOk result
+        (LinesUp g order.now (slot_of order.now captain)
+        (slot_of order.now vice) season.old season.new) }
+    ensures history { (position : ℕ → Position) (h : List Event) → StandsFor position season.old h
+        → OnOk result
+        (StandsFor position season.new
+        (h ++ in_gameweek g
+        (Lineup order.now (slot_of order.now captain) (slot_of order.now vice) ∷ []))) }
     ensures err { OnErr result (season.new ≡ season.old) }
 {
     let after = match judge_lineup(season, g, order, captain, vice) {

@@ -159,7 +159,8 @@ pub fn judge_squad(
     requires { All (λ id. IsSome (player_of players.now id)) squad.now }
     ensures judged { IsJudged (squad_broken season.now players.now squad.now captain vice) result }
     ensures new { OnOk result (season.now ≡ []) }
-    ensures team { IfOk result (IsFirstOf players.now squad.now (slot_of squad.now captain) (slot_of squad.now vice)) }
+    ensures team { IfOk result
+        (IsFirstOf players.now squad.now (slot_of squad.now captain) (slot_of squad.now vice)) }
 {
     if season.first().is_some() {
         return Err(Rule::Registered);
@@ -182,9 +183,19 @@ pub fn register(
     vice: PlayerId,
 ) -> Result<(), Refused>
     requires { All (λ id. IsSome (player_of players.now id)) squad.now }
-    ensures judged { IsJudgedOrOut (register_broken season.old players.now squad.now (slot_of squad.now captain) (slot_of squad.now vice)) result }
-    ensures rows { OnOk result (Registers g players.now squad.now (slot_of squad.now captain) (slot_of squad.now vice) season.old season.new) }
-    ensures history { (position : ℕ → Position) (h : List Event) → HavePositions position players.now → StandsFor position season.old h → OnOk result (StandsFor position season.new (h ++ in_gameweek g (First (holdings (picks_from players.now squad.now)) (slot_of squad.now captain) (slot_of squad.now vice) ∷ []))) }
+    ensures judged { IsJudgedOrOut
+        (register_broken season.old players.now squad.now (slot_of squad.now captain)
+        (slot_of squad.now vice)) result }
+    ensures rows { OnOk result
+        (Registers g players.now squad.now (slot_of squad.now captain)
+        (slot_of squad.now vice) season.old season.new) }
+    ensures history { (position : ℕ → Position) (h : List Event)
+        → HavePositions position players.now → StandsFor position season.old h
+        → OnOk result
+        (StandsFor position season.new
+        (h ++ in_gameweek g
+        (First (holdings (picks_from players.now squad.now)) (slot_of squad.now captain)
+        (slot_of squad.now vice) ∷ []))) }
     ensures err { OnErr result (season.new ≡ season.old) }
 {
     let team = match judge_squad(season, players, squad, captain, vice) {

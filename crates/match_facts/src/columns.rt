@@ -34,10 +34,14 @@ pub fn put_row(
     line: &Line,
 ) -> Result<(), Memory>
     requires columns { AreColumns players.old.items lines.old.items }
-    requires room { length (with_line (zip players.old.items lines.old.items) player line.now) ≤ 64 }
+    requires room { length (with_line (zip players.old.items lines.old.items) player line.now)
+        ≤ 64 }
     ensures columns { AreColumns players.new.items lines.new.items }
-    ensures ok { OnOk result (zip players.new.items lines.new.items ≡ with_line (zip players.old.items lines.old.items) player line.now) }
-    ensures err { OnErr result (zip players.new.items lines.new.items ≡ zip players.old.items lines.old.items) }
+    ensures ok { OnOk result
+        (zip players.new.items lines.new.items
+        ≡ with_line (zip players.old.items lines.old.items) player line.now) }
+    ensures err { OnErr result
+        (zip players.new.items lines.new.items ≡ zip players.old.items lines.old.items) }
 {
     match place_of(players, player) {
         Ok(place) => {
@@ -57,7 +61,8 @@ pub fn put_row(
 pub fn remove_row(players: &mut Vec<PlayerId>, lines: &mut Vec<Line>, player: PlayerId)
     requires { AreColumns players.old.items lines.old.items }
     ensures columns { AreColumns players.new.items lines.new.items }
-    ensures rows { zip players.new.items lines.new.items ≡ without_line (zip players.old.items lines.old.items) player }
+    ensures rows { zip players.new.items lines.new.items
+        ≡ without_line (zip players.old.items lines.old.items) player }
 {
     match place_of(players, player) {
         Ok(place) => {

@@ -74,7 +74,8 @@ impl MatchFacts {
         player: PlayerId,
         line: &Line,
     ) -> Result<(), Refused>
-        ensures judged { IsJudgedOrOut (line_refusal self.old fixture locked player line.now) result }
+        ensures judged { IsJudgedOrOut
+            (line_refusal self.old fixture locked player line.now) result }
         ensures done { OnOk result (self.new ≡ put_line self.old fixture player line.now) }
         ensures kept { OnErr result (self.new ≡ self.old) }
     {
@@ -92,7 +93,8 @@ impl MatchFacts {
         line: &Line,
     ) -> Result<(), Rule>
         ensures judged { IsJudged (line_refusal self.now fixture locked player line.now) result }
-        ensures room { OnOk result (length (with_line (lines_of self.now fixture) player line.now) ≤ 64) }
+        ensures room { OnOk result
+            (length (with_line (lines_of self.now fixture) player line.now) ≤ 64) }
     {
         judge_lock(fixture, locked)?;
         if !self.has_room(fixture, player) {
@@ -103,7 +105,8 @@ impl MatchFacts {
 
     // Whether at most 64 lines stand in a fixture with one of this player.
     fn has_room(&self, fixture: FixtureId, player: PlayerId) -> bool
-        ensures { (line : Line) → IsTrue result ↔ (length (with_line (lines_of self.now fixture) player line) ≤ 64) }
+        ensures { (line : Line) → IsTrue result
+            ↔ (length (with_line (lines_of self.now fixture) player line) ≤ 64) }
     {
         match self.sheets.get(fixture) {
             Some(sheet) => sheet.has_room(player),

@@ -29,7 +29,8 @@ impl Model for Sheet {
 
     ghost Value = { facts.Sheet };
 
-    ghost view = { λ s. record { lines = zip s.players.items s.lines.items; finished = s.finished } };
+    ghost view = { λ s.
+        record { lines = zip s.players.items s.lines.items; finished = s.finished } };
 
     ghost invariant = { λ s. AreMarkedColumns s.players.items s.lines.items s.marks };
 }
@@ -50,7 +51,8 @@ impl Sheet {
     /// A sheet of these lines.
     pub fn of(alloc: Global, lines: &[(PlayerId, Line)], finished: bool) -> Result<Self, Memory>
         requires { length lines.now ≤ 64 }
-        ensures { IfOk result (λ sheet. sheet ≡ record { lines = by_player lines.now; finished = finished }) }
+        ensures { IfOk result
+            (λ sheet. sheet ≡ record { lines = by_player lines.now; finished = finished }) }
     {
         let mut sheet = Sheet::new(alloc, lines.len(), finished)?;
         'lines: for line in lines {
@@ -103,7 +105,8 @@ impl Sheet {
 
     /// Whether at most 64 lines stand with one of this player.
     pub fn has_room(&self, player: PlayerId) -> bool
-        ensures { (line : Line) → IsTrue result ↔ (length (with_line self.now.lines player line) ≤ 64) }
+        ensures { (line : Line) → IsTrue result
+            ↔ (length (with_line self.now.lines player line) ≤ 64) }
     {
         match place_of(&self.players, player) {
             Ok(_) => true,
@@ -114,7 +117,12 @@ impl Sheet {
     /// Adds or replaces a line.
     pub fn put(&mut self, player: PlayerId, line: &Line) -> Result<(), Memory>
         requires { length (with_line self.old.lines player line.now) ≤ 64 }
-        ensures ok { OnOk result (self.new ≡ record { lines = with_line self.old.lines player line.now; finished = self.old.finished }) }
+        ensures ok { OnOk result
+            (self.new
+            ≡ record {
+              lines = with_line self.old.lines player line.now;
+              finished = self.old.finished;
+            }) }
         ensures err { OnErr result (self.new ≡ self.old) }
     {
         mark(&mut self.marks, player);
@@ -123,7 +131,8 @@ impl Sheet {
 
     /// Takes the line of a player away, if he has one.
     pub fn remove(&mut self, player: PlayerId)
-        ensures { self.new ≡ record { lines = without_line self.old.lines player; finished = self.old.finished } }
+        ensures { self.new
+            ≡ record { lines = without_line self.old.lines player; finished = self.old.finished } }
     {
         remove_row(&mut self.players, &mut self.lines, player);
     }

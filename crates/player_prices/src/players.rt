@@ -67,7 +67,8 @@ impl Players {
 
     /// Whether a player of this id and price may be added: what `add` refuses for.
     pub fn judge_new(&self, id: PlayerId, price: Tenths) -> Result<(), Rule>
-        ensures { (new : Player) → new.id ≡ id → new.price ≡ price → IsJudged (player_refusal self.now new) result }
+        ensures { (new : Player) → new.id ≡ id → new.price ≡ price
+            → IsJudged (player_refusal self.now new) result }
     {
         match self.place_of_new(id, price) {
             Ok(_) => Ok(()),
@@ -77,7 +78,8 @@ impl Players {
 
     // Where a player of this id and price would stand.
     fn place_of_new(&self, id: PlayerId, price: Tenths) -> Result<usize, Rule>
-        ensures judged { (new : Player) → new.id ≡ id → new.price ≡ price → IsJudged (player_refusal self.now new) result }
+        ensures judged { (new : Player) → new.id ≡ id → new.price ≡ price
+            → IsJudged (player_refusal self.now new) result }
         ensures place { IfOk result (IsPlaceFor self.now id) }
         ensures room { OnOk result (length self.now < most_players) }
         ensures price { OnOk result (IsPrice price) }

@@ -163,7 +163,8 @@ fn fixture_body(
     kickoff: Moment,
     finished: bool,
 ) -> Result<Bytes, Memory>
-    ensures { IfOk result (λ bytes. bytes ≡ bodies.fixture_body home away gameweek kickoff finished) }
+    ensures { IfOk result
+        (λ bytes. bytes ≡ bodies.fixture_body home away gameweek kickoff finished) }
 {
     let mut bytes = no_bytes(alloc)?;
     append_u8(&mut bytes, home.get())?;
@@ -238,7 +239,8 @@ fn league_body(
     name: &Name,
 ) -> Result<Bytes, Memory>
     requires { length order.now ≤ 255 }
-    ensures { IfOk result (λ bytes. bytes ≡ bodies.league_body kind start creator order.now code.now name.now) }
+    ensures { IfOk result
+        (λ bytes. bytes ≡ bodies.league_body kind start creator order.now code.now name.now) }
 {
     let mut bytes = no_bytes(alloc)?;
     append_u8(&mut bytes, kind_byte(kind))?;

@@ -106,7 +106,8 @@ pub fn append_command(bytes: &mut Vec<u8>, command: &Command) -> Result<(), Memo
 }
 
 fn append_two(bytes: &mut Vec<u8>, number: u8, first: u64, second: u64) -> Result<(), Memory>
-    ensures { OnOk result (bytes.new.items ≡ bytes.old.items ++ byte number ++ whole first ++ whole second) }
+    ensures { OnOk result
+        (bytes.new.items ≡ bytes.old.items ++ byte number ++ whole first ++ whole second) }
 {
     append_u8(bytes, number)?;
     append_u64(bytes, first)?;
@@ -123,7 +124,9 @@ fn append_season(
     requires deadlines { length deadlines.now ≤ 38 }
     requires clubs { length clubs.now ≤ 20 }
     ensures { OnOk result
-        (bytes.new.items ≡ bytes.old.items ++ bytes_of_command (command.Season profile deadlines.now split clubs.now)) }
+        (bytes.new.items
+        ≡ bytes.old.items
+        ++ bytes_of_command (command.Season profile deadlines.now split clubs.now)) }
 {
     append_u8(bytes, 1)?;
     append_u16(bytes, deadlines.as_slice().len() as u16)?;
@@ -152,7 +155,9 @@ fn append_player(
     club: ClubId,
     price: u16,
 ) -> Result<(), Memory>
-    ensures { OnOk result (bytes.new.items ≡ bytes.old.items ++ bytes_of_command (command.Player id name.now position club price)) }
+    ensures { OnOk result
+        (bytes.new.items
+        ≡ bytes.old.items ++ bytes_of_command (command.Player id name.now position club price)) }
 {
     append_u8(bytes, 3)?;
     append_u64(bytes, id.get() as u64)?;
@@ -163,7 +168,8 @@ fn append_player(
 }
 
 fn append_gone(bytes: &mut Vec<u8>, player: PlayerId, gone: bool) -> Result<(), Memory>
-    ensures { OnOk result (bytes.new.items ≡ bytes.old.items ++ bytes_of_command (command.Gone player gone)) }
+    ensures { OnOk result
+        (bytes.new.items ≡ bytes.old.items ++ bytes_of_command (command.Gone player gone)) }
 {
     append_u8(bytes, 6)?;
     append_u64(bytes, player.get() as u64)?;
@@ -178,7 +184,9 @@ fn append_fixture(
     gameweek: Option<Gw>,
     kickoff: Moment,
 ) -> Result<(), Memory>
-    ensures { OnOk result (bytes.new.items ≡ bytes.old.items ++ bytes_of_command (command.Fixture id home away gameweek kickoff)) }
+    ensures { OnOk result
+        (bytes.new.items
+        ≡ bytes.old.items ++ bytes_of_command (command.Fixture id home away gameweek kickoff)) }
 {
     append_u8(bytes, 7)?;
     append_u64(bytes, id.get() as u64)?;
@@ -194,7 +202,9 @@ fn append_move(
     gameweek: Option<Gw>,
     kickoff: Moment,
 ) -> Result<(), Memory>
-    ensures { OnOk result (bytes.new.items ≡ bytes.old.items ++ bytes_of_command (command.Move fixture gameweek kickoff)) }
+    ensures { OnOk result
+        (bytes.new.items
+        ≡ bytes.old.items ++ bytes_of_command (command.Move fixture gameweek kickoff)) }
 {
     append_u8(bytes, 8)?;
     append_u32(bytes, fixture)?;
@@ -209,7 +219,9 @@ fn append_sheet(
     finished: bool,
 ) -> Result<(), Memory>
     requires { length lines.now ≤ 100 }
-    ensures { OnOk result (bytes.new.items ≡ bytes.old.items ++ bytes_of_command (command.Sheet fixture lines.now finished)) }
+    ensures { OnOk result
+        (bytes.new.items
+        ≡ bytes.old.items ++ bytes_of_command (command.Sheet fixture lines.now finished)) }
 {
     append_u8(bytes, 9)?;
     append_u32(bytes, fixture)?;
@@ -224,7 +236,9 @@ fn append_one_line(
     player: PlayerId,
     line: &Line,
 ) -> Result<(), Memory>
-    ensures { OnOk result (bytes.new.items ≡ bytes.old.items ++ bytes_of_command (command.Line fixture player line.now)) }
+    ensures { OnOk result
+        (bytes.new.items
+        ≡ bytes.old.items ++ bytes_of_command (command.Line fixture player line.now)) }
 {
     append_u8(bytes, 10)?;
     append_u32(bytes, fixture)?;
@@ -233,7 +247,8 @@ fn append_one_line(
 }
 
 fn append_drop(bytes: &mut Vec<u8>, fixture: u32, player: PlayerId) -> Result<(), Memory>
-    ensures { OnOk result (bytes.new.items ≡ bytes.old.items ++ bytes_of_command (command.Drop fixture player)) }
+    ensures { OnOk result
+        (bytes.new.items ≡ bytes.old.items ++ bytes_of_command (command.Drop fixture player)) }
 {
     append_u8(bytes, 11)?;
     append_u32(bytes, fixture)?;
@@ -241,7 +256,9 @@ fn append_drop(bytes: &mut Vec<u8>, fixture: u32, player: PlayerId) -> Result<()
 }
 
 fn append_finished(bytes: &mut Vec<u8>, fixture: u32, finished: bool) -> Result<(), Memory>
-    ensures { OnOk result (bytes.new.items ≡ bytes.old.items ++ bytes_of_command (command.Finished fixture finished)) }
+    ensures { OnOk result
+        (bytes.new.items
+        ≡ bytes.old.items ++ bytes_of_command (command.Finished fixture finished)) }
 {
     append_u8(bytes, 12)?;
     append_u32(bytes, fixture)?;
@@ -249,7 +266,8 @@ fn append_finished(bytes: &mut Vec<u8>, fixture: u32, finished: bool) -> Result<
 }
 
 fn append_key(bytes: &mut Vec<u8>, key: &Key, name: &Name) -> Result<(), Memory>
-    ensures { OnOk result (bytes.new.items ≡ bytes.old.items ++ bytes_of_command (command.Key key.now name.now)) }
+    ensures { OnOk result
+        (bytes.new.items ≡ bytes.old.items ++ bytes_of_command (command.Key key.now name.now)) }
 {
     append_u8(bytes, 13)?;
     append_long_text(bytes, key.bytes())?;
@@ -264,7 +282,10 @@ fn append_slots_of_players(
     captain: PlayerId,
     vice: PlayerId,
 ) -> Result<(), Memory>
-    ensures { OnOk result (bytes.new.items ≡ bytes.old.items ++ byte number ++ listed whole players.now ++ whole captain ++ whole vice) }
+    ensures { OnOk result
+        (bytes.new.items
+        ≡ bytes.old.items ++ byte number ++ listed whole players.now ++ whole captain
+        ++ whole vice) }
 {
     append_u8(bytes, number)?;
     append_u16(bytes, 15)?;
@@ -275,7 +296,8 @@ fn append_slots_of_players(
 
 fn append_transfers(bytes: &mut Vec<u8>, swaps: &Swaps) -> Result<(), Memory>
     requires { length swaps.now ≤ 15 }
-    ensures { OnOk result (bytes.new.items ≡ bytes.old.items ++ bytes_of_command (command.Transfers swaps.now)) }
+    ensures { OnOk result
+        (bytes.new.items ≡ bytes.old.items ++ bytes_of_command (command.Transfers swaps.now)) }
 {
     append_u8(bytes, 15)?;
     append_u16(bytes, swaps.as_slice().len() as u16)?;
@@ -283,7 +305,8 @@ fn append_transfers(bytes: &mut Vec<u8>, swaps: &Swaps) -> Result<(), Memory>
 }
 
 fn append_chip(bytes: &mut Vec<u8>, chip: Chip) -> Result<(), Memory>
-    ensures { OnOk result (bytes.new.items ≡ bytes.old.items ++ bytes_of_command (command.Chip chip)) }
+    ensures { OnOk result
+        (bytes.new.items ≡ bytes.old.items ++ bytes_of_command (command.Chip chip)) }
 {
     append_u8(bytes, 17)?;
     append_u8(bytes, chip_byte(chip))
@@ -296,7 +319,9 @@ fn append_league(
     code: &Code,
     start: Gw,
 ) -> Result<(), Memory>
-    ensures { OnOk result (bytes.new.items ≡ bytes.old.items ++ bytes_of_command (command.League kind name.now code.now start)) }
+    ensures { OnOk result
+        (bytes.new.items
+        ≡ bytes.old.items ++ bytes_of_command (command.League kind name.now code.now start)) }
 {
     append_u8(bytes, 19)?;
     append_u8(bytes, kind_byte(kind))?;
@@ -306,7 +331,8 @@ fn append_league(
 }
 
 fn append_join(bytes: &mut Vec<u8>, league: u32, code: &Code) -> Result<(), Memory>
-    ensures { OnOk result (bytes.new.items ≡ bytes.old.items ++ bytes_of_command (command.Join league code.now)) }
+    ensures { OnOk result
+        (bytes.new.items ≡ bytes.old.items ++ bytes_of_command (command.Join league code.now)) }
 {
     append_u8(bytes, 20)?;
     append_u32(bytes, league)?;
@@ -315,7 +341,8 @@ fn append_join(bytes: &mut Vec<u8>, league: u32, code: &Code) -> Result<(), Memo
 
 fn append_draw(bytes: &mut Vec<u8>, league: u32, order: &Order) -> Result<(), Memory>
     requires { length order.now ≤ 64 }
-    ensures { OnOk result (bytes.new.items ≡ bytes.old.items ++ bytes_of_command (command.Draw league order.now)) }
+    ensures { OnOk result
+        (bytes.new.items ≡ bytes.old.items ++ bytes_of_command (command.Draw league order.now)) }
 {
     append_u8(bytes, 21)?;
     append_u32(bytes, league)?;
@@ -326,7 +353,9 @@ fn append_draw(bytes: &mut Vec<u8>, league: u32, order: &Order) -> Result<(), Me
 fn append_cup(bytes: &mut Vec<u8>, start: Gw, slots: &Slots, coins: &Coins) -> Result<(), Memory>
     requires slots { length slots.now ≤ 1024 }
     requires coins { length coins.now ≤ 1024 }
-    ensures { OnOk result (bytes.new.items ≡ bytes.old.items ++ bytes_of_command (command.Cup start slots.now coins.now)) }
+    ensures { OnOk result
+        (bytes.new.items
+        ≡ bytes.old.items ++ bytes_of_command (command.Cup start slots.now coins.now)) }
 {
     append_u8(bytes, 22)?;
     append_u64(bytes, start.get() as u64)?;

@@ -304,7 +304,8 @@ pub fn can_be(item: &Item) -> bool
 
 // A coin fewer than slots, of which there are at most 65,535.
 fn are_as_many(slots: &[u32], coins: &[u8]) -> bool
-    ensures { result ≡ (nat_le (length slots.now) 65535 && length coins.now + 1 == length slots.now) }
+    ensures { result
+        ≡ (nat_le (length slots.now) 65535 && length coins.now + 1 == length slots.now) }
 {
     slots.len() <= 65_535 && coins.len() + 1 == slots.len()
 }

@@ -32,8 +32,12 @@ pub fn encode_player(
     gone: bool,
     name: &Name,
 ) -> Result<(RecordKey, Bytes), Memory>
-    ensures key { IfOk result (λ record_of. record_of.0 ≡ key_of_item (item.Player player position club price gone name.now)) }
-    ensures body { IfOk result (λ record_of. record_of.1 ≡ body_of (item.Player player position club price gone name.now)) }
+    ensures key { IfOk result
+        (λ record_of. record_of.0
+        ≡ key_of_item (item.Player player position club price gone name.now)) }
+    ensures body { IfOk result
+        (λ record_of. record_of.1
+        ≡ body_of (item.Player player position club price gone name.now)) }
 {
     let key = Slot::Player(player.get()).key();
     let body = player_body(alloc, position, club, price, gone, name)?;
@@ -50,8 +54,10 @@ pub fn encode_last(
     command: &Command,
 ) -> Result<(RecordKey, Bytes), Memory>
     requires { IsTrue (is_item (item.Last caller number status made command.now)) }
-    ensures key { IfOk result (λ record_of. record_of.0 ≡ key_of_item (item.Last caller number status made command.now)) }
-    ensures body { IfOk result (λ record_of. record_of.1 ≡ body_of (item.Last caller number status made command.now)) }
+    ensures key { IfOk result
+        (λ record_of. record_of.0 ≡ key_of_item (item.Last caller number status made command.now)) }
+    ensures body { IfOk result
+        (λ record_of. record_of.1 ≡ body_of (item.Last caller number status made command.now)) }
 {
     let key = Slot::Last(caller).key();
     let body = last_body(alloc, number, status, made, command)?;

@@ -58,7 +58,8 @@ impl<N: Copy + Ord + Hash, V: Drop> Cells<N, V> {
     /// Makes a node live and dirty, without a value.
     pub fn plant(&mut self, n: N) -> Result<(), Memory>
         requires { look N.cmp self.old n ≡ None }
-        ensures ok { OnOk result (Puts N.cmp (look N.cmp self.old) (look N.cmp self.new) n planted) }
+        ensures ok { OnOk result
+            (Puts N.cmp (look N.cmp self.old) (look N.cmp self.new) n planted) }
         ensures err { OnErr result (self.new ≡ self.old) }
     {
         self.pending.push(n)?;
@@ -77,7 +78,9 @@ impl<N: Copy + Ord + Hash, V: Drop> Cells<N, V> {
     /// Makes a live node dirty, and keeps its value and its count.
     pub fn mark(&mut self, n: N) -> Result<(), Memory>
         requires { IsSome (look N.cmp self.old n) }
-        ensures ok { OnOk result (Puts N.cmp (look N.cmp self.old) (look N.cmp self.new) n (raise (look N.cmp self.old n))) }
+        ensures ok { OnOk result
+            (Puts N.cmp (look N.cmp self.old) (look N.cmp self.new) n
+            (raise (look N.cmp self.old n))) }
         ensures err { OnErr result (self.new ≡ self.old) }
         ensures keys { keys_of self.new ≡ keys_of self.old }
     {
@@ -123,7 +126,8 @@ impl<N: Copy + Ord + Hash, V: Drop> Cells<N, V> {
     // Gives a live node its new value.
     pub(crate) fn store(&mut self, n: N, value: V)
         requires { IsSome (look N.cmp self.old n) }
-        ensures puts { Puts N.cmp (look N.cmp self.old) (look N.cmp self.new) n (stored value (look N.cmp self.old n)) }
+        ensures puts { Puts N.cmp (look N.cmp self.old) (look N.cmp self.new) n
+            (stored value (look N.cmp self.old n)) }
         ensures keys { keys_of self.new ≡ keys_of self.old }
     {
         store_slot(&mut self.slots, n, value);
@@ -147,7 +151,8 @@ fn plant_slot<N: Copy + Ord + Hash, V: Drop>(
     slots: &mut HashMap<N, Slot<V>>,
     n: N,
 ) -> Result<(), Memory>
-    ensures ok { OnOk result (Puts N.cmp (look N.cmp slots.old.entries) (look N.cmp slots.new.entries) n planted) }
+    ensures ok { OnOk result
+        (Puts N.cmp (look N.cmp slots.old.entries) (look N.cmp slots.new.entries) n planted) }
     ensures err { OnErr result (slots.new.entries ≡ slots.old.entries) }
 {
     let fresh = Slot {
@@ -167,7 +172,8 @@ fn uproot_slot<N: Copy + Ord + Hash, V: Drop>(slots: &mut HashMap<N, Slot<V>>, n
 
 fn raise_slot<N: Copy + Ord + Hash, V: Drop>(slots: &mut HashMap<N, Slot<V>>, n: N)
     requires { IsSome (look N.cmp slots.old.entries n) }
-    ensures puts { Puts N.cmp (look N.cmp slots.old.entries) (look N.cmp slots.new.entries) n (raise (look N.cmp slots.old.entries n)) }
+    ensures puts { Puts N.cmp (look N.cmp slots.old.entries) (look N.cmp slots.new.entries) n
+        (raise (look N.cmp slots.old.entries n)) }
     ensures keys { keys_of slots.new.entries ≡ keys_of slots.old.entries }
 {
     if let Some(slot) = slots.get_mut(&n) {
@@ -177,7 +183,8 @@ fn raise_slot<N: Copy + Ord + Hash, V: Drop>(slots: &mut HashMap<N, Slot<V>>, n:
 
 fn store_slot<N: Copy + Ord + Hash, V: Drop>(slots: &mut HashMap<N, Slot<V>>, n: N, value: V)
     requires { IsSome (look N.cmp slots.old.entries n) }
-    ensures puts { Puts N.cmp (look N.cmp slots.old.entries) (look N.cmp slots.new.entries) n (stored value (look N.cmp slots.old.entries n)) }
+    ensures puts { Puts N.cmp (look N.cmp slots.old.entries) (look N.cmp slots.new.entries) n
+        (stored value (look N.cmp slots.old.entries n)) }
     ensures keys { keys_of slots.new.entries ≡ keys_of slots.old.entries }
 {
     if let Some(slot) = slots.get_mut(&n) {

@@ -15,7 +15,8 @@ pub(crate) fn greatest_of<L: Ledger>(
     cells: &Cells<MaxNode, u32>,
     steps: &mut Steps<L>,
 ) -> u32
-    ensures value { result ≡ greatest (values_in (look ⟦<MaxNode as Ord>⟧.cmp cells.now)) nodes.now }
+    ensures value { result
+        ≡ greatest (values_in (look ⟦<MaxNode as Ord>⟧.cmp cells.now)) nodes.now }
     ensures cost { steps.new ≡ steps.old + length nodes.now }
 {
     let mut greatest = 0;

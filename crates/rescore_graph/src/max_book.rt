@@ -60,9 +60,13 @@ impl MaxBook {
         requires low { 1 ≤ level }
         requires high { level ≤ 9 }
         requires differ { NoneTwice inputs.now }
-        requires inputs { (m : MaxNode) → Among inputs.now m → IsThere self.old.leaves.items self.old.tops.items m × (max_level self.old.leaves.items self.old.tops.items m < level) }
+        requires inputs { (m : MaxNode) → Among inputs.now m
+            → IsThere self.old.leaves.items self.old.tops.items m
+            × (max_level self.old.leaves.items self.old.tops.items m < level) }
         ensures place { IfOk result (λ k. k ≡ length self.old.tops.items) }
-        ensures ok { OnOk result (self.new.tops.items ≡ self.old.tops.items ++ record { level = level; inputs = inputs.now } ∷ []) }
+        ensures ok { OnOk result
+            (self.new.tops.items
+            ≡ self.old.tops.items ++ record { level = level; inputs = inputs.now } ∷ []) }
         ensures err { OnErr result (self.new.tops.items ≡ self.old.tops.items) }
         ensures leaves { self.new.leaves.items ≡ self.old.leaves.items }
     {
@@ -84,7 +88,8 @@ impl MaxBook {
     // Whether n is an input of a top.
     fn feeds(&self, k: usize, n: MaxNode) -> bool
         requires { k < length self.now.tops.items }
-        ensures { IsTrue result ↔ Among (max_inputs self.now.leaves.items self.now.tops.items (MaxNode.Top k)) n }
+        ensures { IsTrue result
+            ↔ Among (max_inputs self.now.leaves.items self.now.tops.items (MaxNode.Top k)) n }
     {
         has_input(self.tops[k].inputs.as_slice(), n)
     }
@@ -150,5 +155,6 @@ impl Rules for MaxBook {
 
     ghost lawful = { λ b _. max_lawful b.leaves.items b.tops.items b.layered };
 
-    ghost exact = { max_exact ⟦<MaxNode as Ord>⟧.cmp (λ a b. refl) (λ a b. refl) (λ a b. refl) (λ a b. refl) };
+    ghost exact = { max_exact ⟦<MaxNode as Ord>⟧.cmp (λ a b. refl) (λ a b. refl) (λ a b. refl)
+        (λ a b. refl) };
 }

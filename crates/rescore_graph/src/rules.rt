@@ -31,12 +31,14 @@ pub trait Rules {
     /// The nodes whose values this node's own function reads.
     fn inputs(&self, alloc: Global, n: Self::Node) -> Result<Vec<Self::Node>, Memory>
         requires { in_order self.now }
-        ensures { (graph self.now).live n → IfOk result (λ ns. ns.items ≡ (graph self.now).inputs n) };
+        ensures { (graph self.now).live n
+            → IfOk result (λ ns. ns.items ≡ (graph self.now).inputs n) };
 
     /// The nodes of which this node is an input.
     fn dependents(&self, alloc: Global, n: Self::Node) -> Result<Vec<Self::Node>, Memory>
         requires { in_order self.now }
-        ensures { (graph self.now).live n → IfOk result (λ ns. IsDependents (graph self.now) n ns.items) };
+        ensures { (graph self.now).live n
+            → IfOk result (λ ns. IsDependents (graph self.now) n ns.items) };
 
     /// The node's own function of the values that its inputs' cells hold. It makes at most as many counted reads as the
     /// node's weight.
@@ -49,8 +51,10 @@ pub trait Rules {
     ) -> Result<Self::Value, Memory>
         requires order { in_order self.now }
         requires live { (graph self.now).live n }
-        requires inputs { (m : Self.Node) → Among ((graph self.now).inputs n) m → values_in (look Self.Node.cmp cells.now) m ≡ replay (graph self.now) m }
-        ensures value { IfOk result (λ v. v ≡ (graph self.now).own n (values_in (look Self.Node.cmp cells.now))) }
+        requires inputs { (m : Self.Node) → Among ((graph self.now).inputs n) m
+            → values_in (look Self.Node.cmp cells.now) m ≡ replay (graph self.now) m }
+        ensures value { IfOk result
+            (λ v. v ≡ (graph self.now).own n (values_in (look Self.Node.cmp cells.now))) }
         ensures cost { steps.new ≤ steps.old + (graph self.now).weight n };
 
     /// Whether two values are equal.

@@ -32,8 +32,11 @@ impl<N: Copy + Ord + Hash, V: Drop> Cells<N, V> {
     ) -> Result<Report<N>, Memory>
         requires order { R.in_order rules.now }
         requires sound { Sound (R.graph rules.now) (look N.cmp self.old) }
-        ensures settles { IfOk result (λ report. Settles (R.graph rules.now) (look N.cmp self.old) (look N.cmp self.new) report.evaluated) }
-        ensures cost { IfOk result (λ report. steps.new ≤ steps.old + sum_by (R.graph rules.now).weight report.evaluated) }
+        ensures settles { IfOk result
+            (λ report. Settles (R.graph rules.now) (look N.cmp self.old)
+            (look N.cmp self.new) report.evaluated) }
+        ensures cost { IfOk result
+            (λ report. steps.new ≤ steps.old + sum_by (R.graph rules.now).weight report.evaluated) }
 
         // after want of memory too
         ensures remains { Remains (R.graph rules.now) (look N.cmp self.old) (look N.cmp self.new) }
@@ -58,7 +61,8 @@ impl<N: Copy + Ord + Hash, V: Drop> Cells<N, V> {
     fn work_of<R: Rules<Node = N, Value = V>>(&self, rules: &R) -> Result<BTreeSet<(u8, N)>, Memory>
         requires order { R.in_order rules.now }
         requires sound { Sound (R.graph rules.now) (look N.cmp self.now) }
-        ensures { IfOk result (λ work. IsWork (R.graph rules.now) N.cmp (look N.cmp self.now) work.keys) }
+        ensures { IfOk result
+            (λ work. IsWork (R.graph rules.now) N.cmp (look N.cmp self.now) work.keys) }
     {
         let mut work = BTreeSet::new(self.alloc);
         for n in &self.pending {
@@ -81,13 +85,18 @@ impl<N: Copy + Ord + Hash, V: Drop> Cells<N, V> {
         requires order { R.in_order rules.now }
         requires sound { Sound (R.graph rules.now) (look N.cmp self.old) }
         requires dirty { IsDirty (look N.cmp self.old) n }
-        requires least { (d : N) → IsDirty (look N.cmp self.old) d → (R.graph rules.now).level n ≤ (R.graph rules.now).level d }
+        requires least { (d : N) → IsDirty (look N.cmp self.old) d
+            → (R.graph rules.now).level n ≤ (R.graph rules.now).level d }
         requires work { IsWork (R.graph rules.now) N.cmp (look N.cmp self.old) work.old.keys }
-        ensures ok { OnOk result ((v : V) × (u : State N V) × Evaluates (R.graph rules.now) n v (look N.cmp self.old) u (look N.cmp self.new)) }
-        ensures work { OnOk result (IsWork (R.graph rules.now) N.cmp (look N.cmp self.new) work.new.keys) }
+        ensures ok { OnOk result
+            ((v : V) × (u : State N V)
+            × Evaluates (R.graph rules.now) n v (look N.cmp self.old) u (look N.cmp self.new)) }
+        ensures work { OnOk result
+            (IsWork (R.graph rules.now) N.cmp (look N.cmp self.new) work.new.keys) }
         ensures keys { keys_of self.new ≡ keys_of self.old }
         ensures cost { steps.new ≤ steps.old + (R.graph rules.now).weight n }
-        ensures err { OnErr result (Raised (DependsOn (R.graph rules.now) n) (look N.cmp self.old) (look N.cmp self.new)) }
+        ensures err { OnErr result
+            (Raised (DependsOn (R.graph rules.now) n) (look N.cmp self.old) (look N.cmp self.new)) }
     {
         let level = rules.level(n);
         let value = rules.eval(self.alloc, n, self, steps)?;
@@ -109,10 +118,16 @@ impl<N: Copy + Ord + Hash, V: Drop> Cells<N, V> {
         requires sound { Sound (R.graph rules.now) (look N.cmp self.old) }
         requires live { (R.graph rules.now).live n }
         requires work { IsWork (R.graph rules.now) N.cmp (look N.cmp self.old) work.old.keys }
-        ensures raised { Raised (DependsOn (R.graph rules.now) n) (look N.cmp self.old) (look N.cmp self.new) }
-        ensures change { OnOk result ((values_in (look N.cmp self.old) n ≡ Some value.now) ⊎ ((values_in (look N.cmp self.old) n ≢ Some value.now) × ((q : N) → DependsOn (R.graph rules.now) n q → IsDirty (look N.cmp self.new) q))) }
-        ensures calm { values_in (look N.cmp self.old) n ≡ Some value.now → (q : N) → look N.cmp self.new q ≡ look N.cmp self.old q }
-        ensures work { OnOk result (IsWork (R.graph rules.now) N.cmp (look N.cmp self.new) work.new.keys) }
+        ensures raised { Raised (DependsOn (R.graph rules.now) n) (look N.cmp self.old)
+            (look N.cmp self.new) }
+        ensures change { OnOk result
+            ((values_in (look N.cmp self.old) n ≡ Some value.now)
+            ⊎ ((values_in (look N.cmp self.old) n ≢ Some value.now)
+            × ((q : N) → DependsOn (R.graph rules.now) n q → IsDirty (look N.cmp self.new) q))) }
+        ensures calm { values_in (look N.cmp self.old) n ≡ Some value.now → (q : N)
+            → look N.cmp self.new q ≡ look N.cmp self.old q }
+        ensures work { OnOk result
+            (IsWork (R.graph rules.now) N.cmp (look N.cmp self.new) work.new.keys) }
         ensures keys { keys_of self.new ≡ keys_of self.old }
     {
         match self.value_at(n) {
@@ -150,9 +165,12 @@ impl<N: Copy + Ord + Hash, V: Drop> Cells<N, V> {
         requires sound { Sound (R.graph rules.now) (look N.cmp self.old) }
         requires dependents { IsDependents (R.graph rules.now) n dependents.now }
         requires work { IsWork (R.graph rules.now) N.cmp (look N.cmp self.old) work.old.keys }
-        ensures raised { Raised (DependsOn (R.graph rules.now) n) (look N.cmp self.old) (look N.cmp self.new) }
-        ensures all { OnOk result ((q : N) → DependsOn (R.graph rules.now) n q → IsDirty (look N.cmp self.new) q) }
-        ensures work { OnOk result (IsWork (R.graph rules.now) N.cmp (look N.cmp self.new) work.new.keys) }
+        ensures raised { Raised (DependsOn (R.graph rules.now) n) (look N.cmp self.old)
+            (look N.cmp self.new) }
+        ensures all { OnOk result
+            ((q : N) → DependsOn (R.graph rules.now) n q → IsDirty (look N.cmp self.new) q) }
+        ensures work { OnOk result
+            (IsWork (R.graph rules.now) N.cmp (look N.cmp self.new) work.new.keys) }
         ensures keys { keys_of self.new ≡ keys_of self.old }
     {
         for d in dependents {
@@ -174,7 +192,8 @@ impl<N: Copy + Ord + Hash, V: Drop> Cells<N, V> {
         requires work { IsWork (R.graph rules.now) N.cmp (look N.cmp self.old) work.old.keys }
         ensures raised { Raised (λ q. d ≡ q) (look N.cmp self.old) (look N.cmp self.new) }
         ensures dirty { OnOk result (IsDirty (look N.cmp self.new) d) }
-        ensures work { OnOk result (IsWork (R.graph rules.now) N.cmp (look N.cmp self.new) work.new.keys) }
+        ensures work { OnOk result
+            (IsWork (R.graph rules.now) N.cmp (look N.cmp self.new) work.new.keys) }
         ensures keys { keys_of self.new ≡ keys_of self.old }
     {
         if self.is_dirty(d) {
@@ -190,7 +209,9 @@ impl<N: Copy + Ord + Hash, V: Drop> Cells<N, V> {
 // The node of the first ticket.
 fn first_of<N: Copy + Ord>(work: &BTreeSet<(u8, N)>) -> Option<N>
     ensures none { IfNone result (work.now.keys ≡ []) }
-    ensures first { IfSome result (λ n. (l : ℕ) × (is_listed N.cmp work.now.keys (l, n) ≡ true) × ((q : ℕ × N) → is_listed N.cmp work.now.keys q ≡ true → l ≤ q.0)) }
+    ensures first { IfSome result
+        (λ n. (l : ℕ) × (is_listed N.cmp work.now.keys (l, n) ≡ true)
+        × ((q : ℕ × N) → is_listed N.cmp work.now.keys q ≡ true → l ≤ q.0)) }
 {
     match work.first() {
         Some(&(_, n)) => Some(n),

@@ -20,7 +20,9 @@ fn count_less<S: Ord>(sorted: &[S], standing: &S) -> usize
 /// and time for a sort.
 pub fn ranks<S: Ord + Copy>(alloc: Global, standings: &[S]) -> Result<Vec<u32>, Memory>
     requires few { length standings.now < 2 ^ 32 }
-    ensures { IfOk result (λ ranks. ranks.items ≡ map (rank_among (λ a b. is_lt (S.cmp a b)) standings.now) standings.now) }
+    ensures { IfOk result
+        (λ ranks. ranks.items
+        ≡ map (rank_among (λ a b. is_lt (S.cmp a b)) standings.now) standings.now) }
 {
     let mut sorted = Vec::from_slice(alloc, standings)?;
     sorted.sort()?;

@@ -13,7 +13,9 @@ use rule_book::{Appearance, Line};
 
 // The row that the fields of a record spell, where no figure is above its greatest value.
 pub(crate) fn row_of(record_read: &ByteRecord) -> Option<Appearance>
-    ensures row { MatchOption result ((row : Appearance) → Spells (fields_of record_read.now) row → line_range row.line ≡ None → ⊥) (λ row. Spells (fields_of record_read.now) row × (line_range row.line ≡ None)) }
+    ensures row { MatchOption result
+        ((row : Appearance) → Spells (fields_of record_read.now) row → line_range row.line ≡ None
+        → ⊥) (λ row. Spells (fields_of record_read.now) row × (line_range row.line ≡ None)) }
     ensures in_range { IfSome result (λ row. IsLine row.line) }
 {
     if record_read.len() != 30 {
@@ -44,7 +46,8 @@ fn field_of(record_read: &ByteRecord, place: usize) -> &[u8]
 }
 
 fn player_of(field: &[u8]) -> Option<PlayerId>
-    ensures { MatchOption result ((n : ℕ) → 1 ≤ n → n ≤ 999999 → field.now ≢ decimal n) (λ n. (1 ≤ n) × (n ≤ 999999) × (field.now ≡ decimal n)) }
+    ensures { MatchOption result ((n : ℕ) → 1 ≤ n → n ≤ 999999 → field.now ≢ decimal n)
+        (λ n. (1 ≤ n) × (n ≤ 999999) × (field.now ≡ decimal n)) }
 {
     let value = read_number(field, 999_999)?;
     match PlayerId::new(value as u32) {
@@ -56,7 +59,9 @@ fn player_of(field: &[u8]) -> Option<PlayerId>
 // The figures behind the first two of thirty fields.
 fn figures_of(record_read: &ByteRecord) -> Option<[u16; 28]>
     requires { length (fields_of record_read.now) ≡ 30 }
-    ensures { MatchOption result ((figures : List ℕ) → SpellsFigures (fields_of record_read.now) figures 28 → ⊥) (λ figures. (length figures ≡ 28) × SpellsFigures (fields_of record_read.now) figures 28) }
+    ensures { MatchOption result
+        ((figures : List ℕ) → SpellsFigures (fields_of record_read.now) figures 28 → ⊥)
+        (λ figures. (length figures ≡ 28) × SpellsFigures (fields_of record_read.now) figures 28) }
 {
     let mut figures = [0; 28];
     for k in 0..28usize {

@@ -54,7 +54,8 @@ fn all_records(alloc: Global, bytes: &[u8]) -> Result<Vec<ByteRecord>, Error>
 // The rows that the records spell.
 pub(crate) fn rows_of(alloc: Global, records: &[ByteRecord]) -> Result<Vec<Appearance>, RowFault>
     ensures rows { IfOk result (λ rows. AreRows (map fields_of records.now) rows.items) }
-    ensures in_range { IfOk result (λ rows. All (λ (row : Appearance). IsLine row.line) rows.items) }
+    ensures in_range { IfOk result
+        (λ rows. All (λ (row : Appearance). IsLine row.line) rows.items) }
     ensures fault { IfErr result (ExplainsRows (map fields_of records.now)) }
 {
     let mut rows = Vec::new(alloc);
@@ -71,7 +72,9 @@ pub(crate) fn rows_of(alloc: Global, records: &[ByteRecord]) -> Result<Vec<Appea
 
 // The row that a record spells, where it may follow these.
 fn next_row(rows: &[Appearance], read: &ByteRecord) -> Option<Appearance>
-    ensures row { MatchOption result ((row : Appearance) → Adds rows.now (fields_of read.now) row → ⊥) (λ row. Adds rows.now (fields_of read.now) row) }
+    ensures row { MatchOption result
+        ((row : Appearance) → Adds rows.now (fields_of read.now) row → ⊥)
+        (λ row. Adds rows.now (fields_of read.now) row) }
     ensures in_range { IfSome result (λ row. IsLine row.line) }
 {
     let row = row_of(read)?;

@@ -55,8 +55,10 @@ fn has_minutes(row: &Appearance) -> bool
 
 // The bonus of a row, which stands at this place if it took part; the standing is that of these rows.
 fn bonus_at(table: &[(PlayerId, i32)], row: &Appearance, place: usize) -> u8
-    requires { takes_part row.now.line ≡ true → slice_get table.now place ≡ Some (row.now.player, bps_of row.now.position row.now.line) }
-    ensures value { (rows : List Appearance) → table.now ≡ standing rows → result ≡ bonus_in rows row.now }
+    requires { takes_part row.now.line ≡ true
+        → slice_get table.now place ≡ Some (row.now.player, bps_of row.now.position row.now.line) }
+    ensures value { (rows : List Appearance) → table.now ≡ standing rows
+        → result ≡ bonus_in rows row.now }
     ensures bound { result ≤ 3 }
 {
     if has_minutes(row) {
@@ -85,7 +87,8 @@ fn numbers(
     won: u8,
     total: i32,
 ) -> Result<String, AllocError>
-    ensures { IfOk result (λ text. string_bytes text ≡ numbers_text player points number won total) }
+    ensures { IfOk result
+        (λ text. string_bytes text ≡ numbers_text player points number won total) }
 {
     format!(in alloc; "{player},{points},{number},{won},{total}\n")
 }

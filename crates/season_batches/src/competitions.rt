@@ -22,7 +22,9 @@ use std::alloc::Global;
 
 // Of a league.
 pub fn league_op(alloc: Global, leagues: &Leagues, league: u32) -> Result<Op, Memory>
-    ensures { IfOk result (Keeps (slot.League league) (option_map (league_item league) (entry_in leagues.now league))) }
+    ensures { IfOk result
+        (Keeps (slot.League league)
+        (option_map (league_item league) (entry_in leagues.now league))) }
 {
     match LeagueId::new(league) {
         Some(id) => match leagues.get(id) {
@@ -50,7 +52,9 @@ fn put_league(alloc: Global, league: LeagueId, there: &League) -> Result<Op, Mem
 
 // Of a member of a league.
 pub fn member_op(alloc: Global, leagues: &Leagues, league: u32, entry: u32) -> Result<Op, Memory>
-    ensures { IfOk result (Keeps (slot.Member league entry) (option_and_then (member_told league entry) (entry_in leagues.now league))) }
+    ensures { IfOk result
+        (Keeps (slot.Member league entry)
+        (option_and_then (member_told league entry) (entry_in leagues.now league))) }
 {
     match LeagueId::new(league) {
         Some(id) => match leagues.get(id) {
@@ -78,7 +82,8 @@ fn member_of(alloc: Global, league: LeagueId, there: &League, entry: u32) -> Res
 
 // Of a cup.
 pub fn cup_op(alloc: Global, cups: &Cups, cup: u32) -> Result<Op, Memory>
-    ensures { IfOk result (Keeps (slot.Cup cup) (option_map (cup_item cup) (entry_in cups.now cup))) }
+    ensures { IfOk result
+        (Keeps (slot.Cup cup) (option_map (cup_item cup) (entry_in cups.now cup))) }
 {
     match CupId::new(cup) {
         Some(id) => match cups.get(id) {
@@ -99,7 +104,8 @@ pub fn cup_op(alloc: Global, cups: &Cups, cup: u32) -> Result<Op, Memory>
 
 // Of a caller's last command.
 pub fn last_op(alloc: Global, lasts: &Lasts, caller: u32) -> Result<Op, Memory>
-    ensures { IfOk result (Keeps (slot.Last caller) (option_map (last_item caller) (at_id lasts.now caller))) }
+    ensures { IfOk result
+        (Keeps (slot.Last caller) (option_map (last_item caller) (at_id lasts.now caller))) }
 {
     match lasts.get(&caller_of(caller)) {
         Some(last) => put_last(alloc, caller, last.number(), &last.made(), last.command()),
@@ -116,7 +122,10 @@ fn put_last(
     command: &Command,
 ) -> Result<Op, Memory>
     requires { IsCommand command.now }
-    ensures { IfOk result (Keeps (slot.Last caller) (Some (last_item caller (record { number = number; command = command.now; made = made.now })))) }
+    ensures { IfOk result
+        (Keeps (slot.Last caller)
+        (Some (last_item caller
+        (record { number = number; command = command.now; made = made.now })))) }
 {
     let status = status_of(made);
     let made = made_id(made);

@@ -17,7 +17,9 @@ use std::alloc::Global;
 
 // Of an entry.
 pub fn entry_op(alloc: Global, managers: &ManagerBook, entry: u32) -> Result<Op, Memory>
-    ensures { IfOk result (Keeps (slot.Entry entry) (option_map (manager_item entry) (entry_in managers.now.managers entry))) }
+    ensures { IfOk result
+        (Keeps (slot.Entry entry)
+        (option_map (manager_item entry) (entry_in managers.now.managers entry))) }
 {
     match EntryId::new(entry) {
         Some(id) => match managers.manager(id) {
@@ -47,7 +49,9 @@ pub fn team_op(
     entry: u32,
     gameweek: u32,
 ) -> Result<Op, Memory>
-    ensures { IfOk result (Keeps (slot.Team entry gameweek) (option_and_then (team_by entry gameweek) (entry_in managers.now.managers entry))) }
+    ensures { IfOk result
+        (Keeps (slot.Team entry gameweek)
+        (option_and_then (team_by entry gameweek) (entry_in managers.now.managers entry))) }
 {
     match EntryId::new(entry) {
         Some(id) => match managers.manager(id) {
@@ -68,7 +72,8 @@ fn team_of(alloc: Global, entry: EntryId, manager: &Manager, gameweek: u32) -> R
 }
 
 fn put_team(alloc: Global, entry: EntryId, gameweek: Gw, team: &Team) -> Result<Op, Memory>
-    ensures { IfOk result (Keeps (slot.Team entry gameweek) (Some (team_item entry gameweek team.now))) }
+    ensures { IfOk result
+        (Keeps (slot.Team entry gameweek) (Some (team_item entry gameweek team.now))) }
 {
     let item = Item::Team {
         entry,
@@ -108,7 +113,10 @@ pub fn transfer_op(
     gameweek: u32,
     number: u32,
 ) -> Result<Op, Memory>
-    ensures { IfOk result (Keeps (slot.Transfer entry gameweek number) (option_and_then (transfer_by entry gameweek number) (entry_in managers.now.managers entry))) }
+    ensures { IfOk result
+        (Keeps (slot.Transfer entry gameweek number)
+        (option_and_then (transfer_by entry gameweek number)
+        (entry_in managers.now.managers entry))) }
 {
     match EntryId::new(entry) {
         Some(id) => match managers.manager(id) {
@@ -126,7 +134,9 @@ fn transfer_of(
     gameweek: u32,
     number: u32,
 ) -> Result<Op, Memory>
-    ensures { IfOk result (Keeps (slot.Transfer entry gameweek number) (transfer_by entry gameweek number manager.now)) }
+    ensures { IfOk result
+        (Keeps (slot.Transfer entry gameweek number)
+        (transfer_by entry gameweek number manager.now)) }
 {
     let slot = Slot::Transfer(entry.get(), gameweek, number);
     if number == 0 {
@@ -152,7 +162,8 @@ fn transfer_of(
 // The sale of a gameweek behind so many others of it.
 fn sale_at(sales: &[(Gw, Sale)], gameweek: u32, others: u32) -> Option<&(Gw, Sale)>
     ensures gameweek { IfSome result (λ made. made.now.0 ≡ gameweek) }
-    ensures sale { option_map (λ made. made.1) (option_copied result) ≡ slice_get (sales_in sales.now gameweek) others }
+    ensures sale { option_map (λ made. made.1) (option_copied result)
+        ≡ slice_get (sales_in sales.now gameweek) others }
 {
     let mut left = others;
     'sales: for made in sales {

@@ -94,7 +94,10 @@ pub fn player_op(alloc: Global, season: &Season, player: u32) -> Result<Op, Memo
 }
 
 fn put_player(alloc: Global, there: &Player, price: u16) -> Result<Op, Memory>
-    ensures { IfOk result (Keeps (slot.Player there.now.id) (Some (item.Player there.now.id there.now.position there.now.club price there.now.gone there.now.name))) }
+    ensures { IfOk result
+        (Keeps (slot.Player there.now.id)
+        (Some (item.Player there.now.id there.now.position there.now.club price there.now.gone
+        there.now.name))) }
 {
     keeps_player_ranges(there.id, there.club, price, &there.name);
     let (key, body) = encode_player(

@@ -42,7 +42,8 @@ pub fn three(alloc: Global, first: Slot, second: Slot, third: Slot) -> Result<Ve
 
 // Those of clubs, behind others.
 pub fn add_clubs(slots: &mut Vec<Slot>, clubs: &[(ClubId, Name)]) -> Result<(), Memory>
-    ensures { OnOk result (slots.new.items ≡ slots.old.items ++ map slot.Club (club_ids clubs.now)) }
+    ensures { OnOk result
+        (slots.new.items ≡ slots.old.items ++ map slot.Club (club_ids clubs.now)) }
 {
     'clubs: for club in clubs {
         slots.push(Slot::Club(u32::from(club.0.get())))?;
@@ -52,7 +53,8 @@ pub fn add_clubs(slots: &mut Vec<Slot>, clubs: &[(ClubId, Name)]) -> Result<(), 
 
 // Those of the lines of players in a fixture, behind others.
 pub fn add_players(slots: &mut Vec<Slot>, fixture: u32, players: &[PlayerId]) -> Result<(), Memory>
-    ensures { OnOk result (slots.new.items ≡ slots.old.items ++ map (slot.Line fixture) players.now) }
+    ensures { OnOk result
+        (slots.new.items ≡ slots.old.items ++ map (slot.Line fixture) players.now) }
 {
     'players: for player in players {
         slots.push(Slot::Line(fixture, player.get()))?;
@@ -66,7 +68,8 @@ pub fn add_lines(
     fixture: u32,
     lines: &[(PlayerId, Line)],
 ) -> Result<(), Memory>
-    ensures { OnOk result (slots.new.items ≡ slots.old.items ++ map (slot.Line fixture) (players_in lines.now)) }
+    ensures { OnOk result
+        (slots.new.items ≡ slots.old.items ++ map (slot.Line fixture) (players_in lines.now)) }
 {
     'lines: for line in lines {
         slots.push(Slot::Line(fixture, line.0.get()))?;
@@ -83,7 +86,9 @@ pub fn add_transfers(
     count: u32,
 ) -> Result<(), Memory>
     requires { first + count < 4294967296 }
-    ensures { OnOk result (slots.new.items ≡ slots.old.items ++ map (slot.Transfer entry gameweek) (range_with_len first count)) }
+    ensures { OnOk result
+        (slots.new.items
+        ≡ slots.old.items ++ map (slot.Transfer entry gameweek) (range_with_len first count)) }
 {
     'numbers: for number in first..first + count {
         slots.push(Slot::Transfer(entry, gameweek, number))?;

@@ -36,7 +36,9 @@ pub fn fact_slots(
     command: &Command,
 ) -> Result<Vec<Slot>, Memory>
     requires { part_of command.now ≡ part.Facts }
-    ensures { (book : Book) → book.facts ≡ Some season.now → IfOk result (λ slots. slots.items ≡ slot.Last caller ∷ records.touched_by book caller command.now) }
+    ensures { (book : Book) → book.facts ≡ Some season.now
+        → IfOk result
+        (λ slots. slots.items ≡ slot.Last caller ∷ records.touched_by book caller command.now) }
 {
     let last = Slot::Last(caller);
     match *command {
@@ -67,7 +69,8 @@ pub fn fact_slots(
 
 // Those of the command that begins a season.
 pub fn season_slots(alloc: Global, last: Slot, clubs: &Clubs) -> Result<Vec<Slot>, Memory>
-    ensures { IfOk result (λ slots. slots.items ≡ last ∷ slot.Season ∷ map slot.Club (club_ids clubs.now)) }
+    ensures { IfOk result
+        (λ slots. slots.items ≡ last ∷ slot.Season ∷ map slot.Club (club_ids clubs.now)) }
 {
     let mut slots = two(alloc, last, Slot::Season)?;
     add_clubs(&mut slots, clubs.as_slice())?;
@@ -82,7 +85,11 @@ fn sheet_slots(
     fixture: u32,
     lines: &Lines,
 ) -> Result<Vec<Slot>, Memory>
-    ensures { IfOk result (λ slots. slots.items ≡ last ∷ slot.Fixture fixture ∷ map (slot.Line fixture) (players_in (lines_of matches.now fixture) ++ players_in lines.now)) }
+    ensures { IfOk result
+        (λ slots. slots.items
+        ≡ last ∷ slot.Fixture fixture
+        ∷ map (slot.Line fixture)
+        (players_in (lines_of matches.now fixture) ++ players_in lines.now)) }
 {
     let mut slots = two(alloc, last, Slot::Fixture(fixture))?;
     add_players(&mut slots, fixture, players_before(matches, fixture))?;
@@ -110,8 +117,10 @@ pub fn deed_slots(
 ) -> Result<Vec<Slot>, Memory>
     requires read { IsCommand command.now }
     requires part { part_of command.now ≡ part.Deeds }
-    ensures { (book : Book) → book.facts ≡ Some season.now → AreEntries season.now.players managers.now.managers book.entries
-        → IfOk result (λ slots. slots.items ≡ slot.Last entry ∷ records.touched_by book entry command.now) }
+    ensures { (book : Book) → book.facts ≡ Some season.now
+        → AreEntries season.now.players managers.now.managers book.entries
+        → IfOk result
+        (λ slots. slots.items ≡ slot.Last entry ∷ records.touched_by book entry command.now) }
 {
     // That the ids of players differ, for the prover.
     let _count = season.players().len();
@@ -142,8 +151,14 @@ fn transfer_slots(
     swaps: &Swaps,
 ) -> Result<Vec<Slot>, Memory>
     requires { length swaps.now ≤ 15 }
-    ensures { (players : List Player) (entries : List EntryFacts) → ArePlayers players → AreEntries players managers.now.managers entries
-        → IfOk result (λ slots. slots.items ≡ slot.Last entry ∷ slot.Team entry gameweek ∷ map (slot.Transfer entry gameweek) (range_with_len (length (sold_in (history_of entries entry) gameweek) + 1) (length swaps.now))) }
+    ensures { (players : List Player) (entries : List EntryFacts) → ArePlayers players
+        → AreEntries players managers.now.managers entries
+        → IfOk result
+        (λ slots. slots.items
+        ≡ slot.Last entry ∷ slot.Team entry gameweek
+        ∷ map (slot.Transfer entry gameweek)
+        (range_with_len (length (sold_in (history_of entries entry) gameweek) + 1)
+        (length swaps.now))) }
 {
     let g = u32::from(gameweek.get());
     let made = transfers_made(managers, entry, gameweek);
@@ -161,7 +176,8 @@ fn transfer_slots(
 // How many transfers an entry made in a gameweek.
 fn transfers_made(managers: &ManagerBook, entry: u32, gameweek: Gw) -> u32
     ensures few { result ≤ 1000 }
-    ensures made { (players : List Player) (entries : List EntryFacts) → ArePlayers players → AreEntries players managers.now.managers entries
+    ensures made { (players : List Player) (entries : List EntryFacts) → ArePlayers players
+        → AreEntries players managers.now.managers entries
         → result ≡ length (sold_in (history_of entries entry) gameweek) }
 {
     // The law on which entries are there, for the prover.
@@ -183,7 +199,9 @@ pub fn league_slots(
     command: &Command,
 ) -> Result<Vec<Slot>, Memory>
     requires { part_of command.now ≡ part.Leagues }
-    ensures { (book : Book) → book.leagues ≡ leagues.now → IfOk result (λ slots. slots.items ≡ slot.Last caller ∷ records.touched_by book caller command.now) }
+    ensures { (book : Book) → book.leagues ≡ leagues.now
+        → IfOk result
+        (λ slots. slots.items ≡ slot.Last caller ∷ records.touched_by book caller command.now) }
 {
     let last = Slot::Last(caller);
     match *command {
@@ -210,7 +228,9 @@ pub fn entry_slots(
     command: &Command,
 ) -> Result<Vec<Slot>, Memory>
     requires { part_of command.now ≡ part.Entries }
-    ensures { (book : Book) → length book.entries ≡ length managers.now.managers → IfOk result (λ slots. slots.items ≡ slot.Last caller ∷ records.touched_by book caller command.now) }
+    ensures { (book : Book) → length book.entries ≡ length managers.now.managers
+        → IfOk result
+        (λ slots. slots.items ≡ slot.Last caller ∷ records.touched_by book caller command.now) }
 {
     let last = Slot::Last(caller);
     match command {
@@ -227,7 +247,9 @@ pub fn cup_slots(
     command: &Command,
 ) -> Result<Vec<Slot>, Memory>
     requires { part_of command.now ≡ part.Cups }
-    ensures { (book : Book) → book.cups ≡ cups.now → IfOk result (λ slots. slots.items ≡ slot.Last caller ∷ records.touched_by book caller command.now) }
+    ensures { (book : Book) → book.cups ≡ cups.now
+        → IfOk result
+        (λ slots. slots.items ≡ slot.Last caller ∷ records.touched_by book caller command.now) }
 {
     let last = Slot::Last(caller);
     match command {

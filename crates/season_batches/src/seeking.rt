@@ -22,7 +22,8 @@ pub fn sheet_at(matches: &MatchFacts, fixture: u32) -> Option<FixtureId>
 
 // The id of a number among these.
 fn fixture_among(ids: &[FixtureId], number: u32) -> Option<FixtureId>
-    ensures { MatchOption result (list_any (λ id. id == number) ids.now ≡ false) (λ id. id ≡ number) }
+    ensures { MatchOption result (list_any (λ id. id == number) ids.now ≡ false)
+        (λ id. id ≡ number) }
 {
     'ids: for id in ids {
         if id.get() == number {
@@ -34,7 +35,8 @@ fn fixture_among(ids: &[FixtureId], number: u32) -> Option<FixtureId>
 
 // The same of players.
 fn player_among(ids: &[PlayerId], number: u32) -> Option<PlayerId>
-    ensures { MatchOption result (list_any (λ id. id == number) ids.now ≡ false) (λ id. id ≡ number) }
+    ensures { MatchOption result (list_any (λ id. id == number) ids.now ≡ false)
+        (λ id. id ≡ number) }
 {
     'ids: for id in ids {
         if id.get() == number {
@@ -46,7 +48,8 @@ fn player_among(ids: &[PlayerId], number: u32) -> Option<PlayerId>
 
 // The same of entries.
 fn entry_among(ids: &[EntryId], number: u32) -> Option<EntryId>
-    ensures { MatchOption result (list_any (λ id. id == number) ids.now ≡ false) (λ id. (id ≡ number) × (list_any (λ id. id == number) ids.now ≡ true)) }
+    ensures { MatchOption result (list_any (λ id. id == number) ids.now ≡ false)
+        (λ id. (id ≡ number) × (list_any (λ id. id == number) ids.now ≡ true)) }
 {
     'ids: for id in ids {
         if id.get() == number {
@@ -76,7 +79,9 @@ pub struct Placed<'a> {
 
 // The line of a player in a fixture.
 pub fn line_at(matches: &MatchFacts, fixture: u32, player: u32) -> Option<Placed<'_>>
-    ensures { MatchOption result (line_of matches.now fixture player ≡ None) (λ placed. (placed.fixture ≡ fixture) × (placed.player ≡ player) × (line_of matches.now fixture player ≡ Some placed.line.now)) }
+    ensures { MatchOption result (line_of matches.now fixture player ≡ None)
+        (λ placed. (placed.fixture ≡ fixture) × (placed.player ≡ player)
+        × (line_of matches.now fixture player ≡ Some placed.line.now)) }
 {
     let fixture = sheet_at(matches, fixture)?;
     let player = lined_player(matches, fixture, player)?;
@@ -90,7 +95,8 @@ pub fn line_at(matches: &MatchFacts, fixture: u32, player: u32) -> Option<Placed
 
 // The member of a league of a number.
 pub fn member_at(league: &League, entry: u32) -> Option<EntryId>
-    ensures { MatchOption result (is_member league.now entry ≡ false) (λ id. (id ≡ entry) × (is_member league.now entry ≡ true)) }
+    ensures { MatchOption result (is_member league.now entry ≡ false)
+        (λ id. (id ≡ entry) × (is_member league.now entry ≡ true)) }
 {
     match EntryId::new(entry) {
         Some(id) => { if league.is_member(id) { Some(id) } else { None } }

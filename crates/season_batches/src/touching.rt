@@ -22,7 +22,8 @@ pub fn touched(
     command: &Command,
 ) -> Result<Vec<Slot>, Memory>
     requires { IsCommand command.now }
-    ensures { (book : Book) → Plays running.now book → IfOk result (λ slots. slots.items ≡ records.touched book caller.now command.now) }
+    ensures { (book : Book) → Plays running.now book
+        → IfOk result (λ slots. slots.items ≡ records.touched book caller.now command.now) }
 {
     let number = number_of(caller);
     match command.part() {
@@ -36,7 +37,8 @@ pub fn touched(
 
 /// The slots that the command may change that begins a season, where there is none yet. It takes memory.
 pub fn touched_first(alloc: Global, caller: &Caller, command: &Command) -> Result<Vec<Slot>, Memory>
-    ensures { (book : Book) → IsSome (begun_by command.now) → IfOk result (λ slots. slots.items ≡ records.touched book caller.now command.now) }
+    ensures { (book : Book) → IsSome (begun_by command.now)
+        → IfOk result (λ slots. slots.items ≡ records.touched book caller.now command.now) }
 {
     let last = Slot::Last(number_of(caller));
     match command {

@@ -159,7 +159,8 @@ pub(crate) fn chip_of(
 /// Whether a team or a transfer may stand in a gameweek, by the first gameweek of its entry: the entry is registered, and
 /// the gameweek is there, not before its first and not after the last that may have one.
 pub(crate) fn is_in_time(terms: &Terms, first: Option<Gw>, gameweek: Gw) -> bool
-    ensures { result ≡ option_map_or (λ first. is_between_ends terms.now first gameweek) first false }
+    ensures { result
+        ≡ option_map_or (λ first. is_between_ends terms.now first gameweek) first false }
 {
     match first {
         Some(first) => is_between_ends(terms, first, gameweek),

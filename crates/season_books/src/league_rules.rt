@@ -188,7 +188,9 @@ fn has_stranger(
     stored: &Stored,
     members: &[(RecordKey, Bytes)],
 ) -> Result<bool, Memory>
-    ensures { IfOk result (λ b. b ≡ list_any (λ e. not (is_registered (map_of stored.now) e)) (map (λ row. row.0.b) members.now)) }
+    ensures { IfOk result
+        (λ b. b ≡ list_any (λ e. not (is_registered (map_of stored.now) e))
+        (map (λ row. row.0.b) members.now)) }
 {
     for row in members {
         if !is_registered(alloc, stored, row.0.b)? {
@@ -223,7 +225,8 @@ fn is_draw(order: &[EntryId], members: &[(RecordKey, Bytes)]) -> bool
 
 // Whether each member has a place in the order.
 fn have_places(order: &[EntryId], members: &[(RecordKey, Bytes)]) -> bool
-    ensures { result ≡ list_all (λ row. list_any (λ place. row.0.b == place) order.now) members.now }
+    ensures { result
+        ≡ list_all (λ row. list_any (λ place. row.0.b == place) order.now) members.now }
 {
     members.iter().all(|row| has_place(order, row.0.b))
 }
@@ -242,7 +245,8 @@ fn has_latecomer(
     start: Gw,
     order: &[EntryId],
 ) -> Result<bool, Memory>
-    ensures { IfOk result (λ b. b ≡ list_any (λ e. not (plays_from (map_of stored.now) start e)) order.now) }
+    ensures { IfOk result
+        (λ b. b ≡ list_any (λ e. not (plays_from (map_of stored.now) start e)) order.now) }
 {
     for e in order {
         if !plays_from(alloc, stored, start, e.get())? {
@@ -360,14 +364,16 @@ pub(crate) fn cup_breaks(
 
 // Whether an entrant of a cup is not there.
 fn misses_entrant(stored: &Stored, slots: &[u32]) -> bool
-    ensures { result ≡ list_any (λ e. misses (map_of stored.now) (slot.Entry e)) (entrants slots.now) }
+    ensures { result
+        ≡ list_any (λ e. misses (map_of stored.now) (slot.Entry e)) (entrants slots.now) }
 {
     has_lost_slot(stored, slots)
 }
 
 // Whether a slot that is no bye has no entry.
 fn has_lost_slot(stored: &Stored, slots: &[u32]) -> bool
-    ensures { result ≡ list_any (λ e. not (e == 0) && misses (map_of stored.now) (slot.Entry e)) slots.now }
+    ensures { result
+        ≡ list_any (λ e. not (e == 0) && misses (map_of stored.now) (slot.Entry e)) slots.now }
 {
     slots
         .iter()
@@ -381,7 +387,9 @@ fn has_late_entrant(
     start: Gw,
     slots: &[u32],
 ) -> Result<bool, Memory>
-    ensures { IfOk result (λ b. b ≡ list_any (λ e. not (plays_from (map_of stored.now) start e)) (entrants slots.now)) }
+    ensures { IfOk result
+        (λ b. b ≡ list_any (λ e. not (plays_from (map_of stored.now) start e))
+        (entrants slots.now)) }
 {
     for e in slots {
         if *e != 0 && !plays_from(alloc, stored, start, *e)? {
@@ -393,7 +401,8 @@ fn has_late_entrant(
 
 // Whether a draw can be played in a season of so many gameweeks. A cup has at most ten rounds, so no more are counted.
 fn is_cup(start: Gw, slots: &[u32], coins: &[u8], gameweeks: usize) -> bool
-    ensures { result ≡ is_cup (record { start = start; slots = slots.now; coins = coins.now }) gameweeks }
+    ensures { result
+        ≡ is_cup (record { start = start; slots = slots.now; coins = coins.now }) gameweeks }
 {
     let most = start.get() as usize + 10;
     let gameweeks = if gameweeks < most { gameweeks } else { most };

@@ -135,7 +135,10 @@ pub(crate) fn fixture_breaks(
 fn kicks_off_early(stored: &Stored, terms: &Terms, fixture: &Fixture) -> bool
     requires terms { terms.now ≡ terms_told (map_of stored.now) }
     requires there { misses_place (map_of stored.now) fixture.now.gw ≡ false }
-    ensures { result ≡ is_some (kickoff_early (calendar_told (map_of stored.now)) fixture.now.id fixture.now.gw fixture.now.kickoff) }
+    ensures { result
+        ≡ is_some
+        (kickoff_early
+        (calendar_told (map_of stored.now)) fixture.now.id fixture.now.gw fixture.now.kickoff) }
 {
     match fixture.gw {
         Some(g) => {

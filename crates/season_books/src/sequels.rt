@@ -200,7 +200,9 @@ fn are_alike(
     others: &[(u32, u32); 15],
     players: &[(u32, u32); 15],
 ) -> bool
-    ensures { result ≡ are_alike (holdings_told picks.now) (holdings_told others.now) (holdings_told players.now) }
+    ensures { result
+        ≡ are_alike (holdings_told picks.now) (holdings_told others.now)
+        (holdings_told players.now) }
 {
     'players: for pick in players {
         if !is_alike(picks, others, pick.0) {
@@ -248,7 +250,8 @@ fn follows(
     gameweek: Gw,
     team: &RecordedTeam,
 ) -> Result<bool, Memory>
-    ensures { IfOk result (λ holds. holds ≡ follows_told (map_of stored.now) entry gameweek team.now) }
+    ensures { IfOk result
+        (λ holds. holds ≡ follows_told (map_of stored.now) entry gameweek team.now) }
 {
     match base_of(alloc, stored, entry, gameweek)? {
         Some(base) => {

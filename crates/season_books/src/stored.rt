@@ -39,8 +39,10 @@ impl<'a> Model for Stored<'a> {
 
 // Whether the record of this key stands at the place.
 fn stands_at(rows: &[(RecordKey, Bytes)], at: usize, key: RecordKey) -> bool
-    ensures there { IsTrue result → (at < length rows.now) × HoldsAt (λ row. row.0 ≡ key) rows.now at }
-    ensures away { result ≡ false → at < length rows.now → HoldsAt (λ row. is_same_key row.0 key ≡ false) rows.now at }
+    ensures there { IsTrue result
+        → (at < length rows.now) × HoldsAt (λ row. row.0 ≡ key) rows.now at }
+    ensures away { result ≡ false → at < length rows.now
+        → HoldsAt (λ row. is_same_key row.0 key ≡ false) rows.now at }
 {
     at < rows.len() && rows[at].0 == key
 }
@@ -65,8 +67,10 @@ fn place_in(rows: &[(RecordKey, Bytes)], key: RecordKey) -> usize
 fn is_between(rows: &[(RecordKey, Bytes)], first: usize, end: usize, key: RecordKey) -> bool
     ensures low { IsTrue result → first ≤ end }
     ensures high { IsTrue result → end ≤ length rows.now }
-    ensures before { IsTrue result → 0 < first → HoldsAt (λ row. precedes row.0 key ≡ true) rows.now (first - 1) }
-    ensures behind { IsTrue result → end < length rows.now → HoldsAt (λ row. precedes row.0 key ≡ false) rows.now end }
+    ensures before { IsTrue result → 0 < first
+        → HoldsAt (λ row. precedes row.0 key ≡ true) rows.now (first - 1) }
+    ensures behind { IsTrue result → end < length rows.now
+        → HoldsAt (λ row. precedes row.0 key ≡ false) rows.now end }
 {
     first <= end
         && end <= rows.len()

@@ -211,7 +211,8 @@ fn is_played_again(
     chip: Chip,
 ) -> Result<bool, Memory>
     requires { split ≡ split_told (map_of stored.now) }
-    ensures { IfOk result (λ again. again ≡ is_played_again (map_of stored.now) entry gameweek chip) }
+    ensures { IfOk result
+        (λ again. again ≡ is_played_again (map_of stored.now) entry gameweek chip) }
 {
     if is_same_chip(chip, Chip::None) {
         return Ok(false);
@@ -249,7 +250,8 @@ fn is_playable(
 ) -> Result<bool, Memory>
     requires split { split ≡ split_told (map_of stored.now) }
     requires first { first ≡ is_first_of (map_of stored.now) entry gameweek }
-    ensures { IfOk result (λ playable. playable ≡ is_playable (map_of stored.now) entry gameweek chip) }
+    ensures { IfOk result
+        (λ playable. playable ≡ is_playable (map_of stored.now) entry gameweek chip) }
 {
     if first && makes_free(chip) {
         return Ok(false);

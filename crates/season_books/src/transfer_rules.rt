@@ -85,7 +85,8 @@ fn is_next_number(
     gameweek: Gw,
     number: u32,
 ) -> Result<bool, Memory>
-    ensures { IfOk result (λ next. next ≡ is_next_number (map_of stored.now) entry gameweek number) }
+    ensures { IfOk result
+        (λ next. next ≡ is_next_number (map_of stored.now) entry gameweek number) }
 {
     if number < 2 {
         return Ok(number == 1);
@@ -100,7 +101,8 @@ fn has_sale(
     gameweek: Gw,
     number: u32,
 ) -> Result<bool, Memory>
-    ensures { IfOk result (λ has. has ≡ is_some (sale_told (map_of stored.now) entry gameweek number)) }
+    ensures { IfOk result
+        (λ has. has ≡ is_some (sale_told (map_of stored.now) entry gameweek number)) }
 {
     let sale = sale_of(alloc, stored, entry, gameweek, number)?;
     Ok(sale.is_some())

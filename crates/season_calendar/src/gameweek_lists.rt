@@ -97,7 +97,8 @@ impl GameweekLists {
     pub fn put_in(&mut self, to: Option<Gw>, f: FixtureId)
         requires in_season { IfSome to (λ g. g ≤ length self.old) }
         requires room { IfSome to (λ g. length (slice_index_or self.old (g - 1) []) < 20) }
-        requires rise { IfSome to (λ g. AllPairs (λ a b. a < b) (slice_index_or self.old (g - 1) [])) }
+        requires rise { IfSome to
+            (λ g. AllPairs (λ a b. a < b) (slice_index_or self.old (g - 1) [])) }
         ensures { self.new ≡ put_in self.old to f }
     {
         if let Some(g) = to {

@@ -112,7 +112,8 @@ fn day_number(year: u16, month: u8, day: u8) -> Option<u32>
     requires month { month < 100 }
     requires day { day < 100 }
     ensures there { IsSome result ↔ IsDay year month day }
-    ensures value { IfSome result (λ n. (days_from_civil (pos year) month day ≡ pos n) × (n ≤ 2932896)) }
+    ensures value { IfSome result
+        (λ n. (days_from_civil (pos year) month day ≡ pos n) × (n ≤ 2932896)) }
 {
     match Date::new(year as i16, month as i8, day as i8) {
         Ok(date) => Some(date.to_plain().to_unix_epoch_day() as u32),

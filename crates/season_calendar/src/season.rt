@@ -33,9 +33,21 @@ impl Model for Calendar {
 
     ghost Value = { CalendarFacts };
 
-    ghost view = { λ a. record { deadlines = a.deadlines.items; split = a.split; locked = a.locked; fixtures = a.fixtures.items } };
+    ghost view = { λ a.
+        record {
+          deadlines = a.deadlines.items;
+          split = a.split;
+          locked = a.locked;
+          fixtures = a.fixtures.items;
+        } };
 
-    ghost invariant = { λ a. IsKept (record { deadlines = a.deadlines.items; split = a.split; locked = a.locked; fixtures = a.fixtures.items }) a.standing };
+    ghost invariant = { λ a. IsKept
+        (record {
+          deadlines = a.deadlines.items;
+          split = a.split;
+          locked = a.locked;
+          fixtures = a.fixtures.items;
+        }) a.standing };
 }
 
 impl Calendar {
@@ -224,7 +236,8 @@ impl Calendar {
         ensures gap { IfOk result (IsGap self.now.fixtures fixture.now.id) }
         ensures from_1 { OnOk result (IfSome fixture.now.gw (λ g. 1 ≤ g)) }
         ensures not_full { OnOk result (length self.now.fixtures < 380) }
-        ensures can_stand { OnOk result (place_refusal self.now fixture.now.id fixture.now.gw fixture.now.kickoff ≡ None) }
+        ensures can_stand { OnOk result
+            (place_refusal self.now fixture.now.id fixture.now.gw fixture.now.kickoff ≡ None) }
     {
         let at = match place_of(&self.fixtures, fixture.id) {
             Ok(_) => {

@@ -84,7 +84,8 @@ impl KeptCells {
         cups: &Cups,
         steps: &mut Steps<L>,
     ) -> Result<Self, Memory>
-        ensures { IfOk result (λ kept. AreCellsOf (books_seen season.now managers.now leagues.now cups.now) kept) }
+        ensures { IfOk result
+            (λ kept. AreCellsOf (books_seen season.now managers.now leagues.now cups.now) kept) }
     {
         // The laws by which the facts are those of a season, for the prover.
         season.keeps_facts();
@@ -115,10 +116,17 @@ impl KeptCells {
     ) -> Result<(), Memory>
         ghost before: { SeasonFacts }
         requires cells { AreCellsOf before self.old }
-        requires leads { LeadsTo before (books_seen season.now managers.now leagues.now cups.now) plan.now }
-        ensures cells { OnOk result (AreCellsOf (books_seen season.now managers.now leagues.now cups.now) self.new) }
-        ensures corrected { OnOk result (IsCorrected before (books_seen season.now managers.now leagues.now cups.now) self.old.cells self.new.cells) }
-        ensures cost { OnOk result (IsCheap before (books_seen season.now managers.now leagues.now cups.now) steps.old steps.new) }
+        requires leads { LeadsTo before
+            (books_seen season.now managers.now leagues.now cups.now) plan.now }
+        ensures cells { OnOk result
+            (AreCellsOf (books_seen season.now managers.now leagues.now cups.now) self.new) }
+        ensures corrected { OnOk result
+            (IsCorrected before
+            (books_seen season.now managers.now leagues.now cups.now) self.old.cells
+            self.new.cells) }
+        ensures cost { OnOk result
+            (IsCheap before
+            (books_seen season.now managers.now leagues.now cups.now) steps.old steps.new) }
     {
         // The law that the index stays right where no gameweek is locked, for the prover.
         index_stays();
@@ -144,8 +152,10 @@ impl KeptCells {
         ghost before: { SeasonFacts }
         requires cells { AreCellsOf before self.old }
         requires season { IsSeason (books_seen season.now managers.now leagues.now cups.now) }
-        requires locks { DifferInLocks before (books_seen season.now managers.now leagues.now cups.now) first }
-        ensures cells { OnOk result (AreCellsOf (books_seen season.now managers.now leagues.now cups.now) self.new) }
+        requires locks { DifferInLocks before
+            (books_seen season.now managers.now leagues.now cups.now) first }
+        ensures cells { OnOk result
+            (AreCellsOf (books_seen season.now managers.now leagues.now cups.now) self.new) }
     {
         let books = books_of(season, managers, leagues, cups);
         gameweeks_locked(&mut self.index, &mut self.cells, &books, first)?;
@@ -161,8 +171,10 @@ impl KeptCells {
 // Marks what a change touches.
 fn mark(cells: &mut SeasonCells, rules: &SeasonRules, plan: &Plan) -> Result<(), Memory>
     ensures { OnOk result
-        ((before : SeasonFacts) → IsSeason before → IsSeason (facts_of rules.now.books) → IsIndex (facts_of rules.now.books) (holders_in rules.now.index.now)
-        → DifferAs before (facts_of rules.now.books) plan.now → AreRaised before (facts_of rules.now.books) (held cells.old) (held cells.new)) }
+        ((before : SeasonFacts) → IsSeason before → IsSeason (facts_of rules.now.books)
+        → IsIndex (facts_of rules.now.books) (holders_in rules.now.index.now)
+        → DifferAs before (facts_of rules.now.books) plan.now
+        → AreRaised before (facts_of rules.now.books) (held cells.old) (held cells.new)) }
 {
     let books = &rules.books;
     match plan {

@@ -172,7 +172,8 @@ fn lined<L: Ledger>(
     steps: &mut Steps<L>,
 ) -> Plan
     requires { has_fixture season.now number ≡ true }
-    ensures lined { IsLined number player (line_of season.now.matches number player) line.now result }
+    ensures lined { IsLined number player
+        (line_of season.now.matches number player) line.now result }
     ensures counted { steps.new ≡ steps.old + 1 }
 {
     match named(season, number) {

@@ -20,7 +20,8 @@ pub(crate) fn sheet_plan<L: Ledger>(
     steps: &mut Steps<L>,
 ) -> Result<Plan, Memory>
     ensures plan { IfOk result
-        (λ plan. IsSheet fixture (lines_of season.now.matches fixture) (is_finished season.now.matches fixture) lines.now finished plan) }
+        (λ plan. IsSheet fixture (lines_of season.now.matches fixture)
+        (is_finished season.now.matches fixture) lines.now finished plan) }
     ensures counted { steps.new ≤ steps.old + length (lines_of season.now.matches fixture) }
 {
     let players = others(alloc, season, fixture, lines, steps)?;

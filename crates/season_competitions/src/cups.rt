@@ -26,7 +26,9 @@ fn judge_there(
     slots: &[u32],
     coins: &[u8],
 ) -> Result<(), Rule>
-    ensures { IsJudged (cup_broken season.now (is_registered_by managers.now.managers) (length cups.now) (record { start = start; slots = slots.now; coins = coins.now })) result }
+    ensures { IsJudged
+        (cup_broken season.now (is_registered_by managers.now.managers) (length cups.now)
+        (record { start = start; slots = slots.now; coins = coins.now })) result }
 {
     if cups.count() >= 32 {
         return Err(Rule::CupsFull);
@@ -52,7 +54,9 @@ fn judge_draw(
     slots: &[u32],
     coins: &[u8],
 ) -> Result<(), Answer>
-    ensures { IsAnswered (cup_answer_by season.now managers.now.managers (length cups.now) (command.Cup start slots.now coins.now)) result }
+    ensures { IsAnswered
+        (cup_answer_by season.now managers.now.managers (length cups.now)
+        (command.Cup start slots.now coins.now)) result }
 {
     if start.get() > season.calendar().gameweeks() {
         return Err(Answer::Unknown);
@@ -74,7 +78,8 @@ fn judge_by_rows(
     command: &Command,
 ) -> Result<(), Answer>
     requires { part_of command.now ≡ part.Cups }
-    ensures { IsAnswered (cup_answer_by season.now managers.now.managers (length cups.now) command.now) result }
+    ensures { IsAnswered
+        (cup_answer_by season.now managers.now.managers (length cups.now) command.now) result }
 {
     match command {
         Command::Cup {
@@ -102,8 +107,10 @@ pub fn judge_cup(
     command: &Command,
 ) -> Result<(), Answer>
     requires { part_of command.now ≡ part.Cups }
-    ensures rows { IsAnswered (cup_answer_by season.now managers.now.managers (length cups.now) command.now) result }
-    ensures books { IsCupJudgedByBooks season.now managers.now.managers (length cups.now) command.now result }
+    ensures rows { IsAnswered
+        (cup_answer_by season.now managers.now.managers (length cups.now) command.now) result }
+    ensures books { IsCupJudgedByBooks season.now managers.now.managers
+        (length cups.now) command.now result }
     ensures granted { OnOk result (IsCupGranted season.now cups.now command.now) }
 {
     // The law on which the clause of books stands, and that players are lawful, for the prover.
@@ -138,7 +145,8 @@ fn add(
     coins: &Coins,
 ) -> Result<(), Memory>
     requires granted { IsCupGranted season.now cups.old (command.Cup start slots.now coins.now) }
-    ensures done { OnOk result (cups.new ≡ cups_after cups.old (command.Cup start slots.now coins.now)) }
+    ensures done { OnOk result
+        (cups.new ≡ cups_after cups.old (command.Cup start slots.now coins.now)) }
     ensures err { OnErr result (cups.new ≡ cups.old) }
 {
     // The law that a cup which breaks no rule has the shape of one, and what the type tells of the season, for the prover.

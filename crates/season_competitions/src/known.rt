@@ -48,14 +48,16 @@ fn is_bye_or_registered(managers: &ManagerBook, slot: u32) -> bool
 
 // Whether each slot of a cup is a bye, or its entry was issued.
 fn are_slots_issued(managers: &ManagerBook, slots: &[u32]) -> bool
-    ensures { result ≡ list_all (λ slot. (slot == 0) || is_issued_by managers.now.managers slot) slots.now }
+    ensures { result
+        ≡ list_all (λ slot. (slot == 0) || is_issued_by managers.now.managers slot) slots.now }
 {
     slots.iter().all(|slot| is_bye_or_issued(managers, *slot))
 }
 
 // Whether each slot of a cup is a bye, or its entry is registered.
 fn are_slots_registered(managers: &ManagerBook, slots: &[u32]) -> bool
-    ensures { result ≡ list_all (λ slot. (slot == 0) || is_registered_by managers.now.managers slot) slots.now }
+    ensures { result
+        ≡ list_all (λ slot. (slot == 0) || is_registered_by managers.now.managers slot) slots.now }
 {
     slots
         .iter()
@@ -78,8 +80,10 @@ pub fn are_entrants_registered(managers: &ManagerBook, slots: &[u32]) -> bool
 
 // The caller's entry, if it is registered.
 pub fn registered(managers: &ManagerBook, caller: &Caller) -> Option<EntryId>
-    ensures { MatchOption result (is_registered_by managers.now.managers (caller_number caller.now) ≡ false)
-        (λ e. (is_registered_by managers.now.managers (caller_number caller.now) ≡ true) × (e ≡ caller_number caller.now)) }
+    ensures { MatchOption result
+        (is_registered_by managers.now.managers (caller_number caller.now) ≡ false)
+        (λ e. (is_registered_by managers.now.managers (caller_number caller.now) ≡ true)
+        × (e ≡ caller_number caller.now)) }
 {
     match caller {
         Caller::Operator => None,

@@ -27,7 +27,8 @@ use season_facts::Season;
 
 // The answer of a rule.
 fn by_rule(judged: Result<(), Rule>) -> Result<(), Answer>
-    ensures { (broken : Option Rule) → IsJudged broken judged → IsAnswered (option_map answer.Rule broken) result }
+    ensures { (broken : Option Rule) → IsJudged broken judged
+        → IsAnswered (option_map answer.Rule broken) result }
 {
     match judged {
         Ok(()) => Ok(()),
@@ -53,7 +54,10 @@ fn judge_create(
     caller: &Caller,
     start: Gw,
 ) -> Result<(), Answer>
-    ensures { (kind : LeagueKind) (name code : List ℕ) → IsAnswered (league_answer_by season.now managers.now.managers leagues.now (caller_number caller.now) (command.League kind name code start)) result }
+    ensures { (kind : LeagueKind) (name code : List ℕ)
+        → IsAnswered
+        (league_answer_by season.now managers.now.managers leagues.now (caller_number caller.now)
+        (command.League kind name code start)) result }
 {
     if start.get() > season.calendar().gameweeks() {
         return Err(Answer::Unknown);
@@ -73,7 +77,9 @@ fn judge_join(
     number: u32,
     code: &Code,
 ) -> Result<(), Answer>
-    ensures { IsAnswered (league_answer_by season.now managers.now.managers leagues.now (caller_number caller.now) (command.Join number code.now)) result }
+    ensures { IsAnswered
+        (league_answer_by season.now managers.now.managers leagues.now (caller_number caller.now)
+        (command.Join number code.now)) result }
 {
     // What the type tells of the season, for the prover.
     let _season = season;
@@ -97,7 +103,10 @@ fn judge_draw(
     number: u32,
     order: &[EntryId],
 ) -> Result<(), Answer>
-    ensures { (e : ℕ) → IsAnswered (league_answer_by season.now managers.now.managers leagues.now e (command.Draw number order.now)) result }
+    ensures { (e : ℕ)
+        → IsAnswered
+        (league_answer_by season.now managers.now.managers leagues.now e
+        (command.Draw number order.now)) result }
 {
     let Some(league) = league_there(leagues, number) else {
         return Err(Answer::Unknown);
@@ -135,7 +144,9 @@ fn judge_by_rows(
     command: &Command,
 ) -> Result<(), Answer>
     requires { part_of command.now ≡ part.Leagues }
-    ensures { IsAnswered (league_answer_by season.now managers.now.managers leagues.now (caller_number caller.now) command.now) result }
+    ensures { IsAnswered
+        (league_answer_by season.now managers.now.managers leagues.now
+        (caller_number caller.now) command.now) result }
 {
     match command {
         Command::League { start, .. } => judge_create(season, managers, leagues, caller, *start),
@@ -160,9 +171,14 @@ pub fn judge_league(
     command: &Command,
 ) -> Result<(), Answer>
     requires { part_of command.now ≡ part.Leagues }
-    ensures rows { IsAnswered (league_answer_by season.now managers.now.managers leagues.now (caller_number caller.now) command.now) result }
-    ensures books { IsLeagueJudgedByBooks season.now managers.now.managers leagues.now (caller_number caller.now) command.now result }
-    ensures granted { OnOk result (IsLeagueGranted season.now managers.now.managers leagues.now (caller_number caller.now) command.now) }
+    ensures rows { IsAnswered
+        (league_answer_by season.now managers.now.managers leagues.now
+        (caller_number caller.now) command.now) result }
+    ensures books { IsLeagueJudgedByBooks season.now managers.now.managers leagues.now
+        (caller_number caller.now) command.now result }
+    ensures granted { OnOk result
+        (IsLeagueGranted season.now managers.now.managers leagues.now
+        (caller_number caller.now) command.now) }
 {
     // The law on which the clause of books stands, and that players are lawful and entries few, for the prover.
     entries_are_known();
@@ -182,8 +198,11 @@ fn do_create(
     code: &Code,
     start: Gw,
 ) -> Result<(), Memory>
-    requires granted { IsLeagueGranted season.now managers.now.managers leagues.old entry (command.League kind name.now code.now start) }
-    ensures done { OnOk result (leagues.new ≡ leagues_after leagues.old entry (command.League kind name.now code.now start)) }
+    requires granted { IsLeagueGranted season.now managers.now.managers leagues.old entry
+        (command.League kind name.now code.now start) }
+    ensures done { OnOk result
+        (leagues.new
+        ≡ leagues_after leagues.old entry (command.League kind name.now code.now start)) }
     ensures err { OnErr result (leagues.new ≡ leagues.old) }
 {
     // What the type tells of the managers, for the prover.
@@ -206,8 +225,10 @@ fn do_join(
     number: u32,
     code: &Code,
 ) -> Result<(), Memory>
-    requires granted { IsLeagueGranted season.now managers.now.managers leagues.old entry (command.Join number code.now) }
-    ensures done { OnOk result (leagues.new ≡ leagues_after leagues.old entry (command.Join number code.now)) }
+    requires granted { IsLeagueGranted season.now managers.now.managers leagues.old entry
+        (command.Join number code.now) }
+    ensures done { OnOk result
+        (leagues.new ≡ leagues_after leagues.old entry (command.Join number code.now)) }
     ensures err { OnErr result (leagues.new ≡ leagues.old) }
 {
     let (_season, _managers) = (season, managers);
@@ -229,8 +250,11 @@ fn do_draw(
     number: u32,
     order: &[EntryId],
 ) -> Result<(), Memory>
-    requires granted { (e : ℕ) × IsLeagueGranted season.now managers.now.managers leagues.old e (command.Draw number order.now) }
-    ensures done { (e : ℕ) → OnOk result (leagues.new ≡ leagues_after leagues.old e (command.Draw number order.now)) }
+    requires granted { (e : ℕ)
+        × IsLeagueGranted season.now managers.now.managers leagues.old e
+        (command.Draw number order.now) }
+    ensures done { (e : ℕ)
+        → OnOk result (leagues.new ≡ leagues_after leagues.old e (command.Draw number order.now)) }
     ensures err { OnErr result (leagues.new ≡ leagues.old) }
 {
     let (_season, _managers) = (season, managers);
@@ -255,8 +279,10 @@ pub fn do_league(
     command: &Command,
 ) -> Result<(), Memory>
     requires part { part_of command.now ≡ part.Leagues }
-    requires granted { IsLeagueGranted season.now managers.now.managers leagues.old (caller_number caller.now) command.now }
-    ensures done { OnOk result (leagues.new ≡ leagues_after leagues.old (caller_number caller.now) command.now) }
+    requires granted { IsLeagueGranted season.now managers.now.managers leagues.old
+        (caller_number caller.now) command.now }
+    ensures done { OnOk result
+        (leagues.new ≡ leagues_after leagues.old (caller_number caller.now) command.now) }
     ensures err { OnErr result (leagues.new ≡ leagues.old) }
 {
     match command {

@@ -24,8 +24,11 @@ fn do_squad(
     vice: PlayerId,
 ) -> Result<(), Memory>
     requires issued { e ≤ length managers.old.managers }
-    requires granted { IsDeedGranted season.now (season_of managers.old e) (command.Squad players.now captain vice) }
-    ensures done { OnOk result (IsDeedDone season.now e (command.Squad players.now captain vice) managers.old managers.new) }
+    requires granted { IsDeedGranted season.now (season_of managers.old e)
+        (command.Squad players.now captain vice) }
+    ensures done { OnOk result
+        (IsDeedDone season.now e
+        (command.Squad players.now captain vice) managers.old managers.new) }
     ensures err { OnErr result (managers.new ≡ managers.old) }
 {
     let next = season.calendar().next();
@@ -46,8 +49,10 @@ fn do_transfers(
     requires issued { e ≤ length managers.old.managers }
     requires read { IsCommand (command.Transfers swaps.now) }
     requires later { AreInTime (next_gameweek season.now.calendar) managers.old.managers }
-    requires granted { IsDeedGranted season.now (season_of managers.old e) (command.Transfers swaps.now) }
-    ensures done { OnOk result (IsDeedDone season.now e (command.Transfers swaps.now) managers.old managers.new) }
+    requires granted { IsDeedGranted season.now (season_of managers.old e)
+        (command.Transfers swaps.now) }
+    ensures done { OnOk result
+        (IsDeedDone season.now e (command.Transfers swaps.now) managers.old managers.new) }
     ensures err { OnErr result (managers.new ≡ managers.old) }
 {
     // The law by which the sales are those of the history, and that the ids of a season's players differ, for the prover.
@@ -72,8 +77,11 @@ fn do_lineup(
 ) -> Result<(), Memory>
     requires issued { e ≤ length managers.old.managers }
     requires later { AreInTime (next_gameweek season.now.calendar) managers.old.managers }
-    requires granted { IsDeedGranted season.now (season_of managers.old e) (command.Lineup players.now captain vice) }
-    ensures done { OnOk result (IsDeedDone season.now e (command.Lineup players.now captain vice) managers.old managers.new) }
+    requires granted { IsDeedGranted season.now (season_of managers.old e)
+        (command.Lineup players.now captain vice) }
+    ensures done { OnOk result
+        (IsDeedDone season.now e
+        (command.Lineup players.now captain vice) managers.old managers.new) }
     ensures err { OnErr result (managers.new ≡ managers.old) }
 {
     let next = season.calendar().next();
@@ -95,7 +103,8 @@ fn do_chip(
     requires read { IsCommand (command.Chip chip) }
     requires later { AreInTime (next_gameweek season.now.calendar) managers.old.managers }
     requires granted { IsDeedGranted season.now (season_of managers.old e) (command.Chip chip) }
-    ensures done { OnOk result (IsDeedDone season.now e (command.Chip chip) managers.old managers.new) }
+    ensures done { OnOk result
+        (IsDeedDone season.now e (command.Chip chip) managers.old managers.new) }
     ensures err { OnErr result (managers.new ≡ managers.old) }
 {
     let next = season.calendar().next();
@@ -172,8 +181,10 @@ pub fn do_deed(
     requires granted { IsDeedGranted season.now (season_of managers.old e) command.now }
     ensures later { AreInTime (next_gameweek season.now.calendar) managers.new.managers }
     ensures others { IsSameBut e managers.old managers.new }
-    ensures earlier { RowsStayBefore (next_gameweek season.now.calendar) e managers.old managers.new }
-    ensures books { OnOk result (StandForBooksAfter season.now e command.now managers.old.managers managers.new.managers) }
+    ensures earlier { RowsStayBefore
+        (next_gameweek season.now.calendar) e managers.old managers.new }
+    ensures books { OnOk result
+        (StandForBooksAfter season.now e command.now managers.old.managers managers.new.managers) }
     ensures err { OnErr result (managers.new ≡ managers.old) }
 {
     // An entry has a number from 1 on, for the prover.

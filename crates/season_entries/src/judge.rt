@@ -60,7 +60,9 @@ fn judge_by_rows(
     requires read { IsCommand command.now }
     requires deed { part_of command.now ≡ part.Deeds }
     requires later { AreInTime (next_gameweek season.now.calendar) managers.now.managers }
-    ensures { IsAnswered (deed_answer season.now (rows_refusal season.now (season_of managers.now e) command.now) command.now) result }
+    ensures { IsAnswered
+        (deed_answer season.now
+        (rows_refusal season.now (season_of managers.now e) command.now) command.now) result }
 {
     if !names_players(season, command) {
         return Err(Answer::Unknown);
@@ -84,7 +86,9 @@ pub fn judge_deed(
     requires read { IsCommand command.now }
     requires deed { part_of command.now ≡ part.Deeds }
     requires later { AreInTime (next_gameweek season.now.calendar) managers.now.managers }
-    ensures rows { IsAnswered (deed_answer season.now (rows_refusal season.now (season_of managers.now e) command.now) command.now) result }
+    ensures rows { IsAnswered
+        (deed_answer season.now
+        (rows_refusal season.now (season_of managers.now e) command.now) command.now) result }
     ensures books { IsJudgedByBooks season.now managers.now.managers e command.now result }
 {
     // The law on which the clause of books stands, and that the ids of a season's players differ, for the prover.

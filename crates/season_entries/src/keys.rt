@@ -37,9 +37,16 @@ pub fn judge_key(operator: &Key, managers: &ManagerBook, key: &Key) -> Result<()
 pub fn do_key(managers: &mut ManagerBook, key: &Key, name: &Name) -> Result<EntryId, Memory>
     requires free { issue_refusal managers.old key.now ≡ None }
     ensures made { IfOk result (λ e. e ≡ length managers.old.managers + 1) }
-    ensures rows { OnOk result (managers.new ≡ record managers.old { managers = managers.old.managers ++ new_manager key.now name.now ∷ [] }) }
-    ensures books { OnOk result (StandForBooksWith key.now name.now managers.old.managers managers.new.managers) }
-    ensures later { (next : Option ℕ) → AreInTime next managers.old.managers → AreInTime next managers.new.managers }
+    ensures rows { OnOk result
+        (managers.new
+        ≡ record managers.old {
+          managers = managers.old.managers ++ new_manager key.now name.now
+              ∷ [];
+        }) }
+    ensures books { OnOk result
+        (StandForBooksWith key.now name.now managers.old.managers managers.new.managers) }
+    ensures later { (next : Option ℕ) → AreInTime next managers.old.managers
+        → AreInTime next managers.new.managers }
     ensures err { OnErr result (managers.new ≡ managers.old) }
 {
     let key = key.copy()?;

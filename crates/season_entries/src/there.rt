@@ -25,7 +25,9 @@ fn has_players(season: &Season, players: &[PlayerId; 15], captain: PlayerId, vic
 
 // Whether each who goes is there, and each who comes.
 fn has_swaps(season: &Season, swaps: &[Swap]) -> bool
-    ensures { result ≡ list_all (λ swap. has_player season.now swap.out && has_player season.now swap.into) swaps.now }
+    ensures { result
+        ≡ list_all
+        (λ swap. has_player season.now swap.out && has_player season.now swap.into) swaps.now }
 {
     swaps.iter().all(|swap| season.has_player(swap.out) && season.has_player(swap.into))
 }

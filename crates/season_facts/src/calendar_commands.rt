@@ -21,7 +21,8 @@ impl Season {
     pub(crate) fn set_deadline(&mut self, now: Moment, gameweek: Gw, deadline: Moment)
         requires there { has_gameweek self.old gameweek ≡ true }
         requires unbroken { deadline_refusal self.old.calendar gameweek deadline now ≡ None }
-        ensures { self.new ≡ record self.old { calendar = with_deadline self.old.calendar gameweek deadline } }
+        ensures { self.new
+            ≡ record self.old { calendar = with_deadline self.old.calendar gameweek deadline } }
     {
         match self.calendar.set_deadline(gameweek, deadline, now) {
             Ok(()) => {}
@@ -32,7 +33,8 @@ impl Season {
     pub(crate) fn add_fixture(&mut self, fixture: Fixture) -> Result<(), Memory>
         requires there { has_place self.old fixture.gw ≡ true }
         requires unbroken { fixture_refusal self.old.calendar fixture ≡ None }
-        ensures ok { OnOk result (self.new ≡ record self.old { calendar = with_fixture self.old.calendar fixture }) }
+        ensures ok { OnOk result
+            (self.new ≡ record self.old { calendar = with_fixture self.old.calendar fixture }) }
         ensures err { OnErr result (self.new ≡ self.old) }
     {
         // For the prover, which learns by it that the id is one.
@@ -47,8 +49,10 @@ impl Season {
     pub(crate) fn move_fixture(&mut self, number: u32, gameweek: Option<Gw>, kickoff: Moment)
         requires there { has_fixture self.old number ≡ true }
         requires place { has_place self.old gameweek ≡ true }
-        requires unbroken { move_refusal self.old.calendar number gameweek kickoff (has_facts self.old.matches number) ≡ None }
-        ensures { self.new ≡ record self.old { calendar = with_move self.old.calendar number gameweek kickoff } }
+        requires unbroken { move_refusal self.old.calendar number gameweek kickoff
+            (has_facts self.old.matches number) ≡ None }
+        ensures { self.new
+            ≡ record self.old { calendar = with_move self.old.calendar number gameweek kickoff } }
     {
         let fixture = self.the_fixture(number);
         let has_facts = self.matches.has_facts(fixture);

@@ -99,7 +99,16 @@ fn new_player(
     club: ClubId,
     price: u16,
 ) -> Result<Player, Memory>
-    ensures { IfOk result (λ player. player ≡ record { id = id; name = name.now; position = position; club = club; price = price; gone = false }) }
+    ensures { IfOk result
+        (λ player. player
+        ≡ record {
+          id = id;
+          name = name.now;
+          position = position;
+          club = club;
+          price = price;
+          gone = false;
+        }) }
 {
     Ok(Player {
         id,

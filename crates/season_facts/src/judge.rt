@@ -106,7 +106,8 @@ impl Season {
         club: ClubId,
         price: u16,
     ) -> Result<(), Answer>
-        ensures { (name : List ℕ) (position : Position) → IsWeighed self.now now (command.Player id name position club price) result }
+        ensures { (name : List ℕ) (position : Position)
+            → IsWeighed self.now now (command.Player id name position club price) result }
     {
         if !self.has_club(club) {
             return Err(Answer::Unknown);
@@ -152,7 +153,9 @@ impl Season {
     }
 
     fn judge_fixture(&self, now: Moment, fixture: &Fixture) -> Result<(), Answer>
-        ensures { IsWeighed self.now now (command.Fixture fixture.now.id fixture.now.home fixture.now.away fixture.now.gw fixture.now.kickoff) result }
+        ensures { IsWeighed self.now now
+            (command.Fixture fixture.now.id fixture.now.home fixture.now.away fixture.now.gw
+            fixture.now.kickoff) result }
     {
         if !self.has_sides(fixture) {
             return Err(Answer::Unknown);

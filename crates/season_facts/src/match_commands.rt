@@ -21,7 +21,9 @@ impl Season {
         requires there { has_fixture self.old number ≡ true }
         requires players { list_all (λ row. has_player self.old row.0) lines.now ≡ true }
         requires unbroken { sheet_refusal number (is_in_locked self.old number) lines.now ≡ None }
-        ensures ok { OnOk result (self.new ≡ record self.old { matches = put_sheet self.old.matches number lines.now finished }) }
+        ensures ok { OnOk result
+            (self.new
+            ≡ record self.old { matches = put_sheet self.old.matches number lines.now finished }) }
         ensures err { OnErr result (self.new ≡ self.old) }
     {
         let fixture = self.the_fixture(number);
@@ -43,8 +45,11 @@ impl Season {
     ) -> Result<(), Memory>
         requires there { has_fixture self.old number ≡ true }
         requires player { has_player self.old player ≡ true }
-        requires unbroken { line_refusal self.old.matches number (is_in_locked self.old number) player line.now ≡ None }
-        ensures ok { OnOk result (self.new ≡ record self.old { matches = put_line self.old.matches number player line.now }) }
+        requires unbroken { line_refusal self.old.matches number
+            (is_in_locked self.old number) player line.now ≡ None }
+        ensures ok { OnOk result
+            (self.new
+            ≡ record self.old { matches = put_line self.old.matches number player line.now }) }
         ensures err { OnErr result (self.new ≡ self.old) }
     {
         let fixture = self.the_fixture(number);
@@ -60,7 +65,8 @@ impl Season {
 
     pub(crate) fn drop_line(&mut self, number: u32, player: PlayerId)
         requires there { has_fixture self.old number ≡ true }
-        ensures { self.new ≡ record self.old { matches = drop_line self.old.matches number player } }
+        ensures { self.new
+            ≡ record self.old { matches = drop_line self.old.matches number player } }
     {
         let fixture = self.the_fixture(number);
         // The law that no fixture and no player has two lines, for the prover.
@@ -71,7 +77,9 @@ impl Season {
     pub(crate) fn set_finished(&mut self, number: u32, finished: bool) -> Result<(), Memory>
         requires there { has_fixture self.old number ≡ true }
         requires unbroken { not_locked number (is_in_locked self.old number) ≡ None }
-        ensures ok { OnOk result (self.new ≡ record self.old { matches = set_finished self.old.matches number finished }) }
+        ensures ok { OnOk result
+            (self.new
+            ≡ record self.old { matches = set_finished self.old.matches number finished }) }
         ensures err { OnErr result (self.new ≡ self.old) }
     {
         let fixture = self.the_fixture(number);

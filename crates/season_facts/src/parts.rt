@@ -19,8 +19,22 @@ impl Season {
         players: Players,
         matches: MatchFacts,
     ) -> Season
-        requires { AreFacts (record { profile = profile; calendar = calendar; clubs = clubs; players = players; matches = matches }) }
-        ensures { result ≡ record { profile = profile; calendar = calendar; clubs = clubs; players = players; matches = matches } }
+        requires { AreFacts
+            (record {
+              profile = profile;
+              calendar = calendar;
+              clubs = clubs;
+              players = players;
+              matches = matches;
+            }) }
+        ensures { result
+            ≡ record {
+              profile = profile;
+              calendar = calendar;
+              clubs = clubs;
+              players = players;
+              matches = matches;
+            } }
     {
         Season {
             profile,

@@ -9,7 +9,8 @@ use rule_book::Player;
 impl Season {
     pub(crate) fn add_player(&mut self, player: Player) -> Result<(), Memory>
         requires unbroken { player_refusal self.old.players player ≡ None }
-        ensures ok { OnOk result (self.new ≡ record self.old { players = with_player self.old.players player }) }
+        ensures ok { OnOk result
+            (self.new ≡ record self.old { players = with_player self.old.players player }) }
         ensures err { OnErr result (self.new ≡ self.old) }
     {
         // For the prover, which learns by it that the id is one.
@@ -23,7 +24,8 @@ impl Season {
 
     pub(crate) fn set_price(&mut self, player: PlayerId, price: u16)
         requires unbroken { price_refusal price ≡ None }
-        ensures { self.new ≡ record self.old { players = with_price self.old.players player price } }
+        ensures { self.new
+            ≡ record self.old { players = with_price self.old.players player price } }
     {
         let tenths = Tenths::new(u32::from(price)).unwrap();
         match self.players.set_price(player, tenths) {

@@ -22,7 +22,21 @@ impl Model for Season {
 
     ghost Value = { Facts };
 
-    ghost view = { λ s. record { profile = s.profile; calendar = s.calendar; clubs = s.clubs; players = s.players; matches = s.matches } };
+    ghost view = { λ s.
+        record {
+          profile = s.profile;
+          calendar = s.calendar;
+          clubs = s.clubs;
+          players = s.players;
+          matches = s.matches;
+        } };
 
-    ghost invariant = { λ s. AreFacts (record { profile = s.profile; calendar = s.calendar; clubs = s.clubs; players = s.players; matches = s.matches }) };
+    ghost invariant = { λ s. AreFacts
+        (record {
+          profile = s.profile;
+          calendar = s.calendar;
+          clubs = s.clubs;
+          players = s.players;
+          matches = s.matches;
+        }) };
 }

@@ -30,7 +30,8 @@ impl Season {
 
     // The fixture of this number, if it is there.
     pub(crate) fn fixture_there(&self, number: u32) -> Option<FixtureId>
-        ensures { MatchOption result (has_fixture self.now number ≡ false) (λ fixture. (fixture ≡ number) × (has_fixture self.now number ≡ true)) }
+        ensures { MatchOption result (has_fixture self.now number ≡ false)
+            (λ fixture. (fixture ≡ number) × (has_fixture self.now number ≡ true)) }
     {
         let calendar = &self.calendar;
         match FixtureId::new(number) {
@@ -69,7 +70,9 @@ impl Season {
 
     // Whether a fixture's clubs and its gameweek are there.
     pub(crate) fn has_sides(&self, fixture: &Fixture) -> bool
-        ensures { result ≡ (has_club self.now fixture.now.home && (has_club self.now fixture.now.away && has_place self.now fixture.now.gw)) }
+        ensures { result
+            ≡ (has_club self.now fixture.now.home
+            && (has_club self.now fixture.now.away && has_place self.now fixture.now.gw)) }
     {
         self.has_club(fixture.home) && self.has_club(fixture.away) && self.has_place(&fixture.gw)
     }

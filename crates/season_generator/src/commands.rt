@@ -172,7 +172,8 @@ fn sheet_of(alloc: Global, draws: &mut Draws, f: u32) -> Result<Command, Memory>
     requires from_1 { 1 ≤ f }
     requires to_10 { f ≤ 10 }
     requires draws { draws.old.1 + 256 < 2 ^ 32 }
-    ensures command { IfOk result (λ sheet. sheet ≡ command.Sheet f (lines_at draws.old.0 draws.old.1 f 32) true) }
+    ensures command { IfOk result
+        (λ sheet. sheet ≡ command.Sheet f (lines_at draws.old.0 draws.old.1 f 32) true) }
     ensures seed { draws.new.0 ≡ draws.old.0 }
 {
     Ok(Command::Sheet {

@@ -20,7 +20,8 @@ pub(crate) fn index_gameweeks(index: &mut Index, books: &Books, first: u8) -> Re
 // Puts into the index whom the entry of a number from 0 holds in the locked gameweeks behind the first ones.
 fn index_issued(index: &mut Index, books: &Books, number: u32, first: u8) -> Result<(), Memory>
     requires { number < 2048 }
-    ensures { OnOk result (EntryIndexed (facts_of books.now) (number + 1) first index.old index.new) }
+    ensures { OnOk result
+        (EntryIndexed (facts_of books.now) (number + 1) first index.old index.new) }
 {
     let Some(entry) = EntryId::new(number + 1) else {
         unreachable!()
@@ -48,7 +49,8 @@ fn index_numbered(
 ) -> Result<(), Memory>
     requires few { number < 38 }
     requires locked { number < books.now.calendar.now.locked }
-    ensures { OnOk result (TeamIndexed (facts_of books.now) entry (number + 1) index.old index.new) }
+    ensures { OnOk result
+        (TeamIndexed (facts_of books.now) entry (number + 1) index.old index.new) }
 {
     let Some(gameweek) = Gw::new(number + 1) else {
         unreachable!()

@@ -22,9 +22,11 @@ pub fn line_held<L: Ledger>(
     player: PlayerId,
     steps: &mut Steps<L>,
 ) -> LineWorth
-    ensures value { (b : SeasonFacts) → AreEvaluated b cells.now → is_live b (Node.Line fixture player) ≡ true
+    ensures value { (b : SeasonFacts) → AreEvaluated b cells.now
+        → is_live b (Node.Line fixture player) ≡ true
         → result ≡ line_worth b fixture player }
-    ensures none { (b : SeasonFacts) → AreEvaluated b cells.now → is_live b (Node.Line fixture player) ≡ false
+    ensures none { (b : SeasonFacts) → AreEvaluated b cells.now
+        → is_live b (Node.Line fixture player) ≡ false
         → result ≡ no_worth }
     ensures cost { steps.new ≡ steps.old + 1 }
 {
@@ -37,9 +39,11 @@ pub fn bonuses_held<'a, L: Ledger>(
     fixture: FixtureId,
     steps: &mut Steps<L>,
 ) -> &'a [(PlayerId, u8)]
-    ensures value { (b : SeasonFacts) → AreEvaluated b cells.now → is_live b (Node.Bonus fixture) ≡ true
+    ensures value { (b : SeasonFacts) → AreEvaluated b cells.now
+        → is_live b (Node.Bonus fixture) ≡ true
         → result.now ≡ bonuses_told b fixture }
-    ensures none { (b : SeasonFacts) → AreEvaluated b cells.now → is_live b (Node.Bonus fixture) ≡ false
+    ensures none { (b : SeasonFacts) → AreEvaluated b cells.now
+        → is_live b (Node.Bonus fixture) ≡ false
         → result.now ≡ [] }
     ensures cost { steps.new ≡ steps.old + 1 }
 {
@@ -56,9 +60,11 @@ pub fn gameweek_held<L: Ledger>(
     gameweek: Gw,
     steps: &mut Steps<L>,
 ) -> Figures
-    ensures value { (b : SeasonFacts) → AreEvaluated b cells.now → is_live b (Node.PlayerGw player gameweek) ≡ true
+    ensures value { (b : SeasonFacts) → AreEvaluated b cells.now
+        → is_live b (Node.PlayerGw player gameweek) ≡ true
         → result ≡ gameweek_figures b player gameweek }
-    ensures none { (b : SeasonFacts) → AreEvaluated b cells.now → is_live b (Node.PlayerGw player gameweek) ≡ false
+    ensures none { (b : SeasonFacts) → AreEvaluated b cells.now
+        → is_live b (Node.PlayerGw player gameweek) ≡ false
         → result ≡ no_figures }
     ensures modest { IsModest result }
     ensures cost { steps.new ≡ steps.old + 1 }
@@ -74,7 +80,8 @@ pub fn score_held<L: Ledger>(
     steps: &mut Steps<L>,
 ) -> Option<TeamScore>
     ensures value { (b : SeasonFacts) → AreEvaluated b cells.now
-        → result ≡ (if is_live b (Node.TeamGw entry gameweek) then Some (gameweek_score b entry gameweek) else None) }
+        → result ≡ (if is_live b (Node.TeamGw entry gameweek)
+        then Some (gameweek_score b entry gameweek) else None) }
     ensures near { IfSome result (λ score. IsWithin 18000000 score.net) }
     ensures cost { steps.new ≡ steps.old + 1 }
 {
@@ -93,7 +100,8 @@ pub fn total_held<L: Ledger>(
     steps: &mut Steps<L>,
 ) -> i32
     ensures value { (b : SeasonFacts) → AreEvaluated b cells.now
-        → result ≡ (if is_live b (Node.Total entry start) then total_since b entry start else pos 0) }
+        → result ≡ (if is_live b (Node.Total entry start) then total_since b entry start
+        else pos 0) }
     ensures cost { steps.new ≡ steps.old + 1 }
 {
     match cells.get(Node::Total(entry, start), steps) {
@@ -131,7 +139,8 @@ pub fn tie_held<L: Ledger>(
     steps: &mut Steps<L>,
 ) -> u32
     ensures value { (b : SeasonFacts) → AreEvaluated b cells.now
-        → result ≡ (if is_live b (Node.Tie cup round place) then tie_told b cup round place else 0) }
+        → result ≡ (if is_live b (Node.Tie cup round place) then tie_told b cup round place
+        else 0) }
     ensures cost { steps.new ≡ steps.old + 1 }
 {
     winner_in(cells.get(Node::Tie(cup, round, place), steps))

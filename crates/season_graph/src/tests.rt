@@ -131,14 +131,29 @@ fn put_line<'a, L: Ledger>(
     line: &Line,
     steps: &mut Steps<L>,
 ) -> Result<usize, Fail>
-    requires season { IsSeason (facts_with profile.A calendar.now players.now matches.old managers.now leagues.now cups.now) }
-    requires index { IsIndex (facts_with profile.A calendar.now players.now matches.old managers.now leagues.now cups.now) (holders_in index.now) }
-    requires sound { AreSound (facts_with profile.A calendar.now players.now matches.old managers.now leagues.now cups.now) cells.old }
+    requires season { IsSeason
+        (facts_with profile.A calendar.now players.now matches.old managers.now leagues.now
+        cups.now) }
+    requires index { IsIndex
+        (facts_with profile.A calendar.now players.now matches.old managers.now leagues.now
+        cups.now) (holders_in index.now) }
+    requires sound { AreSound
+        (facts_with profile.A calendar.now players.now matches.old managers.now leagues.now
+        cups.now) cells.old }
     requires ranges { IsLine line.now }
     requires there { is_some (player_of players.now player) ≡ true }
-    ensures season { OnOk result (IsSeason (facts_with profile.A calendar.now players.now matches.new managers.now leagues.now cups.now)) }
-    ensures index { OnOk result (IsIndex (facts_with profile.A calendar.now players.now matches.new managers.now leagues.now cups.now) (holders_in index.now)) }
-    ensures sound { OnOk result (AreSound (facts_with profile.A calendar.now players.now matches.new managers.now leagues.now cups.now) cells.new) }
+    ensures season { OnOk result
+        (IsSeason
+        (facts_with profile.A calendar.now players.now matches.new managers.now leagues.now
+        cups.now)) }
+    ensures index { OnOk result
+        (IsIndex
+        (facts_with profile.A calendar.now players.now matches.new managers.now leagues.now
+        cups.now) (holders_in index.now)) }
+    ensures sound { OnOk result
+        (AreSound
+        (facts_with profile.A calendar.now players.now matches.new managers.now leagues.now
+        cups.now) cells.new) }
 {
     let fixture = fixture()?;
     taken(matches.put_line(fixture, true, player, line))?;
@@ -174,9 +189,15 @@ fn put_goal<'a, L: Ledger>(
     cells: &mut SeasonCells,
     steps: &mut Steps<L>,
 ) -> Result<usize, Fail>
-    requires season { IsSeason (facts_with profile.A calendar.now players.now matches.old managers.now leagues.now cups.now) }
-    requires index { IsIndex (facts_with profile.A calendar.now players.now matches.old managers.now leagues.now cups.now) (holders_in index.now) }
-    requires sound { AreSound (facts_with profile.A calendar.now players.now matches.old managers.now leagues.now cups.now) cells.old }
+    requires season { IsSeason
+        (facts_with profile.A calendar.now players.now matches.old managers.now leagues.now
+        cups.now) }
+    requires index { IsIndex
+        (facts_with profile.A calendar.now players.now matches.old managers.now leagues.now
+        cups.now) (holders_in index.now) }
+    requires sound { AreSound
+        (facts_with profile.A calendar.now players.now matches.old managers.now leagues.now
+        cups.now) cells.old }
 {
     let player = there(players, 1)?;
     let line = ranged(line(1, 0, 0))?;
@@ -211,9 +232,18 @@ fn begin<'a, L: Ledger>(
     requires matches { matches.now ≡ [] }
     requires leagues { leagues.now ≡ [] }
     requires cups { cups.now ≡ [] }
-    ensures season { OnOk result (IsSeason (facts_with profile.A calendar.now players.now matches.now managers.now leagues.now cups.now)) }
-    ensures sound { IfOk result (λ made. AreSound (facts_with profile.A calendar.now players.now matches.now managers.now leagues.now cups.now) made.0) }
-    ensures index { IfOk result (λ made. IsIndex (facts_with profile.A calendar.now players.now matches.now managers.now leagues.now cups.now) (holders_in made.1)) }
+    ensures season { OnOk result
+        (IsSeason
+        (facts_with profile.A calendar.now players.now matches.now managers.now leagues.now
+        cups.now)) }
+    ensures sound { IfOk result
+        (λ made. AreSound
+        (facts_with profile.A calendar.now players.now matches.now managers.now leagues.now
+        cups.now) made.0) }
+    ensures index { IfOk result
+        (λ made. IsIndex
+        (facts_with profile.A calendar.now players.now matches.now managers.now leagues.now
+        cups.now) (holders_in made.1)) }
 {
     // The law that this is a season, and what the type tells of the calendar, for the prover.
     let _locked = calendar.locked();

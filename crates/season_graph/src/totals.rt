@@ -115,7 +115,8 @@ fn refresh_members(
     start: Gw,
 ) -> Result<(), Memory>
     ensures { OnOk result
-        (OthersRefreshed books.now (map (λ e. Node.Total e start) members.now) cells.old cells.new) }
+        (OthersRefreshed books.now
+        (map (λ e. Node.Total e start) members.now) cells.old cells.new) }
 {
     for member in members {
         refresh_if_other(cells, books, &Node::Total(*member, start))?;

@@ -50,8 +50,11 @@ pub fn accept<L: Ledger>(
     steps: &mut Steps<L>,
 ) -> Result<Done, Answer>
     requires { IsCommand command.now }
-    ensures taken { IsTaken operator.now caller.now now number command.now running.old running.new lasts.old lasts.new (made_in result) }
-    ensures touched { IfOk result (λ done. (book : Book) → Plays running.old book → done.slots.items ≡ touched book caller.now command.now) }
+    ensures taken { IsTaken operator.now caller.now now number command.now running.old running.new
+        lasts.old lasts.new (made_in result) }
+    ensures touched { IfOk result
+        (λ done. (book : Book) → Plays running.old book
+        → done.slots.items ≡ touched book caller.now command.now) }
     ensures change { IfOk result (λ done. IsChangeOf running.old running.new done.change) }
     ensures storeless { IfErr result IsStoreless }
     ensures counted { steps.new ≤ steps.old + lines_named running.old.facts command.now + 1 }
@@ -88,7 +91,8 @@ fn change_as<L: Ledger>(
 ) -> Result<(Made, Plan), Memory>
     requires read { IsCommand command.now }
     requires granted { IsGrantedTo running.old caller.now now command.now }
-    ensures taken { IsTakenOrOut caller.now now number command.now running.old running.new lasts.old lasts.new (made_of result) }
+    ensures taken { IsTakenOrOut caller.now now number command.now running.old running.new lasts.old
+        lasts.new (made_of result) }
     ensures leads { IfOk result (λ done. LeadsFrom running.old running.new done.1) }
     ensures counted { steps.new ≤ steps.old + lines_named running.old.facts command.now }
 {
@@ -110,7 +114,8 @@ fn change_by(
     requires read { IsCommand command.now }
     requires granted { IsGrantedTo running.old caller.now now command.now }
     requires plan { IsPlanOf running.old.facts running.old.leagues command.now plan.now }
-    ensures taken { IsTakenOrOut caller.now now number command.now running.old running.new lasts.old lasts.new result }
+    ensures taken { IsTakenOrOut caller.now now number command.now running.old running.new lasts.old
+        lasts.new result }
     ensures leads { OnOk result (LeadsFrom running.old running.new plan.now) }
 {
     // The laws by which a season stands behind it, for the prover: of before, and of what is left.
@@ -131,8 +136,10 @@ pub fn begin(
     command: &Command,
 ) -> Result<Begun, Answer>
     requires { IsCommand command.now }
-    ensures begun { (now : ℕ) → IsBegunAndKept caller.now now number command.now lasts.old lasts.new result }
-    ensures touched { IfOk result (λ begun. (book : Book) → begun.slots.items ≡ touched book caller.now command.now) }
+    ensures begun { (now : ℕ)
+        → IsBegunAndKept caller.now now number command.now lasts.old lasts.new result }
+    ensures touched { IfOk result
+        (λ begun. (book : Book) → begun.slots.items ≡ touched book caller.now command.now) }
     ensures storeless { IfErr result IsStoreless }
 {
     match begun(alloc, command) {

@@ -91,15 +91,24 @@ pub fn answer_command<L: Ledger>(
     requires numbered { 1 ≤ number }
     requires command { IsCommand command.now }
     requires cells { AreCellsOfHost before cells.old }
-    ensures answered { Follows house.old house.new (λ book after. MayEndIn house.old.operator book caller.now now number command.now result.answer result.slots.items after) }
-    ensures late { (book : Book) → StandsIn house.old book → IsOutLate house.old.operator book caller.now now (request_of.Command number command.now) result.answer }
+    ensures answered { Follows house.old house.new
+        (λ book after.
+        MayEndIn house.old.operator book caller.now now number command.now result.answer
+        result.slots.items after) }
+    ensures late { (book : Book) → StandsIn house.old book
+        → IsOutLate house.old.operator book caller.now now
+        (request_of.Command number command.now) result.answer }
     ensures operator { house.new.operator ≡ house.old.operator }
     ensures storeless { IsStoreless result.answer }
-    ensures granted { (book : Book) → StandsIn house.old book → result.slots.items ≡ [] → result.followed ≡ true }
+    ensures granted { (book : Book) → StandsIn house.old book → result.slots.items ≡ []
+        → result.followed ≡ true }
     ensures cells { result.followed ≡ true → AreCellsOfHost house.new cells.new }
-    ensures corrected { result.followed ≡ true → AreCorrected house.old house.new cells.old cells.new }
-    ensures cheap { result.followed ≡ true → IsCheapCommand house.old house.new command.now steps.old steps.new }
-    ensures refused { (book : Book) → StandsIn house.old book → result.slots.items ≡ [] → result.answer ≢ answer_of.Memory → steps.new ≤ steps.old + 8 }
+    ensures corrected { result.followed ≡ true
+        → AreCorrected house.old house.new cells.old cells.new }
+    ensures cheap { result.followed ≡ true
+        → IsCheapCommand house.old house.new command.now steps.old steps.new }
+    ensures refused { (book : Book) → StandsIn house.old book → result.slots.items ≡ []
+        → result.answer ≢ answer_of.Memory → steps.new ≤ steps.old + 8 }
 {
     let answered = house.answer_command(caller, now, number, command, steps);
     let followed = follow(alloc, cells, house, &answered.change, steps);
@@ -124,7 +133,8 @@ fn follow<L: Ledger>(
     ensures nothing { change.now ≡ change_of.Nothing → IsOk result }
     ensures cells { OnOk result (AreCellsOfHost house.now cells.new) }
     ensures corrected { OnOk result (AreCorrected before house.now cells.old cells.new) }
-    ensures cheap { OnOk result (IsCheapNow (running_in before) (running_in house.now) steps.old steps.new) }
+    ensures cheap { OnOk result
+        (IsCheapNow (running_in before) (running_in house.now) steps.old steps.new) }
     ensures still { change.now ≡ change_of.Nothing → steps.new ≡ steps.old }
 {
     match change {
@@ -170,7 +180,8 @@ fn follow_in<L: Ledger>(
     requires cells { AreCellsOf before cells.old }
     requires leads { LeadsTo before (running_seen running.now) plan.now }
     ensures cells { OnOk result (AreCellsOf (running_seen running.now) cells.new) }
-    ensures corrected { OnOk result (IsCorrected before (running_seen running.now) cells.old.cells cells.new.cells) }
+    ensures corrected { OnOk result
+        (IsCorrected before (running_seen running.now) cells.old.cells cells.new.cells) }
     ensures cheap { OnOk result (IsCheap before (running_seen running.now) steps.old steps.new) }
 {
     cells.follow(

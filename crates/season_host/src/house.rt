@@ -63,7 +63,8 @@ pub struct Answered {
 
 // An answer that changes nothing.
 fn unchanged(alloc: Global, answer: Answer) -> Answered
-    ensures { (result.answer ≡ answer) × (result.slots.items ≡ []) × (result.change ≡ change_of.Nothing) }
+    ensures { (result.answer ≡ answer) × (result.slots.items ≡ [])
+        × (result.change ≡ change_of.Nothing) }
 {
     Answered {
         answer,
@@ -74,7 +75,8 @@ fn unchanged(alloc: Global, answer: Answer) -> Answered
 
 // The answer to a command of a number that was done, or refused.
 fn answer_to(alloc: Global, number: u64, done: Result<Done, Answer>) -> Answered
-    ensures { (result.answer ≡ answer_from number done) × (result.slots.items ≡ slots_from done) × (result.change ≡ change_from done) }
+    ensures { (result.answer ≡ answer_from number done) × (result.slots.items ≡ slots_from done)
+        × (result.change ≡ change_from done) }
 {
     match done {
         Ok(done) => Answered {
@@ -188,9 +190,11 @@ impl House {
         steps: &mut Steps<L>,
     ) -> Answer
         requires { AreCellsOfHost self.now cells.now }
-        ensures shown { (book : Book) → StandsIn self.now book → IsShown (view_answer book caller.now view) result }
+        ensures shown { (book : Book) → StandsIn self.now book
+            → IsShown (view_answer book caller.now view) result }
         ensures storeless { IsStoreless result }
-        ensures cost { (book : Book) → StandsIn self.now book → steps.new ≤ steps.old + reads_allowed (view_answer book caller.now view) }
+        ensures cost { (book : Book) → StandsIn self.now book
+            → steps.new ≤ steps.old + reads_allowed (view_answer book caller.now view) }
     {
         let Some(running) = &self.running else {
             return Answer::Rule(Rule::NoSeason);
@@ -225,14 +229,21 @@ impl House {
     ) -> Answered
         requires numbered { 1 ≤ number }
         requires command { IsCommand command.now }
-        ensures answered { Follows self.old self.new (λ book after. MayEndIn self.old.operator book caller.now now number command.now result.answer result.slots.items after) }
-        ensures late { (book : Book) → StandsIn self.old book → IsOutLate self.old.operator book caller.now now (request_of.Command number command.now) result.answer }
+        ensures answered { Follows self.old self.new
+            (λ book after.
+            MayEndIn self.old.operator book caller.now now number command.now result.answer
+            result.slots.items after) }
+        ensures late { (book : Book) → StandsIn self.old book
+            → IsOutLate self.old.operator book caller.now now
+            (request_of.Command number command.now) result.answer }
         ensures change { IsChange self.old self.new result.change }
-        ensures nothing { (book : Book) → StandsIn self.old book → result.slots.items ≡ [] → result.change ≡ change_of.Nothing }
+        ensures nothing { (book : Book) → StandsIn self.old book → result.slots.items ≡ []
+            → result.change ≡ change_of.Nothing }
         ensures operator { self.new.operator ≡ self.old.operator }
         ensures storeless { IsStoreless result.answer }
         ensures counted { steps.new ≤ steps.old + lines_in (running_in self.old) command.now + 1 }
-        ensures refused { result.change ≡ change_of.Nothing → result.answer ≢ answer_of.Memory → steps.new ≤ steps.old + 1 }
+        ensures refused { result.change ≡ change_of.Nothing → result.answer ≢ answer_of.Memory
+            → steps.new ≤ steps.old + 1 }
     {
         match self.lasts.repeated(caller, number, command) {
             Some(made) => unchanged(self.alloc, Answer::Done { number, made }),
@@ -256,14 +267,18 @@ impl House {
         steps: &mut Steps<L>,
     ) -> Result<Done, Answer>
         requires { IsCommand command.now }
-        ensures accepted { IsAccepted self.old self.new caller.now now number command.now (made_in result) }
-        ensures touched { IfOk result (λ done. (book : Book) → StandsIn self.old book → done.slots.items ≡ touched book caller.now command.now) }
+        ensures accepted { IsAccepted self.old self.new caller.now now number command.now
+            (made_in result) }
+        ensures touched { IfOk result
+            (λ done. (book : Book) → StandsIn self.old book
+            → done.slots.items ≡ touched book caller.now command.now) }
         ensures change { IfOk result (λ done. IsChange self.old self.new done.change) }
         ensures operator { self.new.operator ≡ self.old.operator }
         ensures storeless { IfErr result IsStoreless }
         ensures counted { steps.new ≤ steps.old + lines_in (running_in self.old) command.now + 1 }
         ensures acts { IfOk result (λ done. done.change ≢ change_of.Nothing) }
-        ensures refused { IfErr result (λ reply. reply ≢ answer_of.Memory → steps.new ≤ steps.old + 1) }
+        ensures refused { IfErr result
+            (λ reply. reply ≢ answer_of.Memory → steps.new ≤ steps.old + 1) }
     {
         match &mut self.running {
             Some(running) => accept(

@@ -199,7 +199,8 @@ fn drawn(start: Gw, creator: EntryId, order: &Order)
 }
 
 fn bracket(start: Gw, slots: &Slots, coins: &Coins)
-    ensures { IsGameweek start × AllByRecursion IsBelow32 slots.now × AllByRecursion IsByte coins.now }
+    ensures { IsGameweek start × AllByRecursion IsBelow32 slots.now
+        × AllByRecursion IsByte coins.now }
 {
     fields::gameweek(start);
     lists::slots(slots.as_slice());

@@ -15,11 +15,18 @@ const LINE: u8 = 5;
 // Puts the body under the key, in the table of its kind.
 fn put<S: Alter>(tx: &mut Transaction<'_, S>, key: &RecordKey, body: &[u8]) -> Result<usize, Error>
     ensures same_reference { tx.new.conn.ghost_name ≡ tx.old.conn.ghost_name }
-    ensures made { HasCleanDisk (state S.Store tx.new.conn.now) → IsTrue (state S.Store tx.old.conn.now).in_transaction
-        → OnOk result (Inside (state S.Store tx.old.conn.now) (state S.Store tx.new.conn.now) (λ db. (m : Map) → Keeps (state S.Store tx.old.conn.now).now m → Keeps db (applied_one m (op.Put key.now body.now)))) }
-    ensures undone { HasCleanDisk (state S.Store tx.new.conn.now) → IsTrue (state S.Store tx.old.conn.now).in_transaction
-        → OnErr result (KeepsCommit (state S.Store tx.old.conn.now) (state S.Store tx.new.conn.now)) }
-    ensures survives { Survives (state S.Store tx.old.conn.now) (state S.Store tx.new.conn.now) (λ _. ⊥) }
+    ensures made { HasCleanDisk (state S.Store tx.new.conn.now)
+        → IsTrue (state S.Store tx.old.conn.now).in_transaction
+        → OnOk result
+        (Inside (state S.Store tx.old.conn.now) (state S.Store tx.new.conn.now)
+        (λ db. (m : Map) → Keeps (state S.Store tx.old.conn.now).now m
+        → Keeps db (applied_one m (op.Put key.now body.now)))) }
+    ensures undone { HasCleanDisk (state S.Store tx.new.conn.now)
+        → IsTrue (state S.Store tx.old.conn.now).in_transaction
+        → OnErr result
+        (KeepsCommit (state S.Store tx.old.conn.now) (state S.Store tx.new.conn.now)) }
+    ensures survives { Survives (state S.Store tx.old.conn.now) (state S.Store tx.new.conn.now)
+        (λ _. ⊥) }
 {
     if key.kind == LINE {
         return tx.execute(
@@ -36,11 +43,18 @@ fn put<S: Alter>(tx: &mut Transaction<'_, S>, key: &RecordKey, body: &[u8]) -> R
 // Deletes what stands under the key, in the table of its kind.
 fn delete<S: Alter>(tx: &mut Transaction<'_, S>, key: &RecordKey) -> Result<usize, Error>
     ensures same_reference { tx.new.conn.ghost_name ≡ tx.old.conn.ghost_name }
-    ensures made { HasCleanDisk (state S.Store tx.new.conn.now) → IsTrue (state S.Store tx.old.conn.now).in_transaction
-        → OnOk result (Inside (state S.Store tx.old.conn.now) (state S.Store tx.new.conn.now) (λ db. (m : Map) → Keeps (state S.Store tx.old.conn.now).now m → Keeps db (applied_one m (op.Delete key.now)))) }
-    ensures undone { HasCleanDisk (state S.Store tx.new.conn.now) → IsTrue (state S.Store tx.old.conn.now).in_transaction
-        → OnErr result (KeepsCommit (state S.Store tx.old.conn.now) (state S.Store tx.new.conn.now)) }
-    ensures survives { Survives (state S.Store tx.old.conn.now) (state S.Store tx.new.conn.now) (λ _. ⊥) }
+    ensures made { HasCleanDisk (state S.Store tx.new.conn.now)
+        → IsTrue (state S.Store tx.old.conn.now).in_transaction
+        → OnOk result
+        (Inside (state S.Store tx.old.conn.now) (state S.Store tx.new.conn.now)
+        (λ db. (m : Map) → Keeps (state S.Store tx.old.conn.now).now m
+        → Keeps db (applied_one m (op.Delete key.now)))) }
+    ensures undone { HasCleanDisk (state S.Store tx.new.conn.now)
+        → IsTrue (state S.Store tx.old.conn.now).in_transaction
+        → OnErr result
+        (KeepsCommit (state S.Store tx.old.conn.now) (state S.Store tx.new.conn.now)) }
+    ensures survives { Survives (state S.Store tx.old.conn.now) (state S.Store tx.new.conn.now)
+        (λ _. ⊥) }
 {
     if key.kind == LINE {
         return tx.execute(
@@ -57,11 +71,18 @@ fn delete<S: Alter>(tx: &mut Transaction<'_, S>, key: &RecordKey) -> Result<usiz
 // Makes one change.
 fn change<S: Alter>(tx: &mut Transaction<'_, S>, op: &Op) -> Result<usize, Error>
     ensures same_reference { tx.new.conn.ghost_name ≡ tx.old.conn.ghost_name }
-    ensures made { HasCleanDisk (state S.Store tx.new.conn.now) → IsTrue (state S.Store tx.old.conn.now).in_transaction
-        → OnOk result (Inside (state S.Store tx.old.conn.now) (state S.Store tx.new.conn.now) (λ db. (m : Map) → Keeps (state S.Store tx.old.conn.now).now m → Keeps db (applied_one m op.now))) }
-    ensures undone { HasCleanDisk (state S.Store tx.new.conn.now) → IsTrue (state S.Store tx.old.conn.now).in_transaction
-        → OnErr result (KeepsCommit (state S.Store tx.old.conn.now) (state S.Store tx.new.conn.now)) }
-    ensures survives { Survives (state S.Store tx.old.conn.now) (state S.Store tx.new.conn.now) (λ _. ⊥) }
+    ensures made { HasCleanDisk (state S.Store tx.new.conn.now)
+        → IsTrue (state S.Store tx.old.conn.now).in_transaction
+        → OnOk result
+        (Inside (state S.Store tx.old.conn.now) (state S.Store tx.new.conn.now)
+        (λ db. (m : Map) → Keeps (state S.Store tx.old.conn.now).now m
+        → Keeps db (applied_one m op.now))) }
+    ensures undone { HasCleanDisk (state S.Store tx.new.conn.now)
+        → IsTrue (state S.Store tx.old.conn.now).in_transaction
+        → OnErr result
+        (KeepsCommit (state S.Store tx.old.conn.now) (state S.Store tx.new.conn.now)) }
+    ensures survives { Survives (state S.Store tx.old.conn.now) (state S.Store tx.new.conn.now)
+        (λ _. ⊥) }
 {
     match op {
         Op::Put(key, body) => put(tx, key, body.as_slice()),
@@ -71,14 +92,30 @@ fn change<S: Alter>(tx: &mut Transaction<'_, S>, op: &Op) -> Result<usize, Error
 
 // Makes all changes or none. `false`: a transaction is open, and nothing was done.
 pub fn apply<S: Alter>(conn: &mut Connection<S>, ops: &[Op]) -> Result<bool, Error>
-    ensures applied { HasCleanDisk (state S.Store conn.new) → (m : Map) → Keeps (state S.Store conn.old).now m → IfOk result (λ done. IsTrue done → Keeps (state S.Store conn.new).now (applied m ops.now)) }
-    ensures settled { HasCleanDisk (state S.Store conn.new) → IfOk result (λ done. IsTrue done → IsTrue (state S.Store conn.new).is_open × ((state S.Store conn.new).in_transaction ≡ false) × ((state S.Store conn.new).committed ≡ (state S.Store conn.new).now)) }
-    ensures autocommit { (state S.Store conn.old).in_transaction ≡ false → (state S.Store conn.new).in_transaction ≡ false }
-    ensures was_open { HasCleanDisk (state S.Store conn.new) → IsTrue (state S.Store conn.new).is_open → IsTrue (state S.Store conn.old).is_open }
-    ensures none { IfOk result (λ done. done ≡ false → ((state S.Store conn.old).in_transaction ≡ true) × (conn.new ≡ conn.old)) }
+    ensures applied { HasCleanDisk (state S.Store conn.new) → (m : Map)
+        → Keeps (state S.Store conn.old).now m
+        → IfOk result
+        (λ done. IsTrue done → Keeps (state S.Store conn.new).now (applied m ops.now)) }
+    ensures settled { HasCleanDisk (state S.Store conn.new)
+        → IfOk result
+        (λ done. IsTrue done
+        → IsTrue (state S.Store conn.new).is_open
+        × ((state S.Store conn.new).in_transaction ≡ false)
+        × ((state S.Store conn.new).committed ≡ (state S.Store conn.new).now)) }
+    ensures autocommit { (state S.Store conn.old).in_transaction ≡ false
+        → (state S.Store conn.new).in_transaction ≡ false }
+    ensures was_open { HasCleanDisk (state S.Store conn.new)
+        → IsTrue (state S.Store conn.new).is_open → IsTrue (state S.Store conn.old).is_open }
+    ensures none { IfOk result
+        (λ done. done ≡ false
+        → ((state S.Store conn.old).in_transaction ≡ true) × (conn.new ≡ conn.old)) }
     ensures undone { HasCleanDisk (state S.Store conn.new) → IsTrue (state S.Store conn.new).is_open
-        → OnErr result (((state S.Store conn.new).now ≡ (state S.Store conn.old).now) × ((state S.Store conn.new).committed ≡ (state S.Store conn.old).committed)) }
-    ensures crash { Survives (state S.Store conn.old) (state S.Store conn.new) (λ trees. (db : _) × (trees ≡ db.trees) × ((m : Map) → Keeps (state S.Store conn.old).now m → Keeps db (applied m ops.now))) }
+        → OnErr result
+        (((state S.Store conn.new).now ≡ (state S.Store conn.old).now)
+        × ((state S.Store conn.new).committed ≡ (state S.Store conn.old).committed)) }
+    ensures crash { Survives (state S.Store conn.old) (state S.Store conn.new)
+        (λ trees. (db : _) × (trees ≡ db.trees)
+        × ((m : Map) → Keeps (state S.Store conn.old).now m → Keeps db (applied m ops.now))) }
 {
     if !conn.is_autocommit() {
         return Ok(false);

@@ -70,13 +70,28 @@ fn load_pairs<S: Alter>(
 ) -> Result<Option<Vec<(RecordKey, Bytes)>>, Error>
     ensures rise { IfOk result (λ found. IfSome found (λ pairs. KeysRise pairs.items)) }
     ensures gave { HasCleanDisk (state S.Store conn.new) → Store (state S.Store conn.old).now
-        → IfOk result (λ found. IfSome found (λ pairs. Tells (state S.Store conn.old).now (map_of pairs.items) × Keeps (state S.Store conn.new).now (map_of pairs.items))) }
-    ensures settled { HasCleanDisk (state S.Store conn.new) → IfOk result (λ found. IfSome found (λ pairs. IsTrue (state S.Store conn.new).is_open × ((state S.Store conn.new).in_transaction ≡ false) × ((state S.Store conn.new).committed ≡ (state S.Store conn.new).now))) }
-    ensures whole { IsTrue (state S.Store conn.old).is_open → (state S.Store conn.old).in_transaction ≡ false → (state S.Store conn.old).now ≡ (state S.Store conn.old).committed }
-    ensures autocommit { (state S.Store conn.old).in_transaction ≡ false → (state S.Store conn.new).in_transaction ≡ false }
-    ensures was_open { HasCleanDisk (state S.Store conn.new) → IsTrue (state S.Store conn.new).is_open → IsTrue (state S.Store conn.old).is_open }
-    ensures kept { HasCleanDisk (state S.Store conn.new) → IsTrue (state S.Store conn.new).is_open → (ready : Bool) → (m : Map) → Finds (state S.Store conn.old).now ready m → Finds (state S.Store conn.new).now ready m }
-    ensures crash { Survives (state S.Store conn.old) (state S.Store conn.new) (λ trees. (db : _) × (trees ≡ db.trees) × Moved (state S.Store conn.old).now db) }
+        → IfOk result
+        (λ found. IfSome found
+        (λ pairs. Tells (state S.Store conn.old).now (map_of pairs.items)
+        × Keeps (state S.Store conn.new).now (map_of pairs.items))) }
+    ensures settled { HasCleanDisk (state S.Store conn.new)
+        → IfOk result
+        (λ found. IfSome found
+        (λ pairs. IsTrue (state S.Store conn.new).is_open
+        × ((state S.Store conn.new).in_transaction ≡ false)
+        × ((state S.Store conn.new).committed ≡ (state S.Store conn.new).now))) }
+    ensures whole { IsTrue (state S.Store conn.old).is_open
+        → (state S.Store conn.old).in_transaction ≡ false
+        → (state S.Store conn.old).now ≡ (state S.Store conn.old).committed }
+    ensures autocommit { (state S.Store conn.old).in_transaction ≡ false
+        → (state S.Store conn.new).in_transaction ≡ false }
+    ensures was_open { HasCleanDisk (state S.Store conn.new)
+        → IsTrue (state S.Store conn.new).is_open → IsTrue (state S.Store conn.old).is_open }
+    ensures kept { HasCleanDisk (state S.Store conn.new) → IsTrue (state S.Store conn.new).is_open
+        → (ready : Bool) → (m : Map) → Finds (state S.Store conn.old).now ready m
+        → Finds (state S.Store conn.new).now ready m }
+    ensures crash { Survives (state S.Store conn.old) (state S.Store conn.new)
+        (λ trees. (db : _) × (trees ≡ db.trees) × Moved (state S.Store conn.old).now db) }
 {
     let Some(rows) = read_all(conn)? else {
         return Ok(None);

@@ -54,7 +54,8 @@ impl Model for Host {
 
     ghost Value = { Housed };
 
-    ghost view = { λ h. record { rows = h.house; cells = h.cells; stale = h.stale; reread = h.reread } };
+    ghost view = { λ h.
+        record { rows = h.house; cells = h.cells; stale = h.stale; reread = h.reread } };
 
     ghost invariant = { λ h. h.stale ≡ false → AreCellsOfHost h.house h.cells };
 }
@@ -68,7 +69,8 @@ impl Host {
         operator: &Key,
         steps: &mut Steps<L>,
     ) -> Result<Host, OpenFault>
-        ensures opened { MatchResult result (Opens K.tells K.holds K.passes keeper.old keeper.new) (Withholds K.tells K.holds K.passes K.faults keeper.old keeper.new) }
+        ensures opened { MatchResult result (Opens K.tells K.holds K.passes keeper.old keeper.new)
+            (Withholds K.tells K.holds K.passes K.faults keeper.old keeper.new) }
         ensures operator { IfOk result (λ host. host.rows.operator ≡ operator.now) }
         ensures reread { IfOk result (λ host. host.reread ≡ false) }
         ensures counts { result ≢ Err fault.Keeper → K.faults keeper.new ≡ K.faults keeper.old }
@@ -104,15 +106,22 @@ impl Host {
         keeper: &mut K,
         steps: &mut Steps<L>,
     ) -> Result<(), OpenFault>
-        ensures fresh { self.old.stale ≡ false → IsOk result × (self.new ≡ self.old) × (keeper.new ≡ keeper.old) }
+        ensures fresh { self.old.stale ≡ false
+            → IsOk result × (self.new ≡ self.old) × (keeper.new ≡ keeper.old) }
         ensures still { self.old.stale ≡ false → steps.new ≡ steps.old }
         ensures reread { self.old.stale ≡ true → self.new.reread ≡ true }
         ensures operator { self.new.rows.operator ≡ self.old.rows.operator }
         ensures ok { OnOk result (self.new.stale ≡ false) }
         ensures err { OnErr result ((self.new.stale ≡ true) × (self.new.rows ≡ self.old.rows)) }
-        ensures made { self.old.stale ≡ true → MatchResult result (λ done. Opens K.tells K.holds K.passes keeper.old keeper.new self.new) (Withholds K.tells K.holds K.passes K.faults keeper.old keeper.new) }
-        ensures backs { K.tells keeper.new → K.serves keeper.new → (book : Book) → Backs K.holds K.passes keeper.old self.old book → Backs K.holds K.passes keeper.new self.new book }
-        ensures stops { K.tells keeper.new → (m : Map) → K.holds keeper.old m → (x : Map) → K.passes keeper.new x → K.passes keeper.old x }
+        ensures made { self.old.stale ≡ true
+            → MatchResult result
+            (λ done. Opens K.tells K.holds K.passes keeper.old keeper.new self.new)
+            (Withholds K.tells K.holds K.passes K.faults keeper.old keeper.new) }
+        ensures backs { K.tells keeper.new → K.serves keeper.new → (book : Book)
+            → Backs K.holds K.passes keeper.old self.old book
+            → Backs K.holds K.passes keeper.new self.new book }
+        ensures stops { K.tells keeper.new → (m : Map) → K.holds keeper.old m → (x : Map)
+            → K.passes keeper.new x → K.passes keeper.old x }
         ensures counts { result ≢ Err fault.Keeper → K.faults keeper.new ≡ K.faults keeper.old }
         ensures later { K.faults keeper.old ≤ K.faults keeper.new }
         ensures told { K.tells keeper.new → K.tells keeper.old }
@@ -182,23 +191,44 @@ impl Host {
     ) -> Answer
         requires fresh { self.old.stale ≡ false }
         requires asked { IsRequest request.now }
-        ensures answered { Answers K.tells K.serves K.holds K.passes keeper.old keeper.new self.old self.new
-            (λ book left. MayAnswer self.old.rows.operator (record { before = K.faults keeper.old; behind = K.faults keeper.new }) book caller now request.now result left) }
-        ensures isolated { result ≢ answer_of.Memory → result ≢ answer_of.Keeper → (book : Book) → StandsIn self.old.rows book → ToldAlike self.old.rows.operator book caller now request.now result }
-        ensures late { self.new.stale ≡ false → (book : Book) → StandsIn self.old.rows book → IsOutLate self.old.rows.operator (pass book now) caller now request.now result }
-        ensures granted { locks_more self.old.rows.facts now ≡ false → (book : Book) → StandsIn self.old.rows book → IsOutLate self.old.rows.operator (pass book now) caller now request.now result }
-        ensures views { locks_more self.old.rows.facts now ≡ false → (book : Book) → StandsIn self.old.rows book → ReadsFew (pass book now) caller request.now steps.old steps.new }
-        ensures looks { locks_more self.old.rows.facts now ≡ false → LeavesAll request.now keeper.old keeper.new self.old self.new }
-        ensures changes { result ≡ answer_of.Keeper → (book : Book) → StandsIn self.old.rows book → WouldChange self.old.rows.operator book caller now request.now }
-        ensures stale { self.new.stale ≡ true → (result ≡ answer_of.Memory) ⊎ (result ≡ answer_of.Keeper) }
+        ensures answered { Answers K.tells K.serves K.holds K.passes keeper.old keeper.new self.old
+            self.new
+            (λ book left. MayAnswer self.old.rows.operator
+            (record { before = K.faults keeper.old; behind = K.faults keeper.new }) book caller
+            now request.now result left) }
+        ensures isolated { result ≢ answer_of.Memory → result ≢ answer_of.Keeper → (book : Book)
+            → StandsIn self.old.rows book
+            → ToldAlike self.old.rows.operator book caller now request.now result }
+        ensures late { self.new.stale ≡ false → (book : Book) → StandsIn self.old.rows book
+            → IsOutLate self.old.rows.operator (pass book now) caller now request.now result }
+        ensures granted { locks_more self.old.rows.facts now ≡ false → (book : Book)
+            → StandsIn self.old.rows book
+            → IsOutLate self.old.rows.operator (pass book now) caller now request.now result }
+        ensures views { locks_more self.old.rows.facts now ≡ false → (book : Book)
+            → StandsIn self.old.rows book
+            → ReadsFew (pass book now) caller request.now steps.old steps.new }
+        ensures looks { locks_more self.old.rows.facts now ≡ false
+            → LeavesAll request.now keeper.old keeper.new self.old self.new }
+        ensures changes { result ≡ answer_of.Keeper → (book : Book) → StandsIn self.old.rows book
+            → WouldChange self.old.rows.operator book caller now request.now }
+        ensures stale { self.new.stale ≡ true
+            → (result ≡ answer_of.Memory) ⊎ (result ≡ answer_of.Keeper) }
         ensures keeper { result ≡ answer_of.Keeper → self.new.stale ≡ true }
         ensures operator { self.new.rows.operator ≡ self.old.rows.operator }
         ensures reread { self.new.reread ≡ self.old.reread }
-        ensures corrected { locks_more self.old.rows.facts now ≡ false → self.new.stale ≡ false → AreCorrected self.old.rows self.new.rows self.old.cells self.new.cells }
-        ensures cheap { locks_more self.old.rows.facts now ≡ false → self.new.stale ≡ false → IsCheapRequest self.old.rows self.new.rows request.now steps.old steps.new }
-        ensures refused { locks_more self.old.rows.facts now ≡ false → result ≢ answer_of.Memory → (book : Book) → StandsIn self.old.rows book → MayRest self.old.rows.operator (pass book now) caller now request.now → CountsFew request.now steps.old steps.new }
-        ensures stops { (book : Book) → StandsIn self.old.rows book → StopsLeave self.old.rows.operator K.tells K.holds K.passes keeper.old keeper.new self.old book caller now request.now }
-        ensures caused { IsCaused (record { before = K.faults keeper.old; behind = K.faults keeper.new }) result }
+        ensures corrected { locks_more self.old.rows.facts now ≡ false → self.new.stale ≡ false
+            → AreCorrected self.old.rows self.new.rows self.old.cells self.new.cells }
+        ensures cheap { locks_more self.old.rows.facts now ≡ false → self.new.stale ≡ false
+            → IsCheapRequest self.old.rows self.new.rows request.now steps.old steps.new }
+        ensures refused { locks_more self.old.rows.facts now ≡ false → result ≢ answer_of.Memory
+            → (book : Book) → StandsIn self.old.rows book
+            → MayRest self.old.rows.operator (pass book now) caller now request.now
+            → CountsFew request.now steps.old steps.new }
+        ensures stops { (book : Book) → StandsIn self.old.rows book
+            → StopsLeave self.old.rows.operator K.tells K.holds K.passes keeper.old keeper.new
+            self.old book caller now request.now }
+        ensures caused { IsCaused
+            (record { before = K.faults keeper.old; behind = K.faults keeper.new }) result }
         ensures later { K.faults keeper.old ≤ K.faults keeper.new }
         ensures told { K.tells keeper.new → K.tells keeper.old }
         ensures served { K.tells keeper.new → K.serves keeper.new → K.serves keeper.old }
@@ -221,16 +251,23 @@ impl Host {
     ) -> Result<(), KeeperFault>
         requires fresh { self.old.stale ≡ false }
         ensures rows { self.new.rows ≡ passed now self.old.rows }
-        ensures unlocked { locks_more self.old.rows.facts now ≡ false → (self.new.cells ≡ self.old.cells) × (running_in self.new.rows ≡ running_in self.old.rows) }
+        ensures unlocked { locks_more self.old.rows.facts now ≡ false
+            → (self.new.cells ≡ self.old.cells)
+            × (running_in self.new.rows ≡ running_in self.old.rows) }
         ensures still { locks_more self.old.rows.facts now ≡ false → steps.new ≡ steps.old }
-        ensures rests { locks_more self.old.rows.facts now ≡ false → (self.new ≡ self.old) × (keeper.new ≡ keeper.old) }
+        ensures rests { locks_more self.old.rows.facts now ≡ false
+            → (self.new ≡ self.old) × (keeper.new ≡ keeper.old) }
         ensures reread { self.new.reread ≡ self.old.reread }
         ensures ok { OnOk result (self.new.stale ≡ false) }
         ensures err { OnErr result (self.new.stale ≡ true) }
         ensures more { OnErr result (locks_more self.old.rows.facts now ≡ true) }
-        ensures locks { OnErr result ((book : Book) → StandsIn self.old.rows book → pass book now ≡ book → ⊥) }
-        ensures locked { Answers K.tells K.serves K.holds K.passes keeper.old keeper.new self.old self.new (λ book left. EndsCommit result book (pass book now) left) }
-        ensures stops { (book : Book) → StandsIn self.old.rows book → StopsCommit K.tells K.holds K.passes keeper.old keeper.new self.old book (pass book now) }
+        ensures locks { OnErr result
+            ((book : Book) → StandsIn self.old.rows book → pass book now ≡ book → ⊥) }
+        ensures locked { Answers K.tells K.serves K.holds K.passes keeper.old keeper.new self.old
+            self.new (λ book left. EndsCommit result book (pass book now) left) }
+        ensures stops { (book : Book) → StandsIn self.old.rows book
+            → StopsCommit K.tells K.holds K.passes keeper.old keeper.new self.old book
+            (pass book now) }
         ensures told { K.tells keeper.new → K.tells keeper.old }
         ensures served { K.tells keeper.new → K.serves keeper.new → K.serves keeper.old }
         ensures cause { HasKeeperCause (K.faults keeper.old) (K.faults keeper.new) result }
@@ -258,7 +295,8 @@ impl Host {
     // Commits what these slots tell. Where that does not go well the host is stale.
     fn commit<K: Keeper>(&mut self, keeper: &mut K, slots: &[Slot]) -> Result<(), KeeperFault>
         ensures cells { self.new.cells ≡ self.old.cells }
-        ensures commits { Commits K.tells K.serves K.holds K.passes keeper.old keeper.new slots.now self.old self.new result }
+        ensures commits { Commits K.tells K.serves K.holds K.passes keeper.old keeper.new slots.now
+            self.old self.new result }
         ensures told { K.tells keeper.new → K.tells keeper.old }
         ensures served { K.tells keeper.new → K.serves keeper.new → K.serves keeper.old }
         ensures cause { HasKeeperCause (K.faults keeper.old) (K.faults keeper.new) result }
@@ -289,21 +327,35 @@ impl Host {
     ) -> Answer
         requires fresh { self.old.stale ≡ false }
         requires asked { IsRequest request.now }
-        ensures answered { Answers K.tells K.serves K.holds K.passes keeper.old keeper.new self.old self.new
-            (λ book left. MayEnd self.old.rows.operator (record { before = K.faults keeper.old; behind = K.faults keeper.new }) book caller now request.now result left) }
-        ensures late { (book : Book) → StandsIn self.old.rows book → IsOutLate self.old.rows.operator book caller now request.now result }
-        ensures views { (book : Book) → StandsIn self.old.rows book → ReadsFew book caller request.now steps.old steps.new }
+        ensures answered { Answers K.tells K.serves K.holds K.passes keeper.old keeper.new self.old
+            self.new
+            (λ book left. MayEnd self.old.rows.operator
+            (record { before = K.faults keeper.old; behind = K.faults keeper.new }) book caller
+            now request.now result left) }
+        ensures late { (book : Book) → StandsIn self.old.rows book
+            → IsOutLate self.old.rows.operator book caller now request.now result }
+        ensures views { (book : Book) → StandsIn self.old.rows book
+            → ReadsFew book caller request.now steps.old steps.new }
         ensures looks { LeavesAll request.now keeper.old keeper.new self.old self.new }
-        ensures acts { result ≡ answer_of.Keeper → (book : Book) → StandsIn self.old.rows book → WouldAct self.old.rows.operator book caller now request.now }
-        ensures stale { self.new.stale ≡ true → (result ≡ answer_of.Memory) ⊎ (result ≡ answer_of.Keeper) }
+        ensures acts { result ≡ answer_of.Keeper → (book : Book) → StandsIn self.old.rows book
+            → WouldAct self.old.rows.operator book caller now request.now }
+        ensures stale { self.new.stale ≡ true
+            → (result ≡ answer_of.Memory) ⊎ (result ≡ answer_of.Keeper) }
         ensures keeper { result ≡ answer_of.Keeper → self.new.stale ≡ true }
         ensures operator { self.new.rows.operator ≡ self.old.rows.operator }
         ensures reread { self.new.reread ≡ self.old.reread }
-        ensures corrected { self.new.stale ≡ false → AreCorrected self.old.rows self.new.rows self.old.cells self.new.cells }
-        ensures cheap { self.new.stale ≡ false → IsCheapRequest self.old.rows self.new.rows request.now steps.old steps.new }
-        ensures refused { result ≢ answer_of.Memory → (book : Book) → StandsIn self.old.rows book → MayRest self.old.rows.operator book caller now request.now → CountsFew request.now steps.old steps.new }
-        ensures stops { (book : Book) → StandsIn self.old.rows book → StopsEnding self.old.rows.operator K.tells K.holds K.passes keeper.old keeper.new self.old book caller now request.now }
-        ensures caused { IsCaused (record { before = K.faults keeper.old; behind = K.faults keeper.new }) result }
+        ensures corrected { self.new.stale ≡ false
+            → AreCorrected self.old.rows self.new.rows self.old.cells self.new.cells }
+        ensures cheap { self.new.stale ≡ false
+            → IsCheapRequest self.old.rows self.new.rows request.now steps.old steps.new }
+        ensures refused { result ≢ answer_of.Memory → (book : Book) → StandsIn self.old.rows book
+            → MayRest self.old.rows.operator book caller now request.now
+            → CountsFew request.now steps.old steps.new }
+        ensures stops { (book : Book) → StandsIn self.old.rows book
+            → StopsEnding self.old.rows.operator K.tells K.holds K.passes keeper.old keeper.new
+            self.old book caller now request.now }
+        ensures caused { IsCaused
+            (record { before = K.faults keeper.old; behind = K.faults keeper.new }) result }
         ensures later { K.faults keeper.old ≤ K.faults keeper.new }
         ensures told { K.tells keeper.new → K.tells keeper.old }
         ensures served { K.tells keeper.new → K.serves keeper.new → K.serves keeper.old }
@@ -329,19 +381,34 @@ impl Host {
         requires fresh { self.old.stale ≡ false }
         requires numbered { 1 ≤ number }
         requires command { IsCommand command.now }
-        ensures answered { Answers K.tells K.serves K.holds K.passes keeper.old keeper.new self.old self.new
-            (λ book left. MayEnd self.old.rows.operator (record { before = K.faults keeper.old; behind = K.faults keeper.new }) book caller.now now (request_of.Command number command.now) result left) }
-        ensures late { (book : Book) → StandsIn self.old.rows book → IsOutLate self.old.rows.operator book caller.now now (request_of.Command number command.now) result }
-        ensures acts { result ≡ answer_of.Keeper → (book : Book) → StandsIn self.old.rows book → WouldAct self.old.rows.operator book caller.now now (request_of.Command number command.now) }
-        ensures stale { self.new.stale ≡ true → (result ≡ answer_of.Memory) ⊎ (result ≡ answer_of.Keeper) }
+        ensures answered { Answers K.tells K.serves K.holds K.passes keeper.old keeper.new self.old
+            self.new
+            (λ book left. MayEnd self.old.rows.operator
+            (record { before = K.faults keeper.old; behind = K.faults keeper.new }) book
+            caller.now now (request_of.Command number command.now) result left) }
+        ensures late { (book : Book) → StandsIn self.old.rows book
+            → IsOutLate self.old.rows.operator book caller.now now
+            (request_of.Command number command.now) result }
+        ensures acts { result ≡ answer_of.Keeper → (book : Book) → StandsIn self.old.rows book
+            → WouldAct self.old.rows.operator book caller.now now
+            (request_of.Command number command.now) }
+        ensures stale { self.new.stale ≡ true
+            → (result ≡ answer_of.Memory) ⊎ (result ≡ answer_of.Keeper) }
         ensures keeper { result ≡ answer_of.Keeper → self.new.stale ≡ true }
         ensures operator { self.new.rows.operator ≡ self.old.rows.operator }
         ensures reread { self.new.reread ≡ self.old.reread }
-        ensures corrected { self.new.stale ≡ false → AreCorrected self.old.rows self.new.rows self.old.cells self.new.cells }
-        ensures cheap { self.new.stale ≡ false → IsCheapCommand self.old.rows self.new.rows command.now steps.old steps.new }
-        ensures refused { result ≢ answer_of.Memory → (book : Book) → StandsIn self.old.rows book → MayRest self.old.rows.operator book caller.now now (request_of.Command number command.now) → steps.new ≤ steps.old + 8 }
-        ensures stops { (book : Book) → StandsIn self.old.rows book → StopsEnding self.old.rows.operator K.tells K.holds K.passes keeper.old keeper.new self.old book caller.now now (request_of.Command number command.now) }
-        ensures caused { IsCaused (record { before = K.faults keeper.old; behind = K.faults keeper.new }) result }
+        ensures corrected { self.new.stale ≡ false
+            → AreCorrected self.old.rows self.new.rows self.old.cells self.new.cells }
+        ensures cheap { self.new.stale ≡ false
+            → IsCheapCommand self.old.rows self.new.rows command.now steps.old steps.new }
+        ensures refused { result ≢ answer_of.Memory → (book : Book) → StandsIn self.old.rows book
+            → MayRest self.old.rows.operator book caller.now now
+            (request_of.Command number command.now) → steps.new ≤ steps.old + 8 }
+        ensures stops { (book : Book) → StandsIn self.old.rows book
+            → StopsEnding self.old.rows.operator K.tells K.holds K.passes keeper.old keeper.new
+            self.old book caller.now now (request_of.Command number command.now) }
+        ensures caused { IsCaused
+            (record { before = K.faults keeper.old; behind = K.faults keeper.new }) result }
         ensures later { K.faults keeper.old ≤ K.faults keeper.new }
         ensures told { K.tells keeper.new → K.tells keeper.old }
         ensures served { K.tells keeper.new → K.serves keeper.new → K.serves keeper.old }

@@ -19,5 +19,6 @@ pub fn lawful_books_are_judged()
 /// A law on the definitions: a keeper that tells, and held the records of a lawful book, is not found damaged when it is
 /// loaded.
 pub fn lawful_books_are_whole<K: Keeper>()
-    ensures { (old new : K) → LawfulBooksAreWhole (K.tells new) (K.holds old) (K.holds new) (K.passes new) }
+    ensures { (old new : K)
+        → LawfulBooksAreWhole (K.tells new) (K.holds old) (K.holds new) (K.passes new) }
 {}

@@ -61,7 +61,9 @@ impl Entry {
     ) -> Result<Self, Memory>
         requires { (first : Option ℕ) × AreEntryRecords first teams.now sales.now }
         ensures rows { IfOk result (λ e. e ≡ rows_of_records teams.now sales.now) }
-        ensures history { (position : ℕ → Position) (h : List Event) → IsHistory h → HasRecords position h teams.now sales.now → IfOk result (λ e. StandsFor position e h) }
+        ensures history { (position : ℕ → Position) (h : List Event) → IsHistory h
+            → HasRecords position h teams.now sales.now
+            → IfOk result (λ e. StandsFor position e h) }
     {
         let rows = rows_of_records(alloc, teams, sales)?;
         Ok(Entry { rows })
@@ -72,8 +74,10 @@ impl Entry {
         ensures rows { result ≡ standing_at self.now g }
         ensures begun { begun result ≡ is_begun_by self.now g }
         ensures fit { FitsIn g result }
-        ensures history { (position : ℕ → Position) (h : List Event) → StandsFor position self.now h → TeamTold position h g (team_in result) }
-        ensures laws { (position : ℕ → Position) (h : List Event) → StandsFor position self.now h → TeamBalances h g (team_in result) }
+        ensures history { (position : ℕ → Position) (h : List Event) → StandsFor position self.now h
+            → TeamTold position h g (team_in result) }
+        ensures laws { (position : ℕ → Position) (h : List Event) → StandsFor position self.now h
+            → TeamBalances h g (team_in result) }
     {
         standing_of(self.rows.as_slice(), g.get())
     }
@@ -81,8 +85,10 @@ impl Entry {
     /// The team of a gameweek. None before the first.
     pub fn team(&self, g: Gw) -> Option<Team>
         ensures rows { result ≡ team_in (standing_at self.now g) }
-        ensures history { (position : ℕ → Position) (h : List Event) → StandsFor position self.now h → TeamTold position h g result }
-        ensures laws { (position : ℕ → Position) (h : List Event) → StandsFor position self.now h → TeamBalances h g result }
+        ensures history { (position : ℕ → Position) (h : List Event) → StandsFor position self.now h
+            → TeamTold position h g result }
+        ensures laws { (position : ℕ → Position) (h : List Event) → StandsFor position self.now h
+            → TeamBalances h g result }
     {
         match standing_of(self.rows.as_slice(), g.get()) {
             Some(standing) => Some(standing.team),
@@ -94,7 +100,8 @@ impl Entry {
     /// no gameweek.
     pub fn row(&self, gameweek: u32) -> Option<&Row>
         ensures gameweek { IfSome result (λ row. row.now.gw ≡ gameweek) }
-        ensures standing { option_map (λ row. row.standing) (option_copied result) ≡ row_at self.now gameweek }
+        ensures standing { option_map (λ row. row.standing) (option_copied result)
+            ≡ row_at self.now gameweek }
     {
         row_in(self.rows.as_slice(), gameweek)
     }
@@ -103,7 +110,8 @@ impl Entry {
     pub fn made(&self, g: Gw) -> u16
         ensures rows { result ≡ used_by self.now g }
         ensures few { result ≤ 1000 }
-        ensures history { (position : ℕ → Position) (h : List Event) → StandsFor position self.now h → result ≡ swaps_in h g }
+        ensures history { (position : ℕ → Position) (h : List Event) → StandsFor position self.now h
+            → result ≡ swaps_in h g }
     {
         // What the type tells of its rows, for the prover.
         let _known = self.rows.len();
@@ -117,7 +125,8 @@ impl Entry {
     pub fn first(&self) -> Option<Gw>
         ensures rows { result ≡ first_in self.now }
         ensures begun { (g : ℕ) → begun (standing_at self.now g) ≡ is_begun_by self.now g }
-        ensures history { (position : ℕ → Position) (h : List Event) → StandsFor position self.now h → FirstTold h result }
+        ensures history { (position : ℕ → Position) (h : List Event) → StandsFor position self.now h
+            → FirstTold h result }
     {
         first_of(self.rows.as_slice())
     }
@@ -125,7 +134,8 @@ impl Entry {
     /// The free transfers of a gameweek. None up to the first.
     pub fn free(&self, profile: Profile, g: Gw) -> Option<u8>
         ensures rows { result ≡ free_in profile self.now g }
-        ensures history { (position : ℕ → Position) (h : List Event) → StandsFor position self.now h → FreeTold profile h g result }
+        ensures history { (position : ℕ → Position) (h : List Event) → StandsFor position self.now h
+            → FreeTold profile h g result }
     {
         let first = first_of(self.rows.as_slice())?.get();
         if g.get() <= first {
@@ -139,7 +149,8 @@ impl Entry {
     pub fn cost(&self, profile: Profile, g: Gw) -> u32
         ensures rows { result ≡ cost_by profile self.now g }
         ensures most { result ≤ 4000 }
-        ensures history { (position : ℕ → Position) (h : List Event) → StandsFor position self.now h → result ≡ cost_at profile h g }
+        ensures history { (position : ℕ → Position) (h : List Event) → StandsFor position self.now h
+            → result ≡ cost_at profile h g }
     {
         match first_of(self.rows.as_slice()) {
             Some(first) => {
@@ -155,7 +166,8 @@ impl Entry {
     /// The transfers of gameweeks 1 to `through` that a table counts.
     pub fn counted(&self, through: u8) -> u32
         ensures rows { result ≡ counted_by self.now through }
-        ensures history { (position : ℕ → Position) (h : List Event) → StandsFor position self.now h → result ≡ counted_through h through }
+        ensures history { (position : ℕ → Position) (h : List Event) → StandsFor position self.now h
+            → result ≡ counted_through h through }
     {
         match first_of(self.rows.as_slice()) {
             Some(first) => counted_of(self.rows.as_slice(), first.get(), through),
@@ -166,7 +178,8 @@ impl Entry {
     /// The chip of a gameweek.
     pub fn chip(&self, g: Gw) -> Chip
         ensures rows { result ≡ chip_by self.now g }
-        ensures history { (position : ℕ → Position) (h : List Event) → StandsFor position self.now h → result ≡ chip_at h g }
+        ensures history { (position : ℕ → Position) (h : List Event) → StandsFor position self.now h
+            → result ≡ chip_at h g }
     {
         match row_of(self.rows.as_slice(), g.get()) {
             Some(standing) => standing.team.chip,
@@ -177,7 +190,8 @@ impl Entry {
     /// The earlier gameweek in which a chip was played, in the same half of the season for a wildcard.
     pub fn chip_used(&self, split: u8, chip: Chip, g: Gw) -> Option<Gw>
         ensures rows { result ≡ used_before split (chip_by self.now) chip g }
-        ensures history { (position : ℕ → Position) (h : List Event) → StandsFor position self.now h → result ≡ used_before split (chip_at h) chip g }
+        ensures history { (position : ℕ → Position) (h : List Event) → StandsFor position self.now h
+            → result ≡ used_before split (chip_at h) chip g }
     {
         used_of(self.rows.as_slice(), split, chip, g)
     }
@@ -211,8 +225,14 @@ impl Entry {
         requires new { self.old ≡ [] }
         requires team { IsFirstTeam team.now }
         requires fit { IsFitTeam team.now }
-        ensures ok { OnOk result (self.new ≡ put_row self.old g (record { made = 0; team = team.now })) }
-        ensures history { (position : ℕ → Position) (h : List Event) → IsPlaced position team.now.picks → StandsFor position self.old h → OnOk result (StandsFor position self.new (h ++ in_gameweek g (First (holdings team.now.picks) team.now.captain team.now.vice ∷ []))) }
+        ensures ok { OnOk result
+            (self.new ≡ put_row self.old g (record { made = 0; team = team.now })) }
+        ensures history { (position : ℕ → Position) (h : List Event)
+            → IsPlaced position team.now.picks → StandsFor position self.old h
+            → OnOk result
+            (StandsFor position self.new
+            (h ++ in_gameweek g
+            (First (holdings team.now.picks) team.now.captain team.now.vice ∷ []))) }
         ensures err { OnErr result (self.new ≡ self.old) }
     {
         // What the types tell of the rows and of the gameweek, for the prover.
@@ -232,8 +252,13 @@ impl Entry {
         requires batch { BatchOn sales.now (standing_at self.old g) after.now }
         requires sold { Each (λ s. s.sold ≤ 200) sales.now }
         requires fit { IsFitTeam after.now }
-        ensures ok { OnOk result (self.new ≡ put_row self.old g (record { made = used_by self.old g + length sales.now; team = after.now })) }
-        ensures history { (position : ℕ → Position) (h : List Event) → IsPlaced position after.now.picks → StandsFor position self.old h → OnOk result (StandsFor position self.new (h ++ in_gameweek g (map Swap sales.now))) }
+        ensures ok { OnOk result
+            (self.new
+            ≡ put_row self.old g
+            (record { made = used_by self.old g + length sales.now; team = after.now })) }
+        ensures history { (position : ℕ → Position) (h : List Event)
+            → IsPlaced position after.now.picks → StandsFor position self.old h
+            → OnOk result (StandsFor position self.new (h ++ in_gameweek g (map Swap sales.now))) }
         ensures err { OnErr result (self.new ≡ self.old) }
     {
         // What the type tells of its rows, for the prover.
@@ -251,8 +276,15 @@ impl Entry {
         requires later { AllUpTo g self.old }
         requires lineup { LineupOn (standing_at self.old g) after.now }
         requires fit { IsFitTeam after.now }
-        ensures ok { OnOk result (self.new ≡ put_row self.old g (record { made = used_by self.old g; team = after.now })) }
-        ensures history { (position : ℕ → Position) (h : List Event) → IsPlaced position after.now.picks → StandsFor position self.old h → OnOk result (StandsFor position self.new (h ++ in_gameweek g (Lineup (players_of after.now) after.now.captain after.now.vice ∷ []))) }
+        ensures ok { OnOk result
+            (self.new
+            ≡ put_row self.old g (record { made = used_by self.old g; team = after.now })) }
+        ensures history { (position : ℕ → Position) (h : List Event)
+            → IsPlaced position after.now.picks → StandsFor position self.old h
+            → OnOk result
+            (StandsFor position self.new
+            (h ++ in_gameweek g
+            (Lineup (players_of after.now) after.now.captain after.now.vice ∷ []))) }
         ensures err { OnErr result (self.new ≡ self.old) }
     {
         // What the type tells of its rows, for the prover.
@@ -270,7 +302,8 @@ impl Entry {
         requires free { CanPlay (standing_at self.old g) }
         requires early { is_free_hit chip ≡ true → is_past self.old g ≡ true }
         ensures ok { OnOk result (self.new ≡ put_chip self.old g chip) }
-        ensures history { (position : ℕ → Position) (h : List Event) → StandsFor position self.old h → OnOk result (StandsFor position self.new (h ++ in_gameweek g (Play chip ∷ []))) }
+        ensures history { (position : ℕ → Position) (h : List Event) → StandsFor position self.old h
+            → OnOk result (StandsFor position self.new (h ++ in_gameweek g (Play chip ∷ []))) }
         ensures err { OnErr result (self.new ≡ self.old) }
     {
         let Some(mut standing) = standing_of(self.rows.as_slice(), g.get()) else {
@@ -285,7 +318,8 @@ impl Entry {
         requires later { AllUpTo g self.old }
         requires played { CanCancel (standing_at self.old g) }
         ensures rows { self.new ≡ put_chip self.old g NoChip }
-        ensures history { (position : ℕ → Position) (h : List Event) → StandsFor position self.old h → StandsFor position self.new (h ++ in_gameweek g (Cancel ∷ [])) }
+        ensures history { (position : ℕ → Position) (h : List Event) → StandsFor position self.old h
+            → StandsFor position self.new (h ++ in_gameweek g (Cancel ∷ [])) }
     {
         if let Some(mut standing) = standing_of(self.rows.as_slice(), g.get()) {
             standing.team.chip = Chip::None;

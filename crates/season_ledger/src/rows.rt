@@ -25,7 +25,8 @@ pub fn row_of(rows: &[Row], g: u8) -> Option<Standing>
 // The row of a gameweek by its number.
 pub fn row_in(rows: &[Row], gameweek: u32) -> Option<&Row>
     ensures gameweek { IfSome result (λ row. row.now.gw ≡ gameweek) }
-    ensures standing { option_map (λ row. row.standing) (option_copied result) ≡ row_at rows.now gameweek }
+    ensures standing { option_map (λ row. row.standing) (option_copied result)
+        ≡ row_at rows.now gameweek }
 {
     'rows: for row in rows {
         if u32::from(row.gw.get()) == gameweek {

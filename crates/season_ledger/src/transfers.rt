@@ -59,7 +59,8 @@ fn doings(rows: &[Row], g: u8) -> (Chip, u16)
 // The free transfers of a gameweek after the first.
 pub fn free_of(profile: Profile, rows: &[Row], first: u8, g: u8) -> u8
     requires { first < g }
-    ensures free { result ≡ free_from profile (used_by rows.now) (chip_by rows.now) first (g - (first + 1)) }
+    ensures free { result
+        ≡ free_from profile (used_by rows.now) (chip_by rows.now) first (g - (first + 1)) }
     ensures most { result ≤ 5 }
 {
     let mut free = 1;
@@ -73,7 +74,10 @@ pub fn free_of(profile: Profile, rows: &[Row], first: u8, g: u8) -> u8
 // The points that the transfers of a gameweek after the first cost.
 pub fn cost_of(profile: Profile, rows: &[Row], first: u8, g: u8) -> u32
     requires { first < g }
-    ensures value { result ≡ transfer_cost (free_from profile (used_by rows.now) (chip_by rows.now) first (g - (first + 1))) (used_by rows.now g) (chip_by rows.now g) }
+    ensures value { result
+        ≡ transfer_cost
+        (free_from profile (used_by rows.now) (chip_by rows.now) first (g - (first + 1)))
+        (used_by rows.now g) (chip_by rows.now g) }
     ensures most { result ≤ 4 * used_by rows.now g }
 {
     let (chip, used) = doings(rows, g);
@@ -89,7 +93,8 @@ pub fn cost_of(profile: Profile, rows: &[Row], first: u8, g: u8) -> u32
 
 // The transfers of a gameweek that a table counts.
 fn counted_in(rows: &[Row], first: u8, g: u8) -> u16
-    ensures { result ≡ (if (g == first) || makes_free (chip_by rows.now g) then 0 else used_by rows.now g) }
+    ensures { result
+        ≡ (if (g == first) || makes_free (chip_by rows.now g) then 0 else used_by rows.now g) }
 {
     let (chip, used) = doings(rows, g);
     if g == first {

@@ -117,7 +117,9 @@ impl Books<'_> {
 
     // Whether the first gameweek of an entry is that of a number or one before it.
     fn begins_by(&self, entry: EntryId, gameweek: u8) -> bool
-        ensures { result ≡ option_map_or (λ first. nat_le first gameweek) ((facts_of self.now).first entry) false }
+        ensures { result
+            ≡ option_map_or (λ first. nat_le first gameweek)
+            ((facts_of self.now).first entry) false }
     {
         match self.managers.first(entry) {
             Some(first) => first.get() <= gameweek,
@@ -147,7 +149,10 @@ impl Books<'_> {
 
     // Whether a classic league of an entry starts with a gameweek.
     fn has_league_from(&self, entry: EntryId, start: Gw) -> bool
-        ensures { result ≡ list_any (λ k. start == k) (flat_map (classic_starts self.now.leagues.now) (leagues_of self.now.leagues.now entry)) }
+        ensures { result
+            ≡ list_any (λ k. start == k)
+            (flat_map (classic_starts self.now.leagues.now)
+            (leagues_of self.now.leagues.now entry)) }
     {
         for league in self.leagues.leagues_of(entry) {
             if self.starts_with(*league, start) {

@@ -69,7 +69,9 @@ impl Index {
 
     /// An entry holds a player in a gameweek from now on. After want of memory the index has to be made anew.
     pub fn hold(&mut self, player: PlayerId, gameweek: Gw, entry: EntryId) -> Result<(), Memory>
-        ensures { OnOk result (HasHolders self.old self.new player gameweek (holders_in self.old player gameweek ++ entry ∷ [])) }
+        ensures { OnOk result
+            (HasHolders self.old self.new player gameweek
+            (holders_in self.old player gameweek ++ entry ∷ [])) }
     {
         hold_in(&mut self.rows, self.alloc, player, gameweek, entry)?;
         Ok(())
@@ -84,7 +86,9 @@ fn hold_in(
     gameweek: Gw,
     entry: EntryId,
 ) -> Result<(), Memory>
-    ensures { OnOk result (HasHolders rows.old.entries rows.new.entries player gameweek (holders_in rows.old.entries player gameweek ++ entry ∷ [])) }
+    ensures { OnOk result
+        (HasHolders rows.old.entries rows.new.entries player gameweek
+        (holders_in rows.old.entries player gameweek ++ entry ∷ [])) }
 {
     if let Some(row) = rows.get_mut(&(gameweek, player)) {
         row.push(entry)?;

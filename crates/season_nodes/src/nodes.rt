@@ -42,7 +42,8 @@ impl Node {
     // Its kind and its numbers, each 0 where it has none.
     #[inline(always)]
     fn numbers(&self) -> (u8, u32, u32, u16)
-        ensures { result ≡ (kind_of self.now, first_of self.now, second_of self.now, third_of self.now) }
+        ensures { result
+            ≡ (kind_of self.now, first_of self.now, second_of self.now, third_of self.now) }
     {
         match self {
             Node::Line(fixture, player) => (0, fixture.get(), player.get(), 0),
@@ -68,7 +69,9 @@ impl Node {
     // in the next 22, and the third in the highest 16. A greater number reaches into the bits of the next one.
     #[inline(always)]
     fn packed(&self) -> u64
-        ensures { result ≡ packed (kind_of self.now) (first_of self.now) (second_of self.now) (third_of self.now) }
+        ensures { result
+            ≡ packed (kind_of self.now) (first_of self.now) (second_of self.now)
+            (third_of self.now) }
     {
         let (kind, first, second, third) = self.numbers();
         u64::from(kind) ^ u64::from(first) << 4 ^ u64::from(second) << 26 ^ u64::from(third) << 48

@@ -29,7 +29,8 @@ impl Books<'_> {
     /// The place of an entry in the order of a league, counted from 0; `None` where it has none.
     pub fn place(&self, league: LeagueId, entry: EntryId) -> Option<usize>
         ensures value { result ≡ place_of (order_in self.now.leagues.now league) entry }
-        ensures within { IfSome result (λ place. place < length (order_in self.now.leagues.now league)) }
+        ensures within { IfSome result
+            (λ place. place < length (order_in self.now.leagues.now league)) }
     {
         match self.leagues.get(league) {
             Some(league) => league.place(entry),
@@ -66,7 +67,8 @@ impl Books<'_> {
     pub fn opponent(&self, league: LeagueId, gameweek: Gw, place: usize) -> Opponent
         requires { place < length (order_in self.now.leagues.now league) }
         ensures value { result ≡ opponent_in (facts_of self.now) league gameweek place }
-        ensures within { (j : ℕ) → result ≡ Opponent.Place j → j < length (order_in self.now.leagues.now league) }
+        ensures within { (j : ℕ) → result ≡ Opponent.Place j
+            → j < length (order_in self.now.leagues.now league) }
     {
         // The law by which it meets one opponent, for the prover.
         opponent_is_the_one();

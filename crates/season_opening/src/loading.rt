@@ -26,10 +26,18 @@ pub enum OpenFault {
 
 /// The books that the keeper's records tell. It takes memory in proportion to the records.
 pub fn loaded<K: Keeper>(alloc: Global, keeper: &mut K) -> Result<Restored, OpenFault>
-    ensures made { IfOk result (λ made. (operator : List ℕ) → AreLoaded (K.tells keeper.new) (K.holds keeper.old) (K.holds keeper.new) (K.passes keeper.new) (host_rows operator made.running made.lasts)) }
-    ensures damaged { (key : RecordKey) → result ≡ Err (fault.Damaged key) → IsDamaged (K.tells keeper.new) (K.holds keeper.old) (K.holds keeper.new) (K.passes keeper.new) key }
-    ensures kept { OnErr result (K.tells keeper.new → K.serves keeper.new → (m : Map) → K.holds keeper.old m → K.holds keeper.new m) }
-    ensures stops { K.tells keeper.new → (m : Map) → K.holds keeper.old m → (x : Map) → K.passes keeper.new x → K.passes keeper.old x }
+    ensures made { IfOk result
+        (λ made. (operator : List ℕ)
+        → AreLoaded (K.tells keeper.new) (K.holds keeper.old) (K.holds keeper.new)
+        (K.passes keeper.new) (host_rows operator made.running made.lasts)) }
+    ensures damaged { (key : RecordKey) → result ≡ Err (fault.Damaged key)
+        → IsDamaged (K.tells keeper.new) (K.holds keeper.old) (K.holds keeper.new)
+        (K.passes keeper.new) key }
+    ensures kept { OnErr result
+        (K.tells keeper.new → K.serves keeper.new → (m : Map) → K.holds keeper.old m
+        → K.holds keeper.new m) }
+    ensures stops { K.tells keeper.new → (m : Map) → K.holds keeper.old m → (x : Map)
+        → K.passes keeper.new x → K.passes keeper.old x }
     ensures told { K.tells keeper.new → K.tells keeper.old }
     ensures served { K.tells keeper.new → K.serves keeper.new → K.serves keeper.old }
     ensures serves { OnOk result (K.tells keeper.new → K.serves keeper.new) }
@@ -47,8 +55,11 @@ pub fn loaded<K: Keeper>(alloc: Global, keeper: &mut K) -> Result<Restored, Open
 // The books that records tell.
 fn restored(alloc: Global, rows: &[(RecordKey, Bytes)]) -> Result<Restored, OpenFault>
     requires { KeysRise rows.now }
-    ensures made { IfOk result (λ made. (operator : List ℕ) → AreMadeOf (map_of rows.now) (host_rows operator made.running made.lasts)) }
-    ensures damaged { (key : RecordKey) → result ≡ Err (fault.Damaged key) → judged rows.now ≡ Some key }
+    ensures made { IfOk result
+        (λ made. (operator : List ℕ)
+        → AreMadeOf (map_of rows.now) (host_rows operator made.running made.lasts)) }
+    ensures damaged { (key : RecordKey) → result ≡ Err (fault.Damaged key)
+        → judged rows.now ≡ Some key }
     ensures given { result ≢ Err fault.Keeper }
 {
     match judge(alloc, rows) {

@@ -32,8 +32,12 @@ pub struct Restored {
 pub fn books_of(alloc: Global, rows: &[(RecordKey, Bytes)]) -> Result<Restored, Memory>
     requires rise { KeysRise rows.now }
     requires lawful { judged rows.now ≡ None }
-    ensures told { IfOk result (λ made. (operator : List ℕ) (s : Slot) → told_by (host_rows operator made.running made.lasts) s ≡ told (map_of rows.now) s) }
-    ensures ordered { IfOk result (λ made. (operator : List ℕ) → AreRowsInOrder (host_rows operator made.running made.lasts)) }
+    ensures told { IfOk result
+        (λ made. (operator : List ℕ) (s : Slot)
+        → told_by (host_rows operator made.running made.lasts) s ≡ told (map_of rows.now) s) }
+    ensures ordered { IfOk result
+        (λ made. (operator : List ℕ)
+        → AreRowsInOrder (host_rows operator made.running made.lasts)) }
 {
     let lasts = lasts_of(alloc, rows)?;
     let season = facts_of(alloc, rows)?;

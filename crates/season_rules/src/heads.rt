@@ -102,7 +102,9 @@ fn nets_of<L: Ledger>(
     cells: &SeasonCells,
     steps: &mut Steps<L>,
 ) -> Result<Vec<i32>, Memory>
-    ensures value { IfOk result (λ nets. nets.items ≡ map (λ e. net_by (facts_of books.now) (held_values cells.now) e gameweek) order.now) }
+    ensures value { IfOk result
+        (λ nets. nets.items
+        ≡ map (λ e. net_by (facts_of books.now) (held_values cells.now) e gameweek) order.now) }
     ensures near { IfOk result (λ nets. All (IsWithin 18000000) nets.items) }
     ensures cost { steps.new ≤ steps.old + length order.now }
 {
@@ -134,7 +136,9 @@ pub(crate) fn average_points<L: Ledger>(
     steps: &mut Steps<L>,
 ) -> Result<i32, Memory>
     requires { 0 < length (order_in books.now.leagues.now league) }
-    ensures value { IfOk result (λ points. points ≡ average_by (facts_of books.now) (held_values cells.now) league gameweek) }
+    ensures value { IfOk result
+        (λ points. points
+        ≡ average_by (facts_of books.now) (held_values cells.now) league gameweek) }
     ensures near { IfOk result (λ points. IsWithin 18000000 points) }
     ensures cost { steps.new ≤ steps.old + 65 }
 {
@@ -151,8 +155,10 @@ fn points_of<L: Ledger>(
     cells: &SeasonCells,
     steps: &mut Steps<L>,
 ) -> i32
-    requires there { (j : ℕ) → opponent ≡ Opponent.Place j → j < length (order_in books.now.leagues.now league) }
-    ensures value { result ≡ points_by (facts_of books.now) (held_values cells.now) league gameweek opponent }
+    requires there { (j : ℕ) → opponent ≡ Opponent.Place j
+        → j < length (order_in books.now.leagues.now league) }
+    ensures value { result
+        ≡ points_by (facts_of books.now) (held_values cells.now) league gameweek opponent }
     ensures near { IsWithin 18000000 result }
     ensures cost { steps.new ≤ steps.old + 1 }
 {
@@ -174,7 +180,8 @@ pub(crate) fn match_scores<L: Ledger>(
     steps: &mut Steps<L>,
 ) -> MatchScores
     requires { place < length (order_in books.now.leagues.now league) }
-    ensures value { result ≡ match_by (facts_of books.now) (held_values cells.now) league gameweek place }
+    ensures value { result
+        ≡ match_by (facts_of books.now) (held_values cells.now) league gameweek place }
     ensures cost { steps.new ≤ steps.old + 2 }
 {
     let low = net_of(books, books.order(league)[place], gameweek, cells, steps);
@@ -185,7 +192,8 @@ pub(crate) fn match_scores<L: Ledger>(
 
 // How many rounds of a league are locked.
 pub(crate) fn rounds_of(books: &Books, league: LeagueId) -> u8
-    ensures count { result ≡ (books.now.calendar.now.locked + 1) - start_in books.now.leagues.now league }
+    ensures count { result
+        ≡ (books.now.calendar.now.locked + 1) - start_in books.now.leagues.now league }
     ensures few { 0 < length (order_in books.now.leagues.now league) → result ≤ 38 }
     ensures inside { (k : ℕ) → k < result → start_in books.now.leagues.now league + k < 39 }
 {
@@ -211,7 +219,8 @@ fn seen<L: Ledger>(
     steps: &mut Steps<L>,
 ) -> (i32, i32)
     requires { place < length (order_in books.now.leagues.now league) }
-    ensures value { result ≡ seen_by (facts_of books.now) (held_values cells.now) league place gameweek }
+    ensures value { result
+        ≡ seen_by (facts_of books.now) (held_values cells.now) league place gameweek }
     ensures near { IsWithin 18000000 result.0 }
     ensures cost { steps.new ≤ steps.old + 1 }
 {
@@ -237,7 +246,9 @@ fn matches<L: Ledger>(
     steps: &mut Steps<L>,
 ) -> Result<Vec<(i32, i32)>, Memory>
     requires { place < length (order_in books.now.leagues.now league) }
-    ensures value { IfOk result (λ matches. matches.items ≡ matches_by (facts_of books.now) (held_values cells.now) league place) }
+    ensures value { IfOk result
+        (λ matches. matches.items
+        ≡ matches_by (facts_of books.now) (held_values cells.now) league place) }
     ensures few { IfOk result (λ matches. length matches.items ≤ 38) }
     ensures near { IfOk result (λ matches. All (λ m. IsWithin 18000000 m.0) matches.items) }
     ensures cost { steps.new ≤ steps.old + 38 }
@@ -259,7 +270,8 @@ pub(crate) fn head_row<L: Ledger>(
     cells: &SeasonCells,
     steps: &mut Steps<L>,
 ) -> Result<HeadScore, Memory>
-    ensures value { IfOk result (λ score. score ≡ head_by (facts_of books.now) (held_values cells.now) league entry) }
+    ensures value { IfOk result
+        (λ score. score ≡ head_by (facts_of books.now) (held_values cells.now) league entry) }
     ensures cost { steps.new ≤ steps.old + 39 }
 {
     match books.place(league, entry) {

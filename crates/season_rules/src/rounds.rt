@@ -27,8 +27,10 @@ pub(crate) fn team_if(books: &Books, entry: EntryId, gameweek: Gw) -> Option<Nod
 
 // What tells the points of an opponent in a gameweek, if it is live.
 fn opponent_input(books: &Books, league: LeagueId, gameweek: Gw, opponent: Opponent) -> Option<Node>
-    requires there { (j : ℕ) → opponent ≡ Opponent.Place j → j < length (order_in books.now.leagues.now league) }
-    ensures { option_to_list result ≡ opponent_inputs (facts_of books.now) league gameweek opponent }
+    requires there { (j : ℕ) → opponent ≡ Opponent.Place j
+        → j < length (order_in books.now.leagues.now league) }
+    ensures { option_to_list result
+        ≡ opponent_inputs (facts_of books.now) league gameweek opponent }
 {
     match opponent {
         Opponent::Place(other) => team_if(books, books.order(league)[other], gameweek),
@@ -141,7 +143,8 @@ pub(crate) fn row_inputs(
 // The place of an entry in the order of a league that has a round in a gameweek.
 fn place_in(books: &Books, entry: EntryId, gameweek: Gw, league: LeagueId) -> Option<usize>
     ensures value { result ≡ place_in (facts_of books.now) entry gameweek league }
-    ensures within { IfSome result (λ place. place < length (order_in books.now.leagues.now league)) }
+    ensures within { IfSome result
+        (λ place. place < length (order_in books.now.leagues.now league)) }
 {
     if books.has_round(league, gameweek) {
         books.place(league, entry)
@@ -178,7 +181,8 @@ pub(crate) fn with_round(
     league: LeagueId,
 ) -> Result<Vec<Node>, Memory>
     ensures { IfOk result
-        (λ ns. ns.items ≡ found.items ++ round_dependents (facts_of books.now) entry gameweek league) }
+        (λ ns. ns.items
+        ≡ found.items ++ round_dependents (facts_of books.now) entry gameweek league) }
 {
     let Some(place) = place_in(books, entry, gameweek, league) else {
         return Ok(found);
@@ -220,7 +224,8 @@ pub(crate) fn average_dependents(
 
 // The row of an opponent in a league; none of the Average.
 fn opponent_row(books: &Books, league: LeagueId, opponent: Opponent) -> Option<Node>
-    requires there { (j : ℕ) → opponent ≡ Opponent.Place j → j < length (order_in books.now.leagues.now league) }
+    requires there { (j : ℕ) → opponent ≡ Opponent.Place j
+        → j < length (order_in books.now.leagues.now league) }
     ensures { option_to_list result ≡ opponent_dependents (facts_of books.now) league opponent }
 {
     match opponent {

@@ -128,7 +128,9 @@ fn gameweeks_of(
     gameweek: Gw,
 ) -> Result<Vec<Node>, Memory>
     ensures { IfOk result
-        (λ ns. ns.items ≡ map (λ p. Node.PlayerGw p gameweek) (filter (is_there (facts_of books.now)) (map (λ pick. pick.player) picks.now))) }
+        (λ ns. ns.items
+        ≡ map (λ p. Node.PlayerGw p gameweek)
+        (filter (is_there (facts_of books.now)) (map (λ pick. pick.player) picks.now))) }
 {
     let mut found = Vec::new(alloc);
     for pick in picks {
@@ -277,7 +279,8 @@ impl Rules for SeasonRules<'_> {
 
     type Value = Value;
 
-    ghost in_order = { λ r. IsSeason (facts_of r.books) × IsIndex (facts_of r.books) (holders_in r.index.now) };
+    ghost in_order = { λ r. IsSeason (facts_of r.books)
+        × IsIndex (facts_of r.books) (holders_in r.index.now) };
 
     ghost graph = { λ r. season_graph (facts_of r.books) };
 

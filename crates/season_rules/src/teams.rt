@@ -24,7 +24,8 @@ fn team_figures<L: Ledger>(
     cells: &SeasonCells,
     steps: &mut Steps<L>,
 ) -> [Figures; 15]
-    ensures value { result ≡ figures_of_fifteen (facts_of books.now) (held_values cells.now) team.now gameweek }
+    ensures value { result
+        ≡ figures_of_fifteen (facts_of books.now) (held_values cells.now) team.now gameweek }
     ensures modest { All IsModest result }
     ensures cost { steps.new ≤ steps.old + 15 }
 {
@@ -45,7 +46,9 @@ fn player_figures<L: Ledger>(
     cells: &SeasonCells,
     steps: &mut Steps<L>,
 ) -> Figures
-    ensures value { result ≡ (if is_there (facts_of books.now) player then figures_held (held_values cells.now (Node.PlayerGw player gameweek)) else no_figures) }
+    ensures value { result
+        ≡ (if is_there (facts_of books.now) player
+        then figures_held (held_values cells.now (Node.PlayerGw player gameweek)) else no_figures) }
     ensures modest { IsModest result }
     ensures cost { steps.new ≤ steps.old + 1 }
 {
@@ -65,7 +68,10 @@ fn score<L: Ledger>(
     steps: &mut Steps<L>,
 ) -> TeamScore
     requires { cost ≤ 4000 }
-    ensures value { result ≡ score_of team.now (figures_of_fifteen (facts_of books.now) (held_values cells.now) team.now gameweek) (ended (facts_of books.now) gameweek) cost }
+    ensures value { result
+        ≡ score_of team.now
+        (figures_of_fifteen (facts_of books.now) (held_values cells.now) team.now gameweek)
+        (ended (facts_of books.now) gameweek) cost }
     ensures near { IsWithin 18000000 result.net }
     ensures cost { steps.new ≤ steps.old + 15 }
 {

@@ -71,7 +71,8 @@ pub(crate) fn tie_inputs(
     round: u8,
     place: u16,
 ) -> Result<Vec<Node>, Memory>
-    ensures { is_played (facts_of books.now) cup round ≡ true → place < ties_after (bracket_of (facts_of books.now) cup) round → IfOk result
+    ensures { is_played (facts_of books.now) cup round ≡ true
+        → place < ties_after (bracket_of (facts_of books.now) cup) round → IfOk result
         (λ ns. ns.items ≡ inputs_of (facts_of books.now) (Node.Tie cup round place)) }
 {
     if !books.is_played(cup, round) {

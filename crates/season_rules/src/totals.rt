@@ -23,7 +23,9 @@ pub(crate) fn locked_from(books: &Books, start: Gw) -> u8
 // The gameweek at a place behind another one, if an entry has begun in it.
 pub(crate) fn counted_at(books: &Books, entry: EntryId, start: Gw, place: u8) -> Option<Gw>
     requires { place + start < 39 }
-    ensures { result ≡ (if has_begun (facts_of books.now) entry (start + place) then Some (start + place) else None) }
+    ensures { result
+        ≡ (if has_begun (facts_of books.now) entry (start + place) then Some (start + place)
+        else None) }
 {
     let number = start.get() + place;
     if books.has_begun(entry, number) {
@@ -68,7 +70,9 @@ fn net_at<L: Ledger>(
     cells: &SeasonCells,
     steps: &mut Steps<L>,
 ) -> i32
-    ensures value { result ≡ option_map_or (λ g. net_held (held_values cells.now (Node.TeamGw entry g))) gameweek (pos 0) }
+    ensures value { result
+        ≡ option_map_or (λ g. net_held (held_values cells.now (Node.TeamGw entry g))) gameweek
+        (pos 0) }
     ensures near { IsWithin 18000000 result }
     ensures cost { steps.new ≤ steps.old + 1 }
 {

@@ -119,7 +119,8 @@ fn side_among<L: Ledger>(
 ) -> Side
     requires tie { place < ties_after (bracket_of (facts_of books.now) cup) round }
     requires played { is_played (facts_of books.now) cup round ≡ true }
-    ensures value { result ≡ side_among (facts_of books.now) (held_values cells.now) cup round place entry }
+    ensures value { result
+        ≡ side_among (facts_of books.now) (held_values cells.now) cup round place entry }
     ensures cost { steps.new ≤ steps.old + 1 }
 {
     if !books.part(cup, round, usize::from(place)).contains(&entry) {
@@ -168,7 +169,11 @@ fn first_goes_on<L: Ledger>(
 ) -> bool
     requires tie { place < ties_after (bracket_of (facts_of books.now) cup) round }
     requires played { is_played (facts_of books.now) cup round ≡ true }
-    ensures value { result ≡ first_goes_on (side_among (facts_of books.now) (held_values cells.now) cup round place pair.0) (side_among (facts_of books.now) (held_values cells.now) cup round place pair.1) (coin_after (bracket_of (facts_of books.now) cup) round place) }
+    ensures value { result
+        ≡ first_goes_on
+        (side_among (facts_of books.now) (held_values cells.now) cup round place pair.0)
+        (side_among (facts_of books.now) (held_values cells.now) cup round place pair.1)
+        (coin_after (bracket_of (facts_of books.now) cup) round place) }
     ensures cost { steps.new ≤ steps.old + 2 }
 {
     let coin = books.coin(cup, round, usize::from(place));

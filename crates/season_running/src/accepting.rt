@@ -25,7 +25,8 @@ pub fn change(
 ) -> Result<Made, Memory>
     requires read { IsCommand command.now }
     requires granted { IsGrantedTo running.old caller.now now command.now }
-    ensures taken { IsTakenOrOut caller.now now number command.now running.old running.new lasts.old lasts.new result }
+    ensures taken { IsTakenOrOut caller.now now number command.now running.old running.new lasts.old
+        lasts.new result }
     ensures changed { OnOk result (IsChangedBy caller.now command.now running.old running.new) }
 {
     let made = running.made_by(command);

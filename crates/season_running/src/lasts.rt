@@ -78,7 +78,12 @@ impl Lasts {
 
     /// What a caller's last command made, where it is this one under this number.
     pub fn repeated(&self, caller: &Caller, number: u64, command: &Command) -> Option<Made>
-        ensures { MatchOption result ((made : Made) → at_id self.now (caller_number caller.now) ≡ Some (record { number = number; command = command.now; made = made }) → ⊥) (λ made. at_id self.now (caller_number caller.now) ≡ Some (record { number = number; command = command.now; made = made })) }
+        ensures { MatchOption result
+            ((made : Made)
+            → at_id self.now (caller_number caller.now)
+            ≡ Some (record { number = number; command = command.now; made = made }) → ⊥)
+            (λ made. at_id self.now (caller_number caller.now)
+            ≡ Some (record { number = number; command = command.now; made = made })) }
     {
         match self.rows.get(&number_of(caller)) {
             Some(last) => last.repeated(number, command),
@@ -88,9 +93,16 @@ impl Lasts {
 
     /// Puts a command in the place of the caller's last one, which is handed out; unchanged after want of memory.
     pub fn put(&mut self, caller: &Caller, last: LastCommand) -> Result<Option<LastCommand>, Memory>
-        ensures put { IfOk result (λ before. self.new ≡ placed_at self.old (caller_number caller.now) ((caller_number caller.now, last) ∷ [])) }
-        ensures back { IfOk result (λ before. self.old ≡ placed_at self.new (caller_number caller.now) (row_at (caller_number caller.now) before)) }
-        ensures there { IfOk result (λ before. at_id self.new (caller_number caller.now) ≡ Some last) }
+        ensures put { IfOk result
+            (λ before. self.new
+            ≡ placed_at self.old (caller_number caller.now)
+            ((caller_number caller.now, last) ∷ [])) }
+        ensures back { IfOk result
+            (λ before. self.old
+            ≡ placed_at self.new (caller_number caller.now)
+            (row_at (caller_number caller.now) before)) }
+        ensures there { IfOk result
+            (λ before. at_id self.new (caller_number caller.now) ≡ Some last) }
         ensures err { OnErr result (self.new ≡ self.old) }
     {
         Ok(self.rows.insert(number_of(caller), last)?)
@@ -99,7 +111,9 @@ impl Lasts {
     /// Puts back what stood there before a `put`. It takes no memory.
     pub fn put_back(&mut self, caller: &Caller, before: Option<LastCommand>)
         requires { IsSome (at_id self.old (caller_number caller.now)) }
-        ensures { self.new ≡ placed_at self.old (caller_number caller.now) (row_at (caller_number caller.now) before) }
+        ensures { self.new
+            ≡ placed_at self.old (caller_number caller.now)
+            (row_at (caller_number caller.now) before) }
     {
         match before {
             Some(last) => {
@@ -149,7 +163,10 @@ impl LastCommand {
 
     // What it made, where it is this command under this number.
     fn repeated(&self, number: u64, command: &Command) -> Option<Made>
-        ensures { MatchOption result ((made : Made) → self.now ≡ record { number = number; command = command.now; made = made } → ⊥) (λ made. self.now ≡ record { number = number; command = command.now; made = made }) }
+        ensures { MatchOption result
+            ((made : Made)
+            → self.now ≡ record { number = number; command = command.now; made = made } → ⊥)
+            (λ made. self.now ≡ record { number = number; command = command.now; made = made }) }
     {
         if self.number == number && self.command.is_same(command) {
             Some(self.made)

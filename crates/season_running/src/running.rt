@@ -55,7 +55,13 @@ impl Model for RunningSeason {
 
     ghost Value = { Running };
 
-    ghost view = { λ r. record { facts = r.season; managers = r.managers.managers; leagues = r.leagues; cups = r.cups } };
+    ghost view = { λ r.
+        record {
+          facts = r.season;
+          managers = r.managers.managers;
+          leagues = r.leagues;
+          cups = r.cups;
+        } };
 
     ghost invariant = { λ r. InStep r.season r.managers r.leagues };
 }
@@ -77,7 +83,13 @@ impl RunningSeason {
     /// The season of these facts, entries, leagues and cups, as they are told of a season that was kept.
     pub fn of_parts(season: Season, managers: ManagerBook, leagues: Leagues, cups: Cups) -> Self
         requires { InStep season managers leagues }
-        ensures { result ≡ record { facts = season; managers = managers.managers; leagues = leagues; cups = cups } }
+        ensures { result
+            ≡ record {
+              facts = season;
+              managers = managers.managers;
+              leagues = leagues;
+              cups = cups;
+            } }
     {
         RunningSeason {
             season,
@@ -142,7 +154,9 @@ impl RunningSeason {
 
     /// The entry that has these bytes as its key; `None` where nobody has, and so where they are no key.
     pub fn owner_of(&self, bytes: &[u8]) -> Option<Caller>
-        ensures { result ≡ (if is_key bytes.now then entry_with (keys_of self.now.managers) bytes.now else None) }
+        ensures { result
+            ≡ (if is_key bytes.now then entry_with (keys_of self.now.managers) bytes.now
+            else None) }
     {
         // The law that the keys are those of the managers, for the prover, as is the key, which bytes that are no key are not.
         owners_are_alike();
@@ -171,7 +185,8 @@ impl RunningSeason {
     ) -> Result<(), Answer>
         requires { IsCommand command.now }
         ensures granted { OnOk result (IsGrantedTo self.now caller.now now command.now) }
-        ensures ruled { (book : Book) → Plays self.now book → IsRuled (ruled operator.now book caller.now now command.now) result }
+        ensures ruled { (book : Book) → Plays self.now book
+            → IsRuled (ruled operator.now book caller.now now command.now) result }
         ensures refusal { IfErr result IsRefusal }
         ensures counted { steps.new ≤ steps.old + 1 }
     {
@@ -187,8 +202,10 @@ impl RunningSeason {
     // The same of the command that makes an entry.
     fn judge_entry(&self, operator: &Key, command: &Command) -> Result<(), Answer>
         requires { part_of command.now ≡ part.Entries }
-        ensures granted { (now : ℕ) (caller : Caller) → OnOk result (IsGrantedTo self.now caller now command.now) }
-        ensures ruled { (now : ℕ) (caller : Caller) (book : Book) → Plays self.now book → IsRuled (ruled operator.now book caller now command.now) result }
+        ensures granted { (now : ℕ) (caller : Caller)
+            → OnOk result (IsGrantedTo self.now caller now command.now) }
+        ensures ruled { (now : ℕ) (caller : Caller) (book : Book) → Plays self.now book
+            → IsRuled (ruled operator.now book caller now command.now) result }
         ensures refusal { IfErr result IsRefusal }
     {
         match command {
@@ -204,8 +221,10 @@ impl RunningSeason {
     fn judge_deed(&self, caller: &Caller, command: &Command) -> Result<(), Answer>
         requires read { IsCommand command.now }
         requires deed { part_of command.now ≡ part.Deeds }
-        ensures granted { (now : ℕ) → OnOk result (IsGrantedTo self.now caller.now now command.now) }
-        ensures ruled { (operator : List ℕ) (now : ℕ) (book : Book) → Plays self.now book → IsRuled (ruled operator book caller.now now command.now) result }
+        ensures granted { (now : ℕ)
+            → OnOk result (IsGrantedTo self.now caller.now now command.now) }
+        ensures ruled { (operator : List ℕ) (now : ℕ) (book : Book) → Plays self.now book
+            → IsRuled (ruled operator book caller.now now command.now) result }
         ensures refusal { IfErr result IsRefusal }
     {
         // The laws on which entries are there, and when their managers act, for the prover.
@@ -226,8 +245,10 @@ impl RunningSeason {
     // The same of a command on leagues.
     fn judge_league(&self, caller: &Caller, command: &Command) -> Result<(), Answer>
         requires { part_of command.now ≡ part.Leagues }
-        ensures granted { (now : ℕ) → OnOk result (IsGrantedTo self.now caller.now now command.now) }
-        ensures ruled { (operator : List ℕ) (now : ℕ) (book : Book) → Plays self.now book → IsRuled (ruled operator book caller.now now command.now) result }
+        ensures granted { (now : ℕ)
+            → OnOk result (IsGrantedTo self.now caller.now now command.now) }
+        ensures ruled { (operator : List ℕ) (now : ℕ) (book : Book) → Plays self.now book
+            → IsRuled (ruled operator book caller.now now command.now) result }
         ensures refusal { IfErr result IsRefusal }
     {
         judge_league(&self.season, &self.managers, &self.leagues, caller, command)
@@ -236,8 +257,10 @@ impl RunningSeason {
     // The same of the draw of a cup.
     fn judge_cup(&self, command: &Command) -> Result<(), Answer>
         requires { part_of command.now ≡ part.Cups }
-        ensures granted { (now : ℕ) (caller : Caller) → OnOk result (IsGrantedTo self.now caller now command.now) }
-        ensures ruled { (operator : List ℕ) (now : ℕ) (caller : Caller) (book : Book) → Plays self.now book → IsRuled (ruled operator book caller now command.now) result }
+        ensures granted { (now : ℕ) (caller : Caller)
+            → OnOk result (IsGrantedTo self.now caller now command.now) }
+        ensures ruled { (operator : List ℕ) (now : ℕ) (caller : Caller) (book : Book)
+            → Plays self.now book → IsRuled (ruled operator book caller now command.now) result }
         ensures refusal { IfErr result IsRefusal }
     {
         judge_cup(&self.season, &self.managers, &self.cups, command)
@@ -304,8 +327,10 @@ impl RunningSeason {
     fn add_entry(&mut self, command: &Command) -> Result<(), Memory>
         requires made { part_of command.now ≡ part.Entries }
         requires granted { HasRoom self.old.managers command.now }
-        ensures done { (now : ℕ) (caller : Caller) → OnOk result (IsDone caller now command.now self.old self.new) }
-        ensures changed { (caller : Caller) → OnOk result (IsChangedBy caller command.now self.old self.new) }
+        ensures done { (now : ℕ) (caller : Caller)
+            → OnOk result (IsDone caller now command.now self.old self.new) }
+        ensures changed { (caller : Caller)
+            → OnOk result (IsChangedBy caller command.now self.old self.new) }
         ensures err { OnErr result (self.new ≡ self.old) }
     {
         // The law that the members of leagues are entries, for the prover.
@@ -323,8 +348,12 @@ impl RunningSeason {
     fn do_deed(&mut self, caller: &Caller, command: &Command) -> Result<(), Memory>
         requires read { IsCommand command.now }
         requires deed { part_of command.now ≡ part.Deeds }
-        requires granted { (1 ≤ caller_number caller.now) × (caller_number caller.now ≤ length self.old.managers) × IsDeedGranted self.old.facts (manager_in self.old.managers (caller_number caller.now)).season command.now }
-        ensures done { (now : ℕ) → OnOk result (IsDone caller.now now command.now self.old self.new) }
+        requires granted { (1 ≤ caller_number caller.now)
+            × (caller_number caller.now ≤ length self.old.managers)
+            × IsDeedGranted self.old.facts
+            (manager_in self.old.managers (caller_number caller.now)).season command.now }
+        ensures done { (now : ℕ)
+            → OnOk result (IsDone caller.now now command.now self.old self.new) }
         ensures changed { OnOk result (IsChangedBy caller.now command.now self.old self.new) }
         ensures err { OnErr result (self.new ≡ self.old) }
     {
@@ -341,8 +370,10 @@ impl RunningSeason {
     // Does a command on leagues.
     fn do_league(&mut self, caller: &Caller, command: &Command) -> Result<(), Memory>
         requires part { part_of command.now ≡ part.Leagues }
-        requires granted { IsLeagueGranted self.old.facts self.old.managers self.old.leagues (caller_number caller.now) command.now }
-        ensures done { (now : ℕ) → OnOk result (IsDone caller.now now command.now self.old self.new) }
+        requires granted { IsLeagueGranted self.old.facts self.old.managers self.old.leagues
+            (caller_number caller.now) command.now }
+        ensures done { (now : ℕ)
+            → OnOk result (IsDone caller.now now command.now self.old self.new) }
         ensures changed { OnOk result (IsChangedBy caller.now command.now self.old self.new) }
         ensures err { OnErr result (self.new ≡ self.old) }
     {
@@ -361,8 +392,10 @@ impl RunningSeason {
     fn do_cup(&mut self, command: &Command) -> Result<(), Memory>
         requires part { part_of command.now ≡ part.Cups }
         requires granted { IsCupGranted self.old.facts self.old.cups command.now }
-        ensures done { (now : ℕ) (caller : Caller) → OnOk result (IsDone caller now command.now self.old self.new) }
-        ensures changed { (caller : Caller) → OnOk result (IsChangedBy caller command.now self.old self.new) }
+        ensures done { (now : ℕ) (caller : Caller)
+            → OnOk result (IsDone caller now command.now self.old self.new) }
+        ensures changed { (caller : Caller)
+            → OnOk result (IsChangedBy caller command.now self.old self.new) }
         ensures err { OnErr result (self.new ≡ self.old) }
     {
         do_cup(&self.season, &mut self.cups, command)
@@ -377,7 +410,8 @@ impl RunningSeason {
         steps: &mut Steps<L>,
     ) -> Answer
         requires { AreKeptBy self.now cells.now }
-        ensures seen { (book : Book) → Plays self.now book → last ≡ last_number book caller.now → result ≡ seen_in book caller.now view.Me self.now.facts }
+        ensures seen { (book : Book) → Plays self.now book → last ≡ last_number book caller.now
+            → result ≡ seen_in book caller.now view.Me self.now.facts }
         ensures storeless { IsStoreless result }
         ensures cost { steps.new ≤ steps.old + 4 }
     {
@@ -407,7 +441,8 @@ impl RunningSeason {
         steps: &mut Steps<L>,
     ) -> Answer
         requires { AreKeptBy self.now cells.now }
-        ensures seen { (caller : Caller) (book : Book) → Plays self.now book → result ≡ seen_in book caller (view.EntryGameweek entry gameweek) self.now.facts }
+        ensures seen { (caller : Caller) (book : Book) → Plays self.now book
+            → result ≡ seen_in book caller (view.EntryGameweek entry gameweek) self.now.facts }
         ensures storeless { IsStoreless result }
         ensures cost { steps.new ≤ steps.old + 2 }
     {
@@ -426,9 +461,12 @@ impl RunningSeason {
         steps: &mut Steps<L>,
     ) -> Answer
         requires { AreKeptBy self.now cells.now }
-        ensures seen { (caller : Caller) (book : Book) → Plays self.now book → IsShown (seen_in book caller (view.League number) self.now.facts) result }
+        ensures seen { (caller : Caller) (book : Book) → Plays self.now book
+            → IsShown (seen_in book caller (view.League number) self.now.facts) result }
         ensures storeless { IsStoreless result }
-        ensures cost { (caller : Caller) (book : Book) → Plays self.now book → steps.new ≤ steps.old + reads_allowed (seen_in book caller (view.League number) self.now.facts) }
+        ensures cost { (caller : Caller) (book : Book) → Plays self.now book
+            → steps.new
+            ≤ steps.old + reads_allowed (seen_in book caller (view.League number) self.now.facts) }
     {
         let Some(id) = LeagueId::new(number) else {
             return Answer::Unknown;
@@ -456,9 +494,12 @@ impl RunningSeason {
         steps: &mut Steps<L>,
     ) -> Answer
         requires { AreKeptBy self.now cells.now }
-        ensures seen { (caller : Caller) (book : Book) → Plays self.now book → IsShown (seen_in book caller (view.Cup number) self.now.facts) result }
+        ensures seen { (caller : Caller) (book : Book) → Plays self.now book
+            → IsShown (seen_in book caller (view.Cup number) self.now.facts) result }
         ensures storeless { IsStoreless result }
-        ensures cost { (caller : Caller) (book : Book) → Plays self.now book → steps.new ≤ steps.old + reads_allowed (seen_in book caller (view.Cup number) self.now.facts) }
+        ensures cost { (caller : Caller) (book : Book) → Plays self.now book
+            → steps.new
+            ≤ steps.old + reads_allowed (seen_in book caller (view.Cup number) self.now.facts) }
     {
         let Some(id) = CupId::new(number) else {
             return Answer::Unknown;

@@ -57,7 +57,8 @@ fn classic_rows<L: Ledger>(
     requires kept { AreKeptWith season.now managers.now league.now cells.now }
     requires kind { is_head league.now.kind ≡ false }
     ensures value { IfOk result (λ rows. OfEachBook season.now managers.now
-        (λ entries. rows.items ≡ map (classic_row_since season.now entries league.now.start) league.now.members)) }
+        (λ entries. rows.items
+        ≡ map (classic_row_since season.now entries league.now.start) league.now.members)) }
     ensures entries { IfOk result (λ rows. map (λ row. row.0) rows.items ≡ league.now.members) }
     ensures differ { AllDiffer league.now.members }
     ensures cost { steps.new ≤ steps.old + 2 * length league.now.members }
@@ -85,7 +86,8 @@ fn classic_table(alloc: Global, rows: &[(EntryId, i32, u32)]) -> Result<Vec<Rank
 // A row with the name of its entry.
 fn ranked_shown(managers: &ManagerBook, row: &Ranked) -> Result<ShownRanked, Memory>
     requires { row.now.entry ≤ length managers.now.managers }
-    ensures { IfOk result (λ shown. OfEachNames managers.now (λ entries. shown ≡ ranked_shown entries row.now)) }
+    ensures { IfOk result
+        (λ shown. OfEachNames managers.now (λ entries. shown ≡ ranked_shown entries row.now)) }
 {
     Ok(ShownRanked {
         row: *row,
@@ -100,7 +102,9 @@ fn classic_named(
     table: &[Ranked],
 ) -> Result<ListOf<ShownRanked>, Memory>
     requires { All (λ row. row.entry ≤ length managers.now.managers) table.now }
-    ensures { IfOk result (λ shown. OfEachNames managers.now (λ entries. shown ≡ map (ranked_shown entries) table.now)) }
+    ensures { IfOk result
+        (λ shown. OfEachNames managers.now
+        (λ entries. shown ≡ map (ranked_shown entries) table.now)) }
 {
     let mut shown = ListOf::with_room(alloc, table.len())?;
     for row in table {

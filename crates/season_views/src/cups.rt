@@ -46,8 +46,11 @@ fn winners_held<L: Ledger>(
 ) -> Result<Slots, Memory>
     requires shape { HasShape bracket.now }
     requires round { round < 10 }
-    ensures value { IfOk result (λ winners. (b : SeasonFacts) → AreEvaluated b cells.now → entry_in b.cups id ≡ Some bracket.now
-        → bracket.now.start + round ≤ b.calendar.locked → winners ≡ winners_of bracket.now (side_told b) (round + 1)) }
+    ensures value { IfOk result
+        (λ winners. (b : SeasonFacts) → AreEvaluated b cells.now
+        → entry_in b.cups id ≡ Some bracket.now
+        → bracket.now.start + round ≤ b.calendar.locked
+        → winners ≡ winners_of bracket.now (side_told b) (round + 1)) }
     ensures cost { steps.new ≤ steps.old + length bracket.now.slots / 2 ^ (round + 1) }
 {
     let count = ties(bracket, round);
@@ -61,7 +64,8 @@ fn winners_held<L: Ledger>(
 // Whether the gameweek of the round after so many rounds is locked.
 fn is_played(season: &Season, bracket: &Bracket, round: u8) -> bool
     requires { round < 10 }
-    ensures value { result ≡ nat_le (bracket.now.start + (round + 1)) (season.now.calendar.locked + 1) }
+    ensures value { result
+        ≡ nat_le (bracket.now.start + (round + 1)) (season.now.calendar.locked + 1) }
     ensures gameweek { IsTrue result → bracket.now.start + round ≤ season.now.calendar.locked }
     ensures first { 1 ≤ bracket.now.start }
 {
@@ -84,9 +88,15 @@ fn winners_shown<L: Ledger>(
     requires shape { HasShape bracket.now }
     requires round { round < 10 }
     ensures value { IfOk result (λ winners. OfEachBook season.now managers.now
-        (λ entries. winners ≡ locked_winners bracket.now (side_in season.now entries) season.now.calendar.locked (round + 1))) }
+        (λ entries. winners
+        ≡ locked_winners bracket.now (side_in season.now entries) season.now.calendar.locked
+        (round + 1))) }
     ensures cost { OfEachBook season.now managers.now
-        (λ entries. steps.new ≤ steps.old + option_map_or length (locked_winners bracket.now (side_in season.now entries) season.now.calendar.locked (round + 1)) 0) }
+        (λ entries. steps.new
+        ≤ steps.old
+        + option_map_or length
+        (locked_winners bracket.now (side_in season.now entries) season.now.calendar.locked
+        (round + 1)) 0) }
 {
     // The laws that rows tell what their histories do, how many winners a round has, and that the ids of players rise, for
     // the prover.
@@ -118,9 +128,11 @@ pub fn cup<L: Ledger>(
     ensures value { IfOk result (λ shown. OfEachBook season.now managers.now
         (λ entries. shown ≡ cup_shown season.now entries bracket.now)) }
     ensures each { OfEachBook season.now managers.now
-        (λ entries. steps.new ≤ steps.old + ties_of (cup_shown season.now entries bracket.now).rounds) }
+        (λ entries. steps.new
+        ≤ steps.old + ties_of (cup_shown season.now entries bracket.now).rounds) }
     ensures cost { OfEachBook season.now managers.now
-        (λ entries. steps.new ≤ steps.old + reads_of (shown_as.Cup (cup_shown season.now entries bracket.now))) }
+        (λ entries. steps.new
+        ≤ steps.old + reads_of (shown_as.Cup (cup_shown season.now entries bracket.now))) }
 {
     let mut shown = ListOf::with_room(alloc, 10)?;
     for round in 0..rounds(bracket) {

@@ -40,7 +40,8 @@ pub fn my_entry<L: Ledger>(
     requires profile { managers.now.profile ≡ season.now.profile }
     requires kept { AreKeptIn season.now managers.now cells.now }
     requires later { AllUpTo (gameweek_seen season.now.calendar) (season_of managers.now entry) }
-    ensures value { (h : List Event) → StandsFor (position_in season.now.players) (season_of managers.now entry) h
+    ensures value { (h : List Event)
+        → StandsFor (position_in season.now.players) (season_of managers.now entry) h
         → result ≡ (if is_started h then Some (me_shown season.now h entry last) else None) }
     ensures cost { steps.new ≤ steps.old + 4 }
 {
@@ -147,7 +148,8 @@ pub fn entry_gameweek<L: Ledger>(
 ) -> Option<ShownEntryGameweek>
     requires profile { managers.now.profile ≡ season.now.profile }
     requires kept { AreKeptIn season.now managers.now cells.now }
-    ensures value { (entries : List EntryFacts) → AreEntries season.now.players managers.now.managers entries
+    ensures value { (entries : List EntryFacts)
+        → AreEntries season.now.players managers.now.managers entries
         → result ≡ entry_shown season.now entries entry gameweek }
     ensures cost { steps.new ≤ steps.old + 2 }
 {
@@ -171,7 +173,9 @@ fn gameweek_of<L: Ledger>(
     requires kept { AreKeptIn season.now managers.now cells.now }
     requires locked { gameweek ≤ season.now.calendar.locked }
     ensures value { OfEachHistory season.now managers.now entry
-        (λ h. result ≡ (if is_begun h gameweek then Some (entry_gameweek_shown season.now h gameweek) else None)) }
+        (λ h. result
+        ≡ (if is_begun h gameweek then Some (entry_gameweek_shown season.now h gameweek)
+        else None)) }
     ensures cost { steps.new ≤ steps.old + 2 }
 {
     // The law that rows tell what their histories do, for the prover.
@@ -187,7 +191,9 @@ fn gameweek_of<L: Ledger>(
 
 // The entry of this number, if it was issued.
 fn issued(managers: &ManagerBook, number: u32) -> Option<EntryId>
-    ensures { result ≡ (if number == 0 || nat_lt (length managers.now.managers) number then None else Some number) }
+    ensures { result
+        ≡ (if number == 0 || nat_lt (length managers.now.managers) number then None
+        else Some number) }
 {
     if number == 0 || number > managers.entries() {
         return None;

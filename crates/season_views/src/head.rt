@@ -33,7 +33,9 @@ fn head_rows<L: Ledger>(
     league: &League,
     steps: &mut Steps<L>,
 ) -> Result<Vec<(EntryId, HeadScore)>, Memory>
-    ensures value { IfOk result (λ rows. (b : SeasonFacts) → AreEvaluated b cells.now → entry_in b.leagues id ≡ Some league.now
+    ensures value { IfOk result
+        (λ rows. (b : SeasonFacts) → AreEvaluated b cells.now
+        → entry_in b.leagues id ≡ Some league.now
         → rows.items ≡ head_rows (net_told b) b.calendar.locked league.now) }
     ensures entries { IfOk result (λ rows. map (λ row. row.0) rows.items ≡ league.now.members) }
     ensures differ { AllDiffer league.now.members }
@@ -62,7 +64,8 @@ fn head_table(alloc: Global, rows: &[(EntryId, HeadScore)]) -> Result<Vec<HeadRa
 // A row with the name of its entry.
 fn ranked_shown(managers: &ManagerBook, row: &HeadRanked) -> Result<ShownHeadRanked, Memory>
     requires { row.now.entry ≤ length managers.now.managers }
-    ensures { IfOk result (λ shown. OfEachNames managers.now (λ entries. shown ≡ head_ranked_shown entries row.now)) }
+    ensures { IfOk result
+        (λ shown. OfEachNames managers.now (λ entries. shown ≡ head_ranked_shown entries row.now)) }
 {
     Ok(ShownHeadRanked {
         row: *row,

@@ -9,7 +9,8 @@ use manager_book::ManagerBook;
 // The name of an entry that was issued.
 pub(crate) fn name_of(managers: &ManagerBook, entry: EntryId) -> Result<Name, Memory>
     requires { entry ≤ length managers.now.managers }
-    ensures { IfOk result (λ name. OfEachNames managers.now (λ entries. name ≡ name_of entries entry)) }
+    ensures { IfOk result
+        (λ name. OfEachNames managers.now (λ entries. name ≡ name_of entries entry)) }
 {
     match managers.name(entry) {
         Some(name) => name.copy(),

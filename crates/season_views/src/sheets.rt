@@ -26,7 +26,9 @@ pub(crate) fn lines_shown<L: Ledger>(
     steps: &mut Steps<L>,
 ) -> Result<ShownLines, Memory>
     requires { AreKeptOf season.now cells.now }
-    ensures value { IfOk result (λ lines. lines ≡ map (line_shown season.now fixture) (lines_of season.now.matches fixture)) }
+    ensures value { IfOk result
+        (λ lines. lines
+        ≡ map (line_shown season.now fixture) (lines_of season.now.matches fixture)) }
     ensures cost { steps.new ≤ steps.old + (1 + length (lines_of season.now.matches fixture)) }
 {
     // The law by which the lines of a fixture have what is told of their nodes, for the prover.
@@ -48,8 +50,10 @@ fn line_shown<L: Ledger>(
     player: PlayerId,
     steps: &mut Steps<L>,
 ) -> ShownLine
-    ensures value { (b : SeasonFacts) → AreEvaluated b cells.now → is_live b (Node.Line fixture player) ≡ true
-        → result ≡ line_with player (line_worth b fixture player) (unwrap_or (at_id bonuses.now player) 0) }
+    ensures value { (b : SeasonFacts) → AreEvaluated b cells.now
+        → is_live b (Node.Line fixture player) ≡ true
+        → result ≡ line_with player (line_worth b fixture player)
+        (unwrap_or (at_id bonuses.now player) 0) }
     ensures cost { steps.new ≡ steps.old + 1 }
 {
     let worth = line_held(cells, fixture, player, steps);

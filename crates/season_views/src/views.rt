@@ -30,7 +30,8 @@ pub fn show<L: Ledger>(
     requires { AreKeptOf season.now cells.now }
     ensures shown { IfOk result (λ shown. shown ≡ shown_of season.now view) }
     ensures out { OnErr result (IsSome (shown_of season.now view)) }
-    ensures cost { steps.new ≤ steps.old + reads_allowed (shown_or_unknown (shown_of season.now view)) }
+    ensures cost { steps.new
+        ≤ steps.old + reads_allowed (shown_or_unknown (shown_of season.now view)) }
 {
     match view {
         View::Season => Ok(Some(Shown::Season(season_shown(alloc, season)?))),
@@ -118,7 +119,8 @@ fn gameweek_shown<L: Ledger>(
 
 // The gameweek of this number, if it is locked.
 pub(crate) fn locked_gameweek(season: &Season, number: u32) -> Option<Gw>
-    ensures { result ≡ (if nat_le 1 number && is_locked season.now.calendar number then Some number else None) }
+    ensures { result
+        ≡ (if nat_le 1 number && is_locked season.now.calendar number then Some number else None) }
 {
     if number >= 1 && number <= u32::from(season.calendar().locked()) {
         Gw::new(number as u8)
@@ -137,7 +139,9 @@ fn fixture_shown<L: Ledger>(
     requires { AreKeptOf season.now cells.now }
     ensures shown { IfOk result (λ shown. shown ≡ shown_of season.now (view.Fixture fixture)) }
     ensures out { OnErr result (IsSome (shown_of season.now (view.Fixture fixture))) }
-    ensures cost { steps.new ≤ steps.old + reads_allowed (shown_or_unknown (shown_of season.now (view.Fixture fixture))) }
+    ensures cost { steps.new
+        ≤ steps.old
+        + reads_allowed (shown_or_unknown (shown_of season.now (view.Fixture fixture))) }
 {
     match season.fixture(fixture) {
         Some(there) => Ok(Some(Shown::Fixture(ShownFixture {

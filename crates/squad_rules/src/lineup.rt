@@ -9,7 +9,8 @@ use fpl_base::{Position, Rule};
 /// Whether ten outfield players may stand so: `d` defenders, `m` midfielders and `f` forwards.
 pub fn formation_ok(d: u8, m: u8, f: u8) -> bool
     ensures value { result ≡ is_formation d m f }
-    ensures ranges { IsTrue result ↔ ((3 ≤ d) × (d ≤ 5) × (2 ≤ m) × (m ≤ 5) × (1 ≤ f) × (f ≤ 3) × (d + m + f ≡ 10)) }
+    ensures ranges { IsTrue result
+        ↔ ((3 ≤ d) × (d ≤ 5) × (2 ≤ m) × (m ≤ 5) × (1 ≤ f) × (f ≤ 3) × (d + m + f ≡ 10)) }
 {
     if d < 3 || d > 5 || m < 2 || m > 5 || f < 1 || f > 3 {
         return false;

@@ -45,7 +45,8 @@ pub fn armband(team: &Team, figures: &[Figures; 15], ended: bool) -> Option<Armb
 // The same of any team, whatever its captain and its vice-captain are.
 pub(crate) fn wearer(team: &Team, figures: &[Figures; 15], ended: bool) -> Option<Armband>
     ensures value { result ≡ armband_of team.now figures.now ended }
-    ensures slot { InTeam team.now.captain → InTeam team.now.vice → IfSome result (λ a. InTeam a.slot) }
+    ensures slot { InTeam team.now.captain → InTeam team.now.vice
+        → IfSome result (λ a. InTeam a.slot) }
     ensures factor { IfSome result (λ a. (2 ≤ a.factor) × (a.factor ≤ 3)) }
 {
     if !ended {

@@ -21,7 +21,8 @@ pub fn final_eleven(team: &Team, figures: &[Figures; 15], ended: bool) -> Eleven
     ensures known { All InTeam result.slots }
     ensures keeper { IsKeeperSlot (slot_of result.slots 1) }
     ensures once { AllPairs (λ one other. one ≢ other) result.slots }
-    ensures played { (n : ℕ) → 1 ≤ n → n ≤ 11 → did_play figures.now n ≡ true → slot_of result.slots n ≡ n }
+    ensures played { (n : ℕ) → 1 ≤ n → n ≤ 11 → did_play figures.now n ≡ true
+        → slot_of result.slots n ≡ n }
 {
     if is_still(team, ended) {
         return Eleven {

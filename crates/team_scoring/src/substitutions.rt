@@ -49,7 +49,8 @@ fn fits(team: &Team, figures: &[Figures; 15], progress: &Progress, n: u8, bench:
     requires high { n ≤ 11 }
     requires from { 13 ≤ bench }
     requires to { bench ≤ 15 }
-    ensures { result ≡ is_legal_eleven team.now (take (n - 1) progress.now.slots ++ bench ∷ drop n starters) }
+    ensures { result
+        ≡ is_legal_eleven team.now (take (n - 1) progress.now.slots ++ bench ∷ drop n starters) }
 {
     let counts = progress.counts.after(team, n, bench);
     formation_ok(counts.defenders, counts.midfielders, counts.forwards)
@@ -87,7 +88,8 @@ fn replacement(team: &Team, figures: &[Figures; 15], progress: &Progress, n: u8)
     requires standing { Standing team.now figures.now n progress.now }
     requires low { 2 ≤ n }
     requires high { n ≤ 11 }
-    ensures first { result ≡ find (can_stand team.now figures.now (take (n - 1) progress.now.slots) n) bench }
+    ensures first { result
+        ≡ find (can_stand team.now figures.now (take (n - 1) progress.now.slots) n) bench }
     ensures range { IfSome result (λ slot. (13 ≤ slot) × (slot ≤ 15)) }
 {
     if stands(team, figures, progress, n, 13) {

@@ -32,9 +32,13 @@ pub fn apply(team: &Team, swaps: &[Swap], players: &Players) -> Result<(Team, Sa
 
     // What follows of them for whoever keeps a team over many batches.
     ensures one_by_one { IfOk result (λ done. GoOneByOne done.1 team.now.picks done.0.picks) }
-    ensures different { IfOk result (λ done. AreDifferent team.now.picks → AreDifferent done.0.picks) }
-    ensures positions { IfOk result (λ done. map (λ k. k.position) done.0.picks ≡ map (λ k. k.position) team.now.picks) }
-    ensures placed { IfOk result (λ done. (position : ℕ → Position) → HavePositions position players.now → ArePlaced position team.now.picks → ArePlaced position done.0.picks) }
+    ensures different { IfOk result
+        (λ done. AreDifferent team.now.picks → AreDifferent done.0.picks) }
+    ensures positions { IfOk result
+        (λ done. map (λ k. k.position) done.0.picks ≡ map (λ k. k.position) team.now.picks) }
+    ensures placed { IfOk result
+        (λ done. (position : ℕ → Position) → HavePositions position players.now
+        → ArePlaced position team.now.picks → ArePlaced position done.0.picks) }
     ensures cheap { IfOk result (λ done. All IsCheap done.1) }
     ensures gain { IfOk result (λ done. done.0.bank ≤ team.now.bank + 200 * length done.1) }
 {

@@ -42,14 +42,16 @@ fn has_come(swaps: &[Swap], player: PlayerId) -> bool
 
 // Whether a player cannot go after some swaps of the batch: he is not in the team, or has gone.
 fn cannot_go(picks: &[Pick; 15], earlier: &[Swap], player: PlayerId) -> bool
-    ensures { result ≡ (not (is_held picks.now player) || list_any (λ swap. swap.out == player) earlier.now) }
+    ensures { result
+        ≡ (not (is_held picks.now player) || list_any (λ swap. swap.out == player) earlier.now) }
 {
     !is_held(picks, player) || has_gone(earlier, player)
 }
 
 // Whether a player cannot come after some swaps of the batch: he is in the team, or has come.
 fn cannot_come(picks: &[Pick; 15], earlier: &[Swap], player: PlayerId) -> bool
-    ensures { result ≡ (is_held picks.now player || list_any (λ swap. swap.into == player) earlier.now) }
+    ensures { result
+        ≡ (is_held picks.now player || list_any (λ swap. swap.into == player) earlier.now) }
 {
     is_held(picks, player) || has_come(earlier, player)
 }

@@ -118,9 +118,12 @@ pub(crate) fn bank_after(bank: Tenths, sales: &[Sale]) -> Result<Tenths, u32>
     requires few { length sales.now ≤ 15 }
     requires cheap { All IsCheap sales.now }
     requires room { bank ≤ 9990000 }
-    ensures money { MatchResult result (λ left. left + paid_by sales.now ≡ bank + earned_by sales.now) (λ short. shortage bank sales.now ≡ Some short) }
+    ensures money { MatchResult result
+        (λ left. left + paid_by sales.now ≡ bank + earned_by sales.now)
+        (λ short. shortage bank sales.now ≡ Some short) }
     ensures bound { IfOk result (λ left. left ≤ bank + 200 * length sales.now) }
-    ensures enough { MatchResult result (λ left. shortage bank sales.now ≡ None) (λ short. shortage bank sales.now ≡ Some short) }
+    ensures enough { MatchResult result (λ left. shortage bank sales.now ≡ None)
+        (λ short. shortage bank sales.now ≡ Some short) }
 {
     let money = bank.get() + earned_by(sales);
     let paid = paid_by(sales);

@@ -43,7 +43,8 @@ pub fn store(
     ops: &[Op],
 ) -> Result<(), Memory>
     requires { AreOrdered tree.old.entries }
-    ensures stored { OnOk result (bodies_in tree.new.entries ≡ applied (bodies_in tree.old.entries) ops.now) }
+    ensures stored { OnOk result
+        (bodies_in tree.new.entries ≡ applied (bodies_in tree.old.entries) ops.now) }
     ensures kept { OnErr result (bodies_in tree.new.entries ≡ bodies_in tree.old.entries) }
     ensures order { AreOrdered tree.new.entries }
 {
@@ -65,7 +66,8 @@ pub fn store(
 // Makes one change, and gives the key with what stood in its place.
 fn change(alloc: Global, tree: &mut Places, op: &Op) -> Result<(RecordKey, Option<Bytes>), Memory>
     requires { AreOrdered tree.old.entries }
-    ensures stored { OnOk result (bodies_in tree.new.entries ≡ applied_one (bodies_in tree.old.entries) op.now) }
+    ensures stored { OnOk result
+        (bodies_in tree.new.entries ≡ applied_one (bodies_in tree.old.entries) op.now) }
     ensures was { IfOk result (IsStored tree.old.entries tree.new.entries) }
     ensures kept { OnErr result (tree.new.entries ≡ tree.old.entries) }
     ensures order { AreOrdered tree.new.entries }
@@ -100,7 +102,8 @@ fn exchange(
 fn put_back(tree: &mut Places, former: &mut Former)
     requires order { AreOrdered tree.old.entries }
     requires places { All (HasPlace tree.old.entries) former.old.items }
-    ensures map { bodies_in tree.new.entries ≡ undone (bodies_in tree.old.entries) former.old.items }
+    ensures map { bodies_in tree.new.entries
+        ≡ undone (bodies_in tree.old.entries) former.old.items }
     ensures order { AreOrdered tree.new.entries }
 {
     while let Some(was) = former.pop() {
