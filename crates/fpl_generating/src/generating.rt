@@ -89,7 +89,8 @@ fn tabled_behind<W: Sink, K: Keeper, L: Ledger>(
     ensures tabled { (moments : Option Moments) → Leads K.tells K.serves K.holds K.passes
         (record { host = host.old; moments = moments; failed = K.faults keeper.old; keeper = keeper.old })
         (record { host = host.new; moments = moments; failed = K.faults keeper.new; keeper = keeper.new })
-        (TabledBehind season.old from (to - from) (W.taken output.old) (W.taken output.new) result) }
+        (TabledBehind season.old from (to - from) (W.taken output.old)
+        (W.taken output.new) result) }
     ensures same { season.new ≡ season.old }
     ensures fresh { OnOk result (host.new.stale ≡ false) }
     ensures output { OnOk result (output.new ≡ output.old) }

@@ -33,8 +33,10 @@ pub fn talk<S: Source, W: Sink, C: Clock, K: Keeper, L: Ledger>(
     ensures leads { LeadsAll K.tells K.serves K.holds K.passes
         (record { host = host.old.host; moments = C.left clock.old; failed = K.faults keeper.old; keeper = keeper.old })
         (record { host = host.new.host; moments = C.left clock.new; failed = K.faults keeper.new; keeper = keeper.new })
-        (IsSession IsReplyUntil (S.left source.old) (S.left source.new) (W.taken sink.old) (W.taken sink.new) result)
-        (IsSession IsKeptReply (S.left source.old) (S.left source.new) (W.taken sink.old) (W.taken sink.new) result) }
+        (IsSession IsReplyUntil (S.left source.old) (S.left source.new) (W.taken sink.old)
+        (W.taken sink.new) result)
+        (IsSession IsKeptReply (S.left source.old) (S.left source.new) (W.taken sink.old)
+        (W.taken sink.new) result) }
 
     // How many reads are counted for each message, and so for all of them.
     ensures counts { SessionOf (Speaks CountsLooks) (S.left source.old) (S.left source.new)

@@ -25,7 +25,8 @@ fn take_turns<R: Service<H, K, C, L>, H, K: Keeper, C: Clock, L: Ledger>(
     requires ready { R.ready service.now (host.old, keeper.old, clock.old, steps.old) }
     ensures ready { R.ready service.now (host.new, keeper.new, clock.new, steps.new) }
     ensures turned { Turned (Speaks (R.answers service.now)) places.old.decoder places.new.decoder
-        (R.see (host.old, keeper.old, clock.old, steps.old)) (R.see (host.new, keeper.new, clock.new, steps.new))
+        (R.see (host.old, keeper.old, clock.old, steps.old))
+        (R.see (host.new, keeper.new, clock.new, steps.new))
         (Some []) (Some places.new.outbox) result }
 {
     loop {
@@ -58,7 +59,8 @@ pub fn take_batch<R: Service<H, K, C, L>, H, K: Keeper, C: Clock, L: Ledger, W: 
     ensures empty { places.new.outbox ≡ [] }
     ensures ready { R.ready service.now (host.new, keeper.new, clock.new, steps.new) }
     ensures batched { Batched (Speaks (R.answers service.now)) places.old.decoder places.new.decoder
-        (R.see (host.old, keeper.old, clock.old, steps.old)) (R.see (host.new, keeper.new, clock.new, steps.new))
+        (R.see (host.old, keeper.old, clock.old, steps.old))
+        (R.see (host.new, keeper.new, clock.new, steps.new))
         (W.taken out.old) (W.taken out.new) result }
     ensures later { W.faults out.old ≤ W.faults out.new }
     ensures failed { OnErr result (Rose (W.faults out.old) (W.faults out.new)) }

@@ -36,7 +36,8 @@ pub fn converse<R: Service<H, K, C, L>, H, K: Keeper, S: Source, W: Sink, C: Clo
     requires ready { R.ready service.now (host.old, keeper.old, clock.old, steps.old) }
     ensures ready { R.ready service.now (host.new, keeper.new, clock.new, steps.new) }
     ensures session { SessionOf (Speaks (R.answers service.now)) (S.left src.old) (S.left src.new)
-        (R.see (host.old, keeper.old, clock.old, steps.old)) (R.see (host.new, keeper.new, clock.new, steps.new))
+        (R.see (host.old, keeper.old, clock.old, steps.old))
+        (R.see (host.new, keeper.new, clock.new, steps.new))
         (W.taken out.old) (W.taken out.new) result }
     ensures read_later { S.faults src.old ≤ S.faults src.new }
     ensures write_later { W.faults out.old ≤ W.faults out.new }

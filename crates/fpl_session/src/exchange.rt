@@ -68,7 +68,8 @@ pub fn exchange<R: Service<H, K, C, L>, H, K: Keeper, S: Source, W: Sink, C: Clo
     ensures exchanged { Exchanged (Speaks (R.answers service.now)) most (S.left src.old)
         (S.left src.new)
         places.old.decoder places.new.decoder
-        (R.see (host.old, keeper.old, clock.old, steps.old)) (R.see (host.new, keeper.new, clock.new, steps.new))
+        (R.see (host.old, keeper.old, clock.old, steps.old))
+        (R.see (host.new, keeper.new, clock.new, steps.new))
         (W.taken out.old) (W.taken out.new) result }
     ensures read_later { S.faults src.old ≤ S.faults src.new }
     ensures write_later { W.faults out.old ≤ W.faults out.new }

@@ -31,7 +31,8 @@ fn answer_all<R: Service<H, K, C, L>, H, K: Keeper, C: Clock, L: Ledger, W: Sink
     ensures ready { R.ready service.now (host.new, keeper.new, clock.new, steps.new) }
     ensures served { PieceServed
         (Speaks (R.answers service.now)) places.old.decoder.pending places.new.decoder
-        (R.see (host.old, keeper.old, clock.old, steps.old)) (R.see (host.new, keeper.new, clock.new, steps.new))
+        (R.see (host.old, keeper.old, clock.old, steps.old))
+        (R.see (host.new, keeper.new, clock.new, steps.new))
         (W.taken out.old) (W.taken out.new) result }
     ensures later { W.faults out.old ≤ W.faults out.new }
     ensures failed { result ≡ Some Ending.Write → Rose (W.faults out.old) (W.faults out.new) }
@@ -66,7 +67,8 @@ pub fn serve_piece<R: Service<H, K, C, L>, H, K: Keeper, C: Clock, L: Ledger, W:
     ensures ready { R.ready service.now (host.new, keeper.new, clock.new, steps.new) }
     ensures served { PieceServed (Speaks (R.answers service.now))
         (places.old.decoder.pending ++ piece.now) places.new.decoder
-        (R.see (host.old, keeper.old, clock.old, steps.old)) (R.see (host.new, keeper.new, clock.new, steps.new))
+        (R.see (host.old, keeper.old, clock.old, steps.old))
+        (R.see (host.new, keeper.new, clock.new, steps.new))
         (W.taken out.old) (W.taken out.new) result }
     ensures later { W.faults out.old ≤ W.faults out.new }
     ensures failed { result ≡ Some Ending.Write → Rose (W.faults out.old) (W.faults out.new) }

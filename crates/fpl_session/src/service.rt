@@ -39,5 +39,6 @@ pub trait Service<H, K: Keeper, C: Clock, L: Ledger> {
         ensures ready { ready self.now (host.new, keeper.new, clock.new, steps.new) }
         ensures status { IfOk result (λ r. IsTrue (is_answer_status r.status)) }
         ensures answered { answers self.now (see (host.old, keeper.old, clock.old, steps.old))
-            (request_seen message.now) (answer_in result) (see (host.new, keeper.new, clock.new, steps.new)) };
+            (request_seen message.now) (answer_in result)
+            (see (host.new, keeper.new, clock.new, steps.new)) };
 }

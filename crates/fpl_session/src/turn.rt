@@ -92,7 +92,8 @@ pub fn take_turn<R: Service<H, K, C, L>, H, K: Keeper, C: Clock, L: Ledger>(
     requires ready { R.ready service.now (host.old, keeper.old, clock.old, steps.old) }
     ensures ready { R.ready service.now (host.new, keeper.new, clock.new, steps.new) }
     ensures turned { Turned (Speaks (R.answers service.now)) places.old.decoder places.new.decoder
-        (R.see (host.old, keeper.old, clock.old, steps.old)) (R.see (host.new, keeper.new, clock.new, steps.new))
+        (R.see (host.old, keeper.old, clock.old, steps.old))
+        (R.see (host.new, keeper.new, clock.new, steps.new))
         (Some places.old.outbox) (Some places.new.outbox) result }
 {
     match places.decoder.next() {

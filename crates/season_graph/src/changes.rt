@@ -230,7 +230,8 @@ fn refresh_mark_if(
     marked: bool,
 ) -> Result<(), Memory>
     ensures { OnOk result
-        (Refreshes books.now (if marked then mark_nodes (facts_of books.now) fixture else []) cells.old cells.new) }
+        (Refreshes books.now
+        (if marked then mark_nodes (facts_of books.now) fixture else []) cells.old cells.new) }
 {
     if marked {
         refresh_mark(cells, books, fixture)?;
@@ -262,7 +263,8 @@ fn refresh_moved_players(
     to: &Option<Gw>,
 ) -> Result<(), Memory>
     ensures { OnOk result
-        (Refreshes books.now (moved_players (facts_of books.now) fixture from.now to.now) cells.old cells.new) }
+        (Refreshes books.now
+        (moved_players (facts_of books.now) fixture from.now to.now) cells.old cells.new) }
 {
     for player in books.matches.players_of(fixture) {
         refresh_gameweek(cells, books, *player, from)?;

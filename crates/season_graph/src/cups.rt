@@ -42,7 +42,8 @@ fn refresh_numbered(
 ) -> Result<(), Memory>
     requires { number < 32 }
     ensures { OnOk result
-        (Refreshes books.now (ties_since (facts_of books.now) from (number + 1)) cells.old cells.new) }
+        (Refreshes books.now
+        (ties_since (facts_of books.now) from (number + 1)) cells.old cells.new) }
 {
     let Some(cup) = CupId::new(number + 1) else {
         unreachable!()

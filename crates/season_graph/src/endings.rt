@@ -33,7 +33,8 @@ pub(crate) fn refresh_endings(
     to: &Option<Gw>,
 ) -> Result<(), Memory>
     ensures { OnOk result
-        (Refreshes books.now (moved_endings (facts_of books.now) fixture from.now to.now) cells.old cells.new) }
+        (Refreshes books.now
+        (moved_endings (facts_of books.now) fixture from.now to.now) cells.old cells.new) }
 {
     if books.matches.finished(fixture) {
         return Ok(());
@@ -52,7 +53,8 @@ fn refresh_ending(
     place: &Option<Gw>,
 ) -> Result<(), Memory>
     ensures { OnOk result
-        (Refreshes books.now (ending_nodes (facts_of books.now) fixture place.now) cells.old cells.new) }
+        (Refreshes books.now
+        (ending_nodes (facts_of books.now) fixture place.now) cells.old cells.new) }
 {
     if let Some(gameweek) = place {
         refresh_ending_in(cells, books, fixture, *gameweek)?;
@@ -68,7 +70,8 @@ fn refresh_ending_in(
     gameweek: Gw,
 ) -> Result<(), Memory>
     ensures { OnOk result
-        (Refreshes books.now (ending_in (facts_of books.now) fixture gameweek) cells.old cells.new) }
+        (Refreshes books.now
+        (ending_in (facts_of books.now) fixture gameweek) cells.old cells.new) }
 {
     if gameweek.get() <= books.calendar.locked() && others_finished(books, fixture, gameweek) {
         refresh_teams(cells, books, gameweek)?;

@@ -108,7 +108,9 @@ fn refresh_all(cells: &mut SeasonCells, books: &Books) -> Result<(), Memory>
 // The same but for the ties of cups.
 fn refresh_but_ties(cells: &mut SeasonCells, books: &Books) -> Result<(), Memory>
     ensures { OnOk result
-        (Refreshes books.now ((fixtures_nodes (facts_of books.now) ++ locked_scores (facts_of books.now) 0) ++ heads_nodes (facts_of books.now)) cells.old cells.new) }
+        (Refreshes books.now
+        ((fixtures_nodes (facts_of books.now) ++ locked_scores (facts_of books.now) 0)
+        ++ heads_nodes (facts_of books.now)) cells.old cells.new) }
 {
     refresh_fixtures(cells, books)?;
     refresh_scores(cells, books, 0)?;

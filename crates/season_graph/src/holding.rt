@@ -18,7 +18,9 @@ pub(crate) fn refresh_holding(
     player: PlayerId,
 ) -> Result<(), Memory>
     ensures { OnOk result
-        (Refreshes books.now (holding_nodes (holders_in index.now) player books.now.calendar.now.locked) cells.old cells.new) }
+        (Refreshes books.now
+        (holding_nodes (holders_in index.now) player books.now.calendar.now.locked) cells.old
+        cells.new) }
 {
     for number in 0..books.calendar.locked() {
         refresh_holders_numbered(index, cells, books, player, number)?;
@@ -36,7 +38,9 @@ fn refresh_holders_numbered(
 ) -> Result<(), Memory>
     requires { number < 38 }
     ensures { OnOk result
-        (Refreshes books.now (gameweek_dependents (holders_in index.now player (number + 1)) (number + 1)) cells.old cells.new) }
+        (Refreshes books.now
+        (gameweek_dependents (holders_in index.now player (number + 1)) (number + 1)) cells.old
+        cells.new) }
 {
     let Some(gameweek) = Gw::new(number + 1) else {
         unreachable!()
@@ -54,7 +58,9 @@ fn refresh_holders(
     gameweek: Gw,
 ) -> Result<(), Memory>
     ensures { OnOk result
-        (Refreshes books.now (gameweek_dependents (holders_in index.now player gameweek) gameweek) cells.old cells.new) }
+        (Refreshes books.now
+        (gameweek_dependents (holders_in index.now player gameweek) gameweek) cells.old
+        cells.new) }
 {
     for entry in index.holders(player, gameweek) {
         refresh_one(cells, books, &Node::TeamGw(*entry, gameweek))?;

@@ -35,7 +35,9 @@ pub(crate) fn refresh_leagues_if(
 fn refresh_leagues(cells: &mut SeasonCells, books: &Books, first: u8) -> Result<(), Memory>
     requires { first < 38 }
     ensures { OnOk result
-        (Refreshes books.now (numbered_nodes (locked_rounds (facts_of books.now) first) (length books.now.leagues.now)) cells.old cells.new) }
+        (Refreshes books.now
+        (numbered_nodes (locked_rounds (facts_of books.now) first)
+        (length books.now.leagues.now)) cells.old cells.new) }
 {
     for number in 0..books.leagues.count() {
         refresh_numbered(cells, books, number, first)?;
@@ -53,7 +55,8 @@ fn refresh_numbered(
     requires number { number < 512 }
     requires first { first < 38 }
     ensures { OnOk result
-        (Refreshes books.now (locked_rounds (facts_of books.now) first (number + 1)) cells.old cells.new) }
+        (Refreshes books.now
+        (locked_rounds (facts_of books.now) first (number + 1)) cells.old cells.new) }
 {
     let Some(league) = LeagueId::new(number + 1) else {
         unreachable!()
@@ -71,7 +74,8 @@ fn refresh_behind(
 ) -> Result<(), Memory>
     requires { first < 38 }
     ensures { OnOk result
-        (Refreshes books.now (locked_rounds (facts_of books.now) first league) cells.old cells.new) }
+        (Refreshes books.now
+        (locked_rounds (facts_of books.now) first league) cells.old cells.new) }
 {
     let from = books.start(league).max(first + 1);
     refresh_rounds(cells, books, league, from, true)?;
@@ -82,7 +86,9 @@ fn refresh_behind(
 // Brings the rows of a league up to date, if it has started.
 fn refresh_rows_if(cells: &mut SeasonCells, books: &Books, league: LeagueId) -> Result<(), Memory>
     ensures { OnOk result
-        (Refreshes books.now (if nat_le (start_in books.now.leagues.now league) books.now.calendar.now.locked then row_nodes (facts_of books.now) league else []) cells.old cells.new) }
+        (Refreshes books.now
+        (if nat_le (start_in books.now.leagues.now league) books.now.calendar.now.locked
+        then row_nodes (facts_of books.now) league else []) cells.old cells.new) }
 {
     if books.start(league) <= books.calendar.locked() {
         refresh_rows(cells, books, league, true)?;
@@ -122,7 +128,8 @@ pub(crate) fn refresh_head(
     all: bool,
 ) -> Result<(), Memory>
     ensures { OnOk result
-        (ChosenRefreshed books.now all (head_nodes (facts_of books.now) league) cells.old cells.new) }
+        (ChosenRefreshed books.now all
+        (head_nodes (facts_of books.now) league) cells.old cells.new) }
 {
     if let Some(start) = start_of(books, league) {
         refresh_since(cells, books, league, start, all)?;
@@ -149,7 +156,8 @@ fn refresh_since(
     all: bool,
 ) -> Result<(), Memory>
     ensures { OnOk result
-        (ChosenRefreshed books.now all (head_since (facts_of books.now) league start) cells.old cells.new) }
+        (ChosenRefreshed books.now all
+        (head_since (facts_of books.now) league start) cells.old cells.new) }
 {
     refresh_rounds(cells, books, league, start.get(), all)?;
     refresh_rows(cells, books, league, all)?;
@@ -166,7 +174,8 @@ fn refresh_rounds(
 ) -> Result<(), Memory>
     requires { 1 ≤ from }
     ensures { OnOk result
-        (ChosenRefreshed books.now all (rounds_since (facts_of books.now) league from) cells.old cells.new) }
+        (ChosenRefreshed books.now all
+        (rounds_since (facts_of books.now) league from) cells.old cells.new) }
 {
     for number in 0..(books.calendar.locked() + 1).saturating_sub(from) {
         refresh_round_numbered(cells, books, league, from + number, all)?;
@@ -185,7 +194,8 @@ fn refresh_round_numbered(
     requires low { 1 ≤ number }
     requires high { number ≤ 38 }
     ensures { OnOk result
-        (ChosenRefreshed books.now all (round_nodes (facts_of books.now) league number) cells.old cells.new) }
+        (ChosenRefreshed books.now all
+        (round_nodes (facts_of books.now) league number) cells.old cells.new) }
 {
     let Some(gameweek) = Gw::new(number) else {
         unreachable!()
@@ -203,7 +213,8 @@ fn refresh_round(
     all: bool,
 ) -> Result<(), Memory>
     ensures { OnOk result
-        (ChosenRefreshed books.now all (round_nodes (facts_of books.now) league gameweek) cells.old cells.new) }
+        (ChosenRefreshed books.now all
+        (round_nodes (facts_of books.now) league gameweek) cells.old cells.new) }
 {
     refresh_average_if(cells, books, league, gameweek, all)?;
     refresh_matches(cells, books, league, gameweek, all)?;
@@ -219,7 +230,8 @@ fn refresh_average_if(
     all: bool,
 ) -> Result<(), Memory>
     ensures { OnOk result
-        (ChosenRefreshed books.now all (average_if (facts_of books.now) league gameweek) cells.old cells.new) }
+        (ChosenRefreshed books.now all
+        (average_if (facts_of books.now) league gameweek) cells.old cells.new) }
 {
     if books.has_average(league) {
         refresh_chosen(cells, books, &Node::Average(league, gameweek), all)?;
@@ -236,7 +248,10 @@ fn refresh_matches(
     all: bool,
 ) -> Result<(), Memory>
     ensures { OnOk result
-        (ChosenRefreshed books.now all (map (Node.Match league gameweek) (range_with_len 0 (length (order_in books.now.leagues.now league)))) cells.old cells.new) }
+        (ChosenRefreshed books.now all
+        (map (Node.Match league gameweek)
+        (range_with_len 0 (length (order_in books.now.leagues.now league)))) cells.old
+        cells.new) }
 {
     for place in 0..books.order(league).len() {
         refresh_chosen(
@@ -257,7 +272,8 @@ fn refresh_rows(
     all: bool,
 ) -> Result<(), Memory>
     ensures { OnOk result
-        (ChosenRefreshed books.now all (row_nodes (facts_of books.now) league) cells.old cells.new) }
+        (ChosenRefreshed books.now all
+        (row_nodes (facts_of books.now) league) cells.old cells.new) }
 {
     for entry in books.order(league) {
         refresh_chosen(cells, books, &Node::HeadRow(league, *entry), all)?;

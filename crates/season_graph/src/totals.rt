@@ -14,7 +14,9 @@ use season_rules::SeasonCells;
 // Brings the totals of each entry up to date.
 pub(crate) fn refresh_totals(cells: &mut SeasonCells, books: &Books) -> Result<(), Memory>
     ensures { OnOk result
-        (Refreshes books.now (numbered_nodes (total_nodes (facts_of books.now)) (facts_of books.now).entries) cells.old cells.new) }
+        (Refreshes books.now
+        (numbered_nodes (total_nodes (facts_of books.now)) (facts_of books.now).entries)
+        cells.old cells.new) }
 {
     for number in 0..books.managers.entries() {
         refresh_numbered(cells, books, number)?;
@@ -58,7 +60,9 @@ fn refresh_since(
     league: LeagueId,
 ) -> Result<(), Memory>
     ensures { OnOk result
-        (Refreshes books.now (map (Node.Total entry) (classic_starts books.now.leagues.now league)) cells.old cells.new) }
+        (Refreshes books.now
+        (map (Node.Total entry) (classic_starts books.now.leagues.now league)) cells.old
+        cells.new) }
 {
     if let Some(start) = books.classic_start(league) {
         refresh_one(cells, books, &Node::Total(entry, start))?;
@@ -89,7 +93,8 @@ fn refresh_members_if(
     start: Gw,
 ) -> Result<(), Memory>
     ensures { OnOk result
-        (OthersRefreshed books.now (members_since (facts_of books.now) league start) cells.old cells.new) }
+        (OthersRefreshed books.now
+        (members_since (facts_of books.now) league start) cells.old cells.new) }
 {
     if start.get() <= books.calendar.locked() {
         refresh_members(cells, books, members_of(books, league), start)?;
