@@ -19,7 +19,6 @@ pub mod RoundFacts
 pub mod SameFacts
 pub mod SheetFacts
 pub mod TeamFacts
-pub mod TestFacts
 pub mod TieHeld
 pub mod ToldFacts
 pub mod WholeFacts

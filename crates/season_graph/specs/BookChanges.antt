@@ -19,9 +19,8 @@ use Rattle.rescore_graph.specs.Graph.{Among}
 use Rattle.season_graph.specs.Changes.{AreAlike, DifferInLeague, DifferInLine, DifferInLocks, DifferInMark, DifferInPlace, DifferInPlayer, DifferInSheet, EntriesStay}
 use Rattle.cup_rounds.specs.Shapes.{HasShape}
 use Rattle.season_nodes.specs.BookFacts.{facts_with}
-use Rattle.season_nodes.specs.Brackets.{AreBrackets}
 use Rattle.season_nodes.specs.IndexFacts.{IsIndex}
-use Rattle.season_nodes.specs.Season.{SeasonFacts, AreOrders, IsOrder, IsSeason}
+use Rattle.season_nodes.specs.Season.{SeasonFacts, IsOrder, IsSeason}
 
 -- the facts with other lines and marks, with another calendar, with other players, with another book of managers, with
 -- other leagues, with other cups
@@ -42,10 +41,6 @@ with_leagues b leagues = record b { leagues = leagues }
 
 abbrev pub with_cups : SeasonFacts → List Bracket → SeasonFacts
 with_cups b cups = record b { cups = cups }
-
--- a season begins with no facts of its matches
-abbrev pub SeasonBegins : Type 0
-SeasonBegins = (b : SeasonFacts) → IsCalendar b.calendar → b.matches ≡ [] → AreOrders b.leagues → AreBrackets b.cups → IsSeason b
 
 -- a line is put in: it is in its ranges, and the player is there
 abbrev pub LineIsPut : Type 0

@@ -1,5 +1,5 @@
 ghost use Rattle.rescore_graph.specs.Graph.{replay};
-ghost use Rattle.season_graph.specs.BookChanges.{CupIsDrawn, SeasonBegins, LineIsPut, LineIsDropped, MarkIsSet, SheetIsPut, FixtureMoves, FixtureComes, MomentPasses, PlayerComes, DeadlineMoves, PriceChanges, ClubChanges, GoneChanges, ManagersChange, LeagueIsMade, LeagueIsJoined, LeagueIsDrawn, IndexStays};
+ghost use Rattle.season_graph.specs.BookChanges.{CupIsDrawn, LineIsPut, LineIsDropped, MarkIsSet, SheetIsPut, FixtureMoves, FixtureComes, MomentPasses, PlayerComes, DeadlineMoves, PriceChanges, ClubChanges, GoneChanges, ManagersChange, LeagueIsMade, LeagueIsJoined, LeagueIsDrawn, IndexStays};
 ghost use Rattle.season_nodes.specs.BookFacts.{facts_of};
 ghost use Rattle.season_graph.specs.Changes.{SameIsAlike};
 ghost use Rattle.season_graph.specs.Followed.{AlikeFollowed, AlikeMarked};
@@ -30,12 +30,6 @@ pub fn replay_is_told(rules: &SeasonRules)
 /// fixture's.
 pub fn lines_are_told()
     ensures { LinesAreTold }
-{}
-
-/// A law: a lawful calendar, any players, no facts of the matches, any entries, leagues of which each is drawn in an order
-/// of its members, and cups with the slots of their rounds are a season.
-pub fn season_begins()
-    ensures { SeasonBegins }
 {}
 
 /// A law: what the calls of the matches' facts leave is a season, which differs in the line, the sheet or the mark that

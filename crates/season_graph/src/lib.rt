@@ -15,8 +15,6 @@ mod locks;
 mod reading;
 mod refreshing;
 mod rounds;
-#[cfg(test)]
-mod tests;
 mod totals;
 
 pub use changes::{
@@ -26,7 +24,7 @@ pub use changes::{
 pub use evaluation::{evaluate_all, settle_season};
 pub use laws::{
     books_alike, calendar_changes, cups_change, index_stays, leagues_change, lines_are_told,
-    managers_change, matches_change, players_change, replay_is_told, same_is_alike, season_begins,
+    managers_change, matches_change, players_change, replay_is_told, same_is_alike,
 };
 pub use reading::{
     bonuses_held, gameweek_held, head_held, line_held, score_held, tie_held, total_held,
