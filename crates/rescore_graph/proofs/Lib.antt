@@ -2,8 +2,8 @@ pub mod ReplayFacts
 pub mod RaisedFacts
 pub mod ProgressFacts
 pub mod WorkFacts
+pub mod LevelFacts
 pub mod MaxFacts
-pub mod UndoneFacts
 pub mod ChangeFacts
 pub mod RemainsFacts
 pub mod NodeOrder

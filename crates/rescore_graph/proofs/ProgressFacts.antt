@@ -3,22 +3,9 @@ use Rattle.std.proofs.Common.{◌≡◌, ◌≢◌, suc, ◌<◌, ◌≤◌, Boo
 use Rattle.rescore_graph.specs.declared.cells.Slot.{Slot}
 use Rattle.rescore_graph.specs.Graph.{Among, NoneTwice, Graph, IsGraph, Reach, DependsOn}
 use Rattle.rescore_graph.specs.States.{State, value_of, is_dirty, count_of, values_in, IsDirty, raise, bump}
-use Rattle.rescore_graph.specs.Settling.{Sound, HasNewInput, AreByLevel, Settles, Evaluates}
+use Rattle.rescore_graph.specs.Settling.{Sound, HasNewInput, Settles, Progress, Evaluates, AreByLevel}
 use Rattle.rescore_graph.proofs.RaisedFacts.{value_raise, count_raise, raise_clean, dirty_some, some_stored, clean_stored, value_stored, count_stored, raised_value, raised_count, raised_some, raised_clean, raised_only, raised_keeps}
 use Rattle.rescore_graph.proofs.ReplayFacts.{settled_below}
-
--- Settling on its way from s to t: the nodes of done were evaluated.
-pub record Progress {N V : Type 0} (g : Graph N V) (s t : State N V) (done : List N) : Type 0 where
-  pub sound : Sound g t
-  pub once : NoneTwice done
-  pub by_level : AreByLevel g done
-  pub clean : (q : N) → Among done q → is_dirty (t q) ≡ false
-  pub behind : (q d : N) → Among done q → IsDirty t d → g.level q ≤ g.level d
-  pub kept : (q : N) → IsDirty s q → IsDirty t q ⊎ Among done q
-  pub cause : (q : N) → IsDirty t q ⊎ Among done q → IsDirty s q ⊎ HasNewInput g s t done q
-  pub reached : (q : N) → IsDirty t q ⊎ Among done q → Reach g (IsDirty s) q
-  pub counts : (q : N) → Among done q → count_of (t q) ≡ bump (count_of (s q))
-  pub stay : (q : N) → (¬ Among done q) → (t q ≡ s q) ⊎ (t q ≡ raise (s q))
 
 pub among_push : {N : Type 0} (xs : List N) (n q : N) → Among (xs ++ n ∷ []) q → Among xs q ⊎ (n ≡ q)
 among_push [] n q (inl e) = inr e
@@ -43,7 +30,7 @@ pub by_level_push : {N V : Type 0} (g : Graph N V) (xs : List N) (n : N) → Are
 by_level_push g [] n h k = ((λ m a. absurd a), tt)
 by_level_push g (x ∷ xs) n h k = ((λ m a. ⊎_elim (h.0 m) (λ i. subst (λ y. g.level x ≤ g.level y) i (k x (inl refl))) (among_push xs n m a)), by_level_push g xs n h.1 (λ q a. k q (inr a)))
 
-true_not_false : {b : Bool} → b ≡ true → b ≡ false → ⊥
+pub true_not_false : {b : Bool} → b ≡ true → b ≡ false → ⊥
 true_not_false e f = cc
 
 module _ {N V : Type 0} (g : Graph N V) (law : IsGraph g) (apart : (n q : N) → (n ≡ q) ⊎ (n ≢ q)) where
@@ -118,7 +105,7 @@ module _ {N V : Type 0} (g : Graph N V) (law : IsGraph g) (apart : (n q : N) →
             (λ ne. sound.inputs q m l (still_clean q (clean_before q ne c)) a) (apart n q)
 
     -- dirty after: another node than n, dirty before or a dependent
-    dirty_after : (q : N) → IsDirty w q → (n ≢ q) × (IsDirty t q ⊎ DependsOn g n q)
+    pub dirty_after : (q : N) → IsDirty w q → (n ≢ q) × (IsDirty t q ⊎ DependsOn g n q)
     dirty_after q d = (ne, raised_only (DependsOn g n) t u e.raised q (sym (ap is_dirty (e.others q ne)) ∙ d))
       where
         ne : n ≢ q

@@ -3,10 +3,9 @@ use Rattle.std.proofs.Common.{◌≡◌, ◌≢◌, suc, true, List, [], ◌∷�
 use Rattle.rescore_graph.specs.declared.cells.Slot.{Slot}
 use Rattle.rescore_graph.specs.Graph.{Among, Graph, IsGraph, Reach, DependsOn}
 use Rattle.rescore_graph.specs.States.{State, is_dirty, count_of, IsDirty, raise, bump, Raised}
-use Rattle.rescore_graph.specs.Settling.{Remains}
+use Rattle.rescore_graph.specs.Settling.{Progress, Remains}
 use Rattle.rescore_graph.proofs.RaisedFacts.{count_raise, raised_count, raised_none, raised_sound}
 use Rattle.rescore_graph.proofs.ReplayFacts.{rest}
-use Rattle.rescore_graph.proofs.ProgressFacts.{Progress}
 
 -- an element is among the list, or not
 among_or : {N : Type 0} → ((n q : N) → (n ≡ q) ⊎ (n ≢ q)) → (xs : List N) (q : N) → Among xs q ⊎ (¬ Among xs q)

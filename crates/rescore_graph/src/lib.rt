@@ -6,6 +6,7 @@
 mod cells;
 mod greatest;
 mod laws;
+mod levels;
 mod max_book;
 mod max_node;
 mod nodes;

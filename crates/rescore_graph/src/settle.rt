@@ -1,17 +1,16 @@
-ghost use Rattle.std.specs.Prelude.{◌≡◌, ◌≢◌, ◌≤◌, ◌+◌, ◌⊎◌, ◌↔◌, ℕ, true, [], Some, IsTrue, IsSome, IfSome, IfNone, IfOk, OnOk, OnErr};
+ghost use Rattle.std.specs.Prelude.{◌≡◌, ◌≢◌, ◌<◌, ◌≤◌, ◌+◌, ◌⊎◌, Some, IsSome, IfOk, OnOk, OnErr};
 ghost use Rattle.std.specs.List.{sum_by};
 ghost use Rattle.std.specs.Option.{option_copied};
-ghost use Rattle.std.specs.Map.{keys_of};
-ghost use Rattle.rescore_graph.specs.Graph.{IsDependents, DependsOn};
+ghost use Rattle.rescore_graph.specs.Graph.{Among, DependsOn};
 ghost use Rattle.rescore_graph.specs.States.{look, values_in, State, IsDirty, Raised};
-ghost use Rattle.rescore_graph.specs.Settling.{Sound, Evaluates, Settles, Remains};
-ghost use Rattle.rescore_graph.specs.Work.{IsWork, is_listed};
+ghost use Rattle.rescore_graph.specs.Settling.{Sound, Progress, Evaluates, Settles, Remains};
+ghost use Rattle.rescore_graph.specs.Work.{AreAll, IsFront};
 
 use crate::cells::{Cells, slot_of};
+use crate::levels::{LEVELS, level_from};
 use crate::nodes::Nodes;
 use crate::rules::Rules;
 use fpl_base::{Memory, Steps};
-use std::collections::BTreeSet;
 use std::hash::Hash;
 use std::sync::ledger::Ledger;
 
@@ -42,44 +41,94 @@ impl<N: Copy + Ord + Hash, V: Drop> Cells<N, V> {
         ensures remains { Remains (R.graph rules.now) (look N.cmp self.old) (look N.cmp self.new) }
     {
         let mut evaluated = Nodes::new(self.alloc);
-        let mut work = self.work_of(rules)?;
-        'levels: loop {
-            match first_of(&work) {
-                None => {
-                    self.pending.clear();
-                    return Ok(Report { evaluated });
-                }
-                Some(n) => {
-                    evaluated.push(n)?;
-                    self.evaluate(rules, n, &mut work, steps)?;
-                }
-            }
+        let mut work = Nodes::from_slice(self.alloc, self.pending.as_slice())?;
+        let mut level = level_from(rules, work.as_slice(), 0);
+        'levels: while level < LEVELS {
+            self.settle_level(rules, level, &mut work, &mut evaluated, steps)?;
+            level = level_from(rules, work.as_slice(), level + 1);
         }
+        self.pending.clear();
+        Ok(Report { evaluated })
     }
 
-    // The dirty nodes, each with its level.
-    fn work_of<R: Rules<Node = N, Value = V>>(&self, rules: &R) -> Result<BTreeSet<(u8, N)>, Memory>
+    // Evaluates the dirty nodes of one level, where none is of a lower one.
+    fn settle_level<R: Rules<Node = N, Value = V>, L: Ledger>(
+        &mut self,
+        rules: &R,
+        level: u16,
+        work: &mut Nodes<N>,
+        evaluated: &mut Nodes<N>,
+        steps: &mut Steps<L>,
+    ) -> Result<(), Memory>
         requires order { R.in_order rules.now }
-        requires sound { Sound (R.graph rules.now) (look N.cmp self.now) }
-        ensures { IfOk result
-            (λ work. IsWork (R.graph rules.now) N.cmp (look N.cmp self.now) work.keys) }
+        requires sound { Sound (R.graph rules.now) (look N.cmp self.old) }
+        requires least { (d : N) → IsDirty (look N.cmp self.old) d
+            → level ≤ (R.graph rules.now).level d }
+        requires all { AreAll (look N.cmp self.old) work.old }
+        ensures on { OnOk result ((s : State N V)
+            → Progress (R.graph rules.now) s (look N.cmp self.old) evaluated.old
+            → Progress (R.graph rules.now) s (look N.cmp self.new) evaluated.new) }
+        ensures past { OnOk result ((d : N) → IsDirty (look N.cmp self.new) d
+            → level < (R.graph rules.now).level d) }
+        ensures all { OnOk result (AreAll (look N.cmp self.new) work.new) }
+        ensures cost { steps.new + sum_by (R.graph rules.now).weight evaluated.old
+            ≤ steps.old + sum_by (R.graph rules.now).weight evaluated.new }
+        ensures remains { OnErr result ((s : State N V)
+            → Progress (R.graph rules.now) s (look N.cmp self.old) evaluated.old
+            → Remains (R.graph rules.now) s (look N.cmp self.new)) }
     {
-        let mut work = BTreeSet::new(self.alloc);
-        for n in &self.pending {
-            if self.is_dirty(*n) {
-                work.insert((rules.level(*n), *n))?;
-            }
+        let end = work.as_slice().len();
+        'places: for place in 0..end {
+            let n = work.as_slice()[place];
+            self.settle_node(rules, level, n, work, evaluated, steps)?;
         }
-        Ok(work)
+        Ok(())
     }
 
-    // Evaluates a node of the least level of the work. The node stays dirty, and on the work list, until its dependents
-    // are marked, so that nothing is lost where memory runs out.
+    // Evaluates a node where it is dirty and of this level, where no dirty node is of a lower one.
+    fn settle_node<R: Rules<Node = N, Value = V>, L: Ledger>(
+        &mut self,
+        rules: &R,
+        level: u16,
+        n: N,
+        work: &mut Nodes<N>,
+        evaluated: &mut Nodes<N>,
+        steps: &mut Steps<L>,
+    ) -> Result<(), Memory>
+        requires order { R.in_order rules.now }
+        requires sound { Sound (R.graph rules.now) (look N.cmp self.old) }
+        requires least { (d : N) → IsDirty (look N.cmp self.old) d
+            → level ≤ (R.graph rules.now).level d }
+        requires all { AreAll (look N.cmp self.old) work.old }
+        ensures on { OnOk result ((s : State N V)
+            → Progress (R.graph rules.now) s (look N.cmp self.old) evaluated.old
+            → Progress (R.graph rules.now) s (look N.cmp self.new) evaluated.new) }
+        ensures sound { OnOk result (Sound (R.graph rules.now) (look N.cmp self.new)) }
+        ensures left { OnOk result ((d : N) → IsDirty (look N.cmp self.new) d
+            → (level < (R.graph rules.now).level d)
+            ⊎ ((level ≡ (R.graph rules.now).level d) × (n ≢ d) × IsDirty (look N.cmp self.old) d)) }
+        ensures all { OnOk result (AreAll (look N.cmp self.new) work.new) }
+        ensures front { IsFront work.old work.new }
+        ensures cost { steps.new + sum_by (R.graph rules.now).weight evaluated.old
+            ≤ steps.old + sum_by (R.graph rules.now).weight evaluated.new }
+        ensures remains { OnErr result ((s : State N V)
+            → Progress (R.graph rules.now) s (look N.cmp self.old) evaluated.old
+            → Remains (R.graph rules.now) s (look N.cmp self.new)) }
+    {
+        if u16::from(rules.level(n)) == level && self.is_dirty(n) {
+            evaluated.push(n)?;
+            self.evaluate(rules, n, work, steps)?;
+        }
+        Ok(())
+    }
+
+    // Evaluates a dirty node of the least level. The node stays dirty until its dependents are marked, so that nothing is
+    // lost where memory runs out.
     fn evaluate<R: Rules<Node = N, Value = V>, L: Ledger>(
         &mut self,
         rules: &R,
         n: N,
-        work: &mut BTreeSet<(u8, N)>,
+        work: &mut Nodes<N>,
         steps: &mut Steps<L>,
     ) -> Result<(), Memory>
         requires order { R.in_order rules.now }
@@ -87,22 +136,19 @@ impl<N: Copy + Ord + Hash, V: Drop> Cells<N, V> {
         requires dirty { IsDirty (look N.cmp self.old) n }
         requires least { (d : N) → IsDirty (look N.cmp self.old) d
             → (R.graph rules.now).level n ≤ (R.graph rules.now).level d }
-        requires work { IsWork (R.graph rules.now) N.cmp (look N.cmp self.old) work.old.keys }
+        requires all { AreAll (look N.cmp self.old) work.old }
         ensures ok { OnOk result
             ((v : V) × (u : State N V)
             × Evaluates (R.graph rules.now) n v (look N.cmp self.old) u (look N.cmp self.new)) }
-        ensures work { OnOk result
-            (IsWork (R.graph rules.now) N.cmp (look N.cmp self.new) work.new.keys) }
-        ensures keys { keys_of self.new ≡ keys_of self.old }
+        ensures work { OnOk result (AreAll (look N.cmp self.new) work.new) }
+        ensures front { IsFront work.old work.new }
         ensures cost { steps.new ≤ steps.old + (R.graph rules.now).weight n }
         ensures err { OnErr result
             (Raised (DependsOn (R.graph rules.now) n) (look N.cmp self.old) (look N.cmp self.new)) }
     {
-        let level = rules.level(n);
         let value = rules.eval(self.alloc, n, self, steps)?;
         self.spread(rules, n, &value, work)?;
         self.store(n, value);
-        let _ = work.remove(&(level, n));
         Ok(())
     }
 
@@ -112,12 +158,12 @@ impl<N: Copy + Ord + Hash, V: Drop> Cells<N, V> {
         rules: &R,
         n: N,
         value: &V,
-        work: &mut BTreeSet<(u8, N)>,
+        work: &mut Nodes<N>,
     ) -> Result<(), Memory>
         requires order { R.in_order rules.now }
         requires sound { Sound (R.graph rules.now) (look N.cmp self.old) }
         requires live { (R.graph rules.now).live n }
-        requires work { IsWork (R.graph rules.now) N.cmp (look N.cmp self.old) work.old.keys }
+        requires all { AreAll (look N.cmp self.old) work.old }
         ensures raised { Raised (DependsOn (R.graph rules.now) n) (look N.cmp self.old)
             (look N.cmp self.new) }
         ensures change { OnOk result
@@ -126,9 +172,8 @@ impl<N: Copy + Ord + Hash, V: Drop> Cells<N, V> {
             × ((q : N) → DependsOn (R.graph rules.now) n q → IsDirty (look N.cmp self.new) q))) }
         ensures calm { values_in (look N.cmp self.old) n ≡ Some value.now → (q : N)
             → look N.cmp self.new q ≡ look N.cmp self.old q }
-        ensures work { OnOk result
-            (IsWork (R.graph rules.now) N.cmp (look N.cmp self.new) work.new.keys) }
-        ensures keys { keys_of self.new ≡ keys_of self.old }
+        ensures work { OnOk result (AreAll (look N.cmp self.new) work.new) }
+        ensures front { IsFront work.old work.new }
     {
         match self.value_at(n) {
             // What depends on a node without a value has to be evaluated already.
@@ -140,7 +185,7 @@ impl<N: Copy + Ord + Hash, V: Drop> Cells<N, V> {
             }
         }
         let dependents = rules.dependents(self.alloc, n)?;
-        self.mark_all(rules, n, &dependents, work)
+        self.mark_all::<R>(&dependents, work)
     }
 
     // The value of a node, which is no read of an evaluation; `None` where it was not evaluated yet.
@@ -153,68 +198,41 @@ impl<N: Copy + Ord + Hash, V: Drop> Cells<N, V> {
         }
     }
 
-    // Makes the dependents of n dirty.
+    // Makes live nodes dirty.
     fn mark_all<R: Rules<Node = N, Value = V>>(
         &mut self,
-        rules: &R,
-        n: N,
-        dependents: &[N],
-        work: &mut BTreeSet<(u8, N)>,
+        nodes: &[N],
+        work: &mut Nodes<N>,
     ) -> Result<(), Memory>
-        requires order { R.in_order rules.now }
-        requires sound { Sound (R.graph rules.now) (look N.cmp self.old) }
-        requires dependents { IsDependents (R.graph rules.now) n dependents.now }
-        requires work { IsWork (R.graph rules.now) N.cmp (look N.cmp self.old) work.old.keys }
-        ensures raised { Raised (DependsOn (R.graph rules.now) n) (look N.cmp self.old)
-            (look N.cmp self.new) }
-        ensures all { OnOk result
-            ((q : N) → DependsOn (R.graph rules.now) n q → IsDirty (look N.cmp self.new) q) }
-        ensures work { OnOk result
-            (IsWork (R.graph rules.now) N.cmp (look N.cmp self.new) work.new.keys) }
-        ensures keys { keys_of self.new ≡ keys_of self.old }
+        requires there { (q : N) → Among nodes.now q → IsSome (look N.cmp self.old q) }
+        requires all { AreAll (look N.cmp self.old) work.old }
+        ensures raised { Raised (Among nodes.now) (look N.cmp self.old) (look N.cmp self.new) }
+        ensures dirty { OnOk result ((q : N) → Among nodes.now q → IsDirty (look N.cmp self.new) q) }
+        ensures work { OnOk result (AreAll (look N.cmp self.new) work.new) }
+        ensures front { IsFront work.old work.new }
     {
-        for d in dependents {
-            self.mark_one(rules, *d, work)?;
+        for n in nodes {
+            self.mark_one::<R>(*n, work)?;
         }
         Ok(())
     }
 
-    // Makes one live node dirty, and puts it on the work list.
+    // Makes a live node dirty, and puts it on the work list where it was clean.
     fn mark_one<R: Rules<Node = N, Value = V>>(
         &mut self,
-        rules: &R,
-        d: N,
-        work: &mut BTreeSet<(u8, N)>,
+        n: N,
+        work: &mut Nodes<N>,
     ) -> Result<(), Memory>
-        requires order { R.in_order rules.now }
-        requires sound { Sound (R.graph rules.now) (look N.cmp self.old) }
-        requires live { (R.graph rules.now).live d }
-        requires work { IsWork (R.graph rules.now) N.cmp (look N.cmp self.old) work.old.keys }
-        ensures raised { Raised (λ q. d ≡ q) (look N.cmp self.old) (look N.cmp self.new) }
-        ensures dirty { OnOk result (IsDirty (look N.cmp self.new) d) }
-        ensures work { OnOk result
-            (IsWork (R.graph rules.now) N.cmp (look N.cmp self.new) work.new.keys) }
-        ensures keys { keys_of self.new ≡ keys_of self.old }
+        requires there { IsSome (look N.cmp self.old n) }
+        requires all { AreAll (look N.cmp self.old) work.old }
+        ensures raised { Raised (λ q. n ≡ q) (look N.cmp self.old) (look N.cmp self.new) }
+        ensures dirty { OnOk result (IsDirty (look N.cmp self.new) n) }
+        ensures work { OnOk result (AreAll (look N.cmp self.new) work.new) }
+        ensures front { IsFront work.old work.new }
     {
-        if self.is_dirty(d) {
-            return Ok(());
+        if self.raise(n)? {
+            work.push(n)?;
         }
-        let level = rules.level(d);
-        self.mark(d)?;
-        work.insert((level, d))?;
         Ok(())
-    }
-}
-
-// The node of the first ticket.
-fn first_of<N: Copy + Ord>(work: &BTreeSet<(u8, N)>) -> Option<N>
-    ensures none { IfNone result (work.now.keys ≡ []) }
-    ensures first { IfSome result
-        (λ n. (l : ℕ) × (is_listed N.cmp work.now.keys (l, n) ≡ true)
-        × ((q : ℕ × N) → is_listed N.cmp work.now.keys q ≡ true → l ≤ q.0)) }
-{
-    match work.first() {
-        Some(&(_, n)) => Some(n),
-        None => None,
     }
 }

@@ -1,7 +1,6 @@
 use Rattle.rescore_graph.specs.States.{look, stored}
-use Rattle.rescore_graph.proofs.RaisedFacts.{dirty_some}
 use Rattle.rescore_graph.proofs.ReplayFacts.{inputs_replayed}
-use Rattle.rescore_graph.proofs.WorkFacts.{put_here, put_others, work_less}
+use Rattle.rescore_graph.proofs.WorkFacts.{all_stored, put_here, put_others}
 use Rattle.rescore_graph.proofs.cells.Cells.evaluate.Goals as goal
 
 pub eval-requires-clause-inputs : goal.eval-requires-clause-inputs
@@ -26,5 +25,4 @@ returns-clause-ok g c =
 
 pub returns-clause-work : goal.returns-clause-work
 returns-clause-work g c = let cmp = g.N.Ord.cmp in
-    work_less cmp g.met.N.Ord.total g.met.R.Rules.exact (g.R.Rules.graph c.args.rules.now) c.args.n c.in_ok-value.value c.level-level.result (c.level-level.ensures c.requires.order ((c.requires.sound.cells c.args.n).0 (dirty_some (look cmp c.args.self.now c.args.n) c.requires.dirty)))
-    (look cmp c.spread.new.self) (look cmp c.store.new.self) c.spread.new.work.keys c.remove.new.self.keys c.in_ok-spread.ensures.work c.store.ensures.puts c.remove.ensures.updates.0
+    all_stored cmp g.met.N.Ord.total g.met.R.Rules.exact c.args.n c.in_ok-value.value (look cmp c.spread.new.self) (look cmp c.store.new.self) c.store.ensures.puts c.spread.new.work c.in_ok-spread.ensures.work

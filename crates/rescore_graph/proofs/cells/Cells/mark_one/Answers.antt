@@ -1,7 +1,21 @@
-use Rattle.rescore_graph.specs.States.{look}
-use Rattle.rescore_graph.proofs.WorkFacts.{work_more}
+use Rattle.std.proofs.Common.{true, false, not, sym, ◌∙◌, [], refl, subst}
+use Rattle.rescore_graph.specs.States.{look, is_dirty}
+use Rattle.rescore_graph.proofs.WorkFacts.{puts_raised, puts_dirty, all_pushed, all_kept, was_dirty}
 use Rattle.rescore_graph.proofs.cells.Cells.mark_one.Goals as goal
 
-pub returns-clause-work : goal.returns-clause-work
-returns-clause-work g c = work_more g.N.Ord.cmp g.met.N.Ord.total g.met.R.Rules.exact (g.R.Rules.graph c.args.rules.now) c.args.d c.level-level.result (c.level-level.ensures c.requires.order c.requires.live)
-    (look g.N.Ord.cmp c.args.self.now) (look g.N.Ord.cmp c.mark.new.self) c.args.work.now.keys c.insert.new.self.keys c.requires.work c.in_ok-mark.ensures.ok ((c.requires.sound.cells c.args.d).1 c.requires.live) c.in_ok-insert.ensures.updates.0
+pub returns-in_err-push-clause-raised : goal.returns-in_err-push-clause-raised
+returns-in_err-push-clause-raised g c = puts_raised g.N.Ord.cmp g.met.N.Ord.total g.met.R.Rules.exact c.args.n (look g.N.Ord.cmp c.args.self.now) (look g.N.Ord.cmp c.raise.new.self) c.in_ok-raise.ensures.ok
+
+pub returns-in_ok-push-clause-raised : goal.returns-in_ok-push-clause-raised
+returns-in_ok-push-clause-raised g c = puts_raised g.N.Ord.cmp g.met.N.Ord.total g.met.R.Rules.exact c.args.n (look g.N.Ord.cmp c.args.self.now) (look g.N.Ord.cmp c.raise.new.self) c.in_ok-raise.ensures.ok
+
+pub returns-in_ok-push-clause-work : goal.returns-in_ok-push-clause-work
+returns-in_ok-push-clause-work g c = all_pushed g.N.Ord.cmp g.met.N.Ord.total g.met.R.Rules.exact c.args.n (look g.N.Ord.cmp c.args.self.now) (look g.N.Ord.cmp c.raise.new.self) c.in_ok-raise.ensures.ok
+    c.args.work.now c.requires.all c.push.new.self c.in_ok-push.ensures.ok
+
+pub returns-else-branch-clause-raised : goal.returns-else-branch-clause-raised
+returns-else-branch-clause-raised g c = puts_raised g.N.Ord.cmp g.met.N.Ord.total g.met.R.Rules.exact c.args.n (look g.N.Ord.cmp c.args.self.now) (look g.N.Ord.cmp c.raise.new.self) c.in_ok-raise.ensures.ok
+
+pub returns-else-branch-clause-work : goal.returns-else-branch-clause-work
+returns-else-branch-clause-work g c = all_kept g.N.Ord.cmp g.met.N.Ord.total g.met.R.Rules.exact c.args.n (look g.N.Ord.cmp c.args.self.now) (look g.N.Ord.cmp c.raise.new.self) c.in_ok-raise.ensures.ok
+    c.args.work.now c.requires.all (was_dirty (is_dirty (look g.N.Ord.cmp c.args.self.now c.args.n)) c.in_ok-raise.field-0 c.in_ok-raise.ensures.clean c.if-branch.false)
