@@ -1,6 +1,7 @@
 -- What one more number does to the bonus by three levels.
-use Rattle.std.proofs.Common.{◌≡◌, ◌<◌, ◌≤◌, ◌+◌, ◌-◌, ℕ, ℤ, Bool, true, false, cond, List, ◌++◌, Option, Some, None, option_to_list, int_lt, zero-add, arith}
-use Rattle.std.proofs.lemmas.List.Sums.{sum_by-append}
+use Rattle.std.proofs.Common.{◌≡◌, ◌<◌, ◌≤◌, ◌+◌, ◌-◌, ℕ, ℤ, Bool, true, false, cond, List, ◌++◌, Option, Some, None, option_to_list, int_lt, zero-add, arith, length, get_or, take, sym, ap}
+use Rattle.std.proofs.lemmas.List.Sums.{sum_by-append, sum_by_more}
+use Rattle.rule_book.specs.Bonus.{bonus_of, number_above}
 use Rattle.line_scoring.specs.Levels.{numbers_at, greater, bonus_by, above, IsBelow}
 
 at_most_one : (b : Bool) → cond b 1 0 ≤ 1
@@ -40,3 +41,11 @@ module _ (a b c : Option ℤ) (n own : ℤ) (second : IsBelow b a) (third : IsBe
 -- three stand above whoever is below the lowest of the levels
 pub nothing_won : (a b c : Option ℤ) (own : ℤ) → IsBelow b a → IsBelow c b → 0 < at_level c own → 0 ≡ bonus_by (numbers_at a b c) own
 nothing_won a b c own second third some = omega (arith, greater_at a b c own, second own, third own, some)
+
+-- one more of a table took part
+pub one_more : (table : List (ℕ × ℤ)) (i : ℕ) (row : ℕ × ℤ) (own : ℤ) (old new : ℕ) → i < length table → row ≡ get_or table i row → old ≡ bonus_of (take i table) own
+    → new ≡ old - above own row.1 → new ≡ bonus_of (take (i + 1) table) own
+one_more table i row own old new within is so_far less =
+    let more : number_above (take (i + 1) table) own ≡ number_above (take i table) own + above own (get_or table i row).1 = sum_by_more (λ (r : ℕ × ℤ). above own r.1) table i row within in
+    let same : above own (get_or table i row).1 ≡ above own row.1 = ap (λ (r : ℕ × ℤ). above own r.1) (sym is) in
+    omega arith

@@ -1,6 +1,8 @@
 ghost use Rattle.std.specs.Prelude.{◌≡◌, ◌-◌, ℤ, [], Some, true, false, option_to_list};
+ghost use Rattle.rule_book.specs.Bonus.{bonus_of};
 ghost use Rattle.line_scoring.specs.Levels.{above, bonus_by, greater, IsBelow};
 
+use fpl_base::PlayerId;
 use std::marker::Model;
 
 /// The three greatest numbers of those who took part in a match, or as many as there are: they tell each one's bonus.
@@ -24,8 +26,8 @@ impl Model for BonusLevels {
 }
 
 impl BonusLevels {
-    /// Nobody took part yet.
-    pub fn new() -> Self
+    // Nobody took part yet.
+    fn new() -> Self
         ensures { result ≡ [] }
     {
         BonusLevels {
@@ -35,16 +37,19 @@ impl BonusLevels {
         }
     }
 
-    /// Whether it makes a difference that one more has this number.
-    pub fn counts(&self, number: i32) -> bool
-        ensures { result ≡ false → (own : ℤ)
-            → bonus_by self.now own ≡ bonus_by self.now own - above own number }
+    /// Those of a whole table, in which each who took part stands with his number.
+    pub fn of(table: &[(PlayerId, i32)]) -> Self
+        ensures { (own : ℤ) → bonus_by result own ≡ bonus_of table.now own }
     {
-        is_above(number, &self.third)
+        let mut levels = BonusLevels::new();
+        for row in table {
+            levels.add(row.1);
+        }
+        levels
     }
 
-    /// One more took part, and has this number.
-    pub fn add(&mut self, number: i32)
+    // One more took part, and has this number.
+    fn add(&mut self, number: i32)
         ensures { (own : ℤ) → bonus_by self.new own ≡ bonus_by self.old own - above own number }
     {
         if !is_above(number, &self.third) {

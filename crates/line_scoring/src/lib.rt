@@ -6,9 +6,7 @@ mod bonus_points;
 mod figures;
 mod levels;
 mod points;
-mod ranking;
 
 pub use bonus_points::bps;
 pub use levels::BonusLevels;
 pub use points::line_points;
-pub use ranking::bonus;

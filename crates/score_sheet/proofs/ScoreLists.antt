@@ -38,39 +38,5 @@ text_more profile rows i row old new piece won h e joined is_piece is_won is_old
     ∙ flat_map_more line [] (take i rows) row
     ∙ ap (flat_map line) (sym (take_one_more rows i row h e))
 
-bool_byte-cond : (b : Bool) → bool_byte b ≡ cond b 1 0
-bool_byte-cond true = refl
-bool_byte-cond false = refl
-
-pub bool_byte-le : (b : Bool) → bool_byte b ≤ 1
-bool_byte-le true = omega arith
-bool_byte-le false = omega arith
-
-pub place_more : (rows : List Appearance) (i place : ℕ) (row : Appearance) (b : Bool) → i < length rows → row ≡ get_or rows i row → b ≡ took_part row
-    → place ≡ length (filter took_part (take i rows)) → place + bool_byte b ≡ length (filter took_part (take (i + 1) rows))
-place_more rows i place row b h e is_b is_place =
-    ap (λ (n : ℕ). n + bool_byte b) is_place
-    ∙ ap (λ (n : ℕ). length (filter took_part (take i rows)) + n) (bool_byte-cond b ∙ ap (λ c. cond c 1 0) (is_b ∙ ap took_part e))
-    ∙ sym (length-filter_more took_part rows i row h)
-
-at_seam : {X : Type 0} (xs : List X) (x : X) (ys : List X) → slice_get (xs ++ x ∷ ys) (length xs) ≡ Some x
-at_seam xs x ys =
-    let within : length xs < length (xs ++ x ∷ ys) = simp length-append (omega arith) in
-    slice_get-get_or (xs ++ x ∷ ys) (length xs) x within ∙ ap Some (get_or-append_seam xs x ys x)
-
--- a row that took part stands behind those before it that did
-pub standing_at : (rows : List Appearance) (i : ℕ) (row : Appearance) → i < length rows → row ≡ get_or rows i row → took_part row ≡ true
-    → slice_get (standing rows) (length (filter took_part (take i rows))) ≡ Some (entry_of row)
-unfolding standing
-standing_at rows i row h e took =
-    let front : List Appearance = filter took_part (take i rows) in
-    let back : List Appearance = filter took_part (drop (suc i) rows) in
-    let cut : rows ≡ take i rows ++ row ∷ drop (suc i) rows =
-    sym (take-append-drop i rows) ∙ ap (λ t. take i rows ++ t) (drop-cons rows i row h ∙ ap (λ y. y ∷ drop (suc i) rows) (sym e)) in
-    let those : filter took_part rows ≡ front ++ row ∷ back =
-    ap (filter took_part) cut ∙ filter-append took_part (take i rows) (row ∷ drop (suc i) rows) ∙ ap (λ b. front ++ cond b (row ∷ back) back) took in
-    slice_get-map entry_of (filter took_part rows) (length front) ∙ ap (λ xs. option_map entry_of (slice_get xs (length front))) those
-    ∙ ap (option_map entry_of) (at_seam front row back)
-
 pub numbers_same : (t : List ℕ) (p p' : ℕ) (a a' b b' : ℤ) (w : ℕ) (s s' : ℤ) → t ≡ numbers_text p a b w s → p ≡ p' → a ≡ a' → b ≡ b' → s ≡ s' → t ≡ numbers_text p' a' b' w s'
 numbers_same t p p' a a' b b' w s s' h ep ea eb es = rw (← ep, ← ea, ← eb, ← es) h

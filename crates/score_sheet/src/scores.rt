@@ -1,13 +1,13 @@
 // What the rows of a match score.
-ghost use Rattle.std.specs.Prelude.{◌≡◌, ◌≤◌, ℕ, ℤ, List, Some, All, IfOk, true, slice_get, string_bytes};
-ghost use Rattle.rule_book.specs.Bonus.{takes_part, standing, bonus_in};
-ghost use Rattle.rule_book.specs.BonusPoints.{bps_of};
+ghost use Rattle.std.specs.Prelude.{◌≡◌, ◌≤◌, ℤ, List, All, IfOk, string_bytes};
+ghost use Rattle.line_scoring.specs.Levels.{bonus_by};
+ghost use Rattle.rule_book.specs.Bonus.{takes_part, standing, bonus_of, bonus_in};
 ghost use Rattle.rule_book.specs.Figures.{IsLine};
 ghost use Rattle.rule_book.specs.declared.line.Appearance.{Appearance};
 ghost use Rattle.score_sheet.specs.Scores.{line_text, numbers_text, score_text};
 
 use fpl_base::{Memory, PlayerId, Profile};
-use line_scoring::{bonus, bps, line_points};
+use line_scoring::{BonusLevels, bps, line_points};
 use rule_book::Appearance;
 use std::alloc::{AllocError, Global};
 
@@ -21,13 +21,12 @@ pub(crate) fn text_of(
     ensures { IfOk result (λ text. string_bytes text ≡ score_text profile rows.now) }
 {
     let table = standing_of(alloc, rows)?;
+    let levels = BonusLevels::of(table.as_slice());
     let mut text = String::new(alloc);
-    let mut place = 0usize;
     for row in rows {
-        let won = bonus_at(table.as_slice(), row, place);
+        let won = bonus_at(&levels, row);
         let line = line_of(alloc, profile, row, won)?;
         text.push_str(line.as_str())?;
-        place += has_minutes(row) as usize;
     }
     Ok(text)
 }
@@ -53,16 +52,16 @@ fn has_minutes(row: &Appearance) -> bool
     row.line.figures[0] >= 1
 }
 
-// The bonus of a row, which stands at this place if it took part; the standing is that of these rows.
-fn bonus_at(table: &[(PlayerId, i32)], row: &Appearance, place: usize) -> u8
-    requires { takes_part row.now.line ≡ true
-        → slice_get table.now place ≡ Some (row.now.player, bps_of row.now.position row.now.line) }
-    ensures value { (rows : List Appearance) → table.now ≡ standing rows
+// The bonus of a row, by the levels of the match that it is a row of.
+fn bonus_at(levels: &BonusLevels, row: &Appearance) -> u8
+    requires { IsLine row.now.line }
+    ensures value { (rows : List Appearance)
+        → ((own : ℤ) → bonus_by levels.now own ≡ bonus_of (standing rows) own)
         → result ≡ bonus_in rows row.now }
     ensures bound { result ≤ 3 }
 {
     if has_minutes(row) {
-        bonus(table, place)
+        levels.bonus(bps(row.position, &row.line))
     } else {
         0
     }

@@ -1,7 +1,6 @@
 // What the nodes are worth, of the facts and of what their inputs' cells hold.
-ghost use Rattle.std.specs.Prelude.{◌≡◌, ◌≤◌, ◌<◌, ◌+◌, ◌≤ℤ◌, ◌+ℤ◌, ◌||◌, nat_le, ℕ, pos, negsuc, length, IfOk, IfSome, option_copied, slice_get, Some};
+ghost use Rattle.std.specs.Prelude.{◌≡◌, ◌≤◌, ◌+◌, ◌≤ℤ◌, ◌+ℤ◌, ◌||◌, nat_le, ℕ, pos, negsuc, IfOk, option_copied, Some};
 ghost use Rattle.std.specs.Option.{unwrap_or};
-ghost use Rattle.rule_book.specs.Bonus.{bonus_of};
 ghost use Rattle.rule_book.specs.ById.{at_id};
 ghost use Rattle.rule_book.specs.Figures.{IsLine};
 ghost use Rattle.rule_book.specs.TeamScores.{IsModest};
@@ -11,7 +10,7 @@ ghost use Rattle.season_nodes.specs.Season.{AreModest, IsSeason, bonuses_by, bon
 
 use crate::rules::SeasonCells;
 use fpl_base::{FixtureId, Gw, Memory, PlayerId, Position, Profile, Steps};
-use line_scoring::{bonus, bps, line_points};
+use line_scoring::{BonusLevels, bps, line_points};
 use rule_book::{Figures, Line};
 use season_nodes::{Bonuses, Books, LineWorth, Node, Value};
 use std::alloc::Global;
@@ -142,20 +141,12 @@ pub fn bonus_among(rows: &[(PlayerId, u8)], player: PlayerId) -> u8
 fn with_bonus(alloc: Global, table: &[(PlayerId, i32)]) -> Result<Bonuses, Memory>
     ensures { IfOk result (λ rows. rows ≡ with_bonus table.now) }
 {
+    let levels = BonusLevels::of(table);
     let mut rows = Bonuses::new(alloc);
-    for place in 0..table.len() {
-        let (player, won) = bonus_row(table, place);
-        rows.push(player, won)?;
+    for row in table {
+        rows.push(row.0, levels.bonus(row.1))?;
     }
     Ok(rows)
-}
-
-fn bonus_row(table: &[(PlayerId, i32)], place: usize) -> (PlayerId, u8)
-    requires { place < length table.now }
-    ensures { IfSome (slice_get table.now place)
-        (λ row. result ≡ (row.0, bonus_of table.now row.1)) }
-{
-    (table[place].0, bonus(table, place))
 }
 
 // The points of a line with the bonus.

@@ -2,5 +2,5 @@ use Rattle.std.proofs.Common.{◌≡◌, map, take}
 use Rattle.rule_book.specs.Bonus.{bonus_of}
 use Rattle.season_rules.proofs.worth.with_bonus.Given as goal
 
-abbrev pub invariant-loop-place : goal.invariant-loop-place
-invariant-loop-place l = l.rows ≡ map (λ row. (row.0, bonus_of l.table row.1)) (take l.place l.table)
+abbrev pub invariant-loop-row : goal.invariant-loop-row
+invariant-loop-row l = l.rows ≡ map (λ row. (row.0, bonus_of l.table row.1)) (take l.row-index l.table)
