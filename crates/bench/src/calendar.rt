@@ -1,6 +1,5 @@
 //! The calls on the calendar: `pass`, `fixture`, `standing`, `set_deadline`, `move_fixture` and `add_fixture`. So many
 //! fixtures stand before, over 38 gameweeks in turn; `add_fixture` adds them all to a new calendar.
-ghost use Rattle.std.specs.Prelude.{◌≤◌, IfOk, length};
 
 use crate::Plan;
 use fpl_base::{ClubId, FixtureId, Gw, Moment, Refused};

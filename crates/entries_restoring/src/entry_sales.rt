@@ -1,5 +1,5 @@
 // The transfers that records tell of an entry.
-ghost use Rattle.std.specs.Prelude.{◌≡◌, ◌≤◌, ◌++◌, ℕ, IfOk, OnOk};
+ghost use Rattle.std.specs.Prelude.{◌≡◌, ◌++◌, IfOk, OnOk};
 ghost use Rattle.fpl_base.specs.Keeping.{map_of};
 ghost use Rattle.manager_book.specs.Calls.{with_gameweek};
 ghost use Rattle.season_books.specs.EntryTold.{sale_in, sale_told};

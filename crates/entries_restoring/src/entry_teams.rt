@@ -1,5 +1,5 @@
 // The teams that records tell of an entry.
-ghost use Rattle.std.specs.Prelude.{◌≡◌, ◌≤◌, ◌++◌, ℕ, IfOk, OnOk, map};
+ghost use Rattle.std.specs.Prelude.{◌≡◌, ◌≤◌, ◌++◌, IfOk, OnOk, map};
 ghost use Rattle.fpl_base.specs.Keeping.{map_of};
 ghost use Rattle.rule_book.specs.PlayerFigures.{position_in};
 ghost use Rattle.entries_restoring.specs.Restoring.{HaveBanks, HasBank, beside, pick_placed, placed, team_placed, teams_told};

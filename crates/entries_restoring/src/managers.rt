@@ -1,5 +1,5 @@
 // The entries that records tell, each with its teams and transfers.
-ghost use Rattle.std.specs.Prelude.{◌≡◌, ◌≤◌, ◌+◌, ℕ, IfOk, None, length};
+ghost use Rattle.std.specs.Prelude.{◌≡◌, ◌+◌, ℕ, IfOk, None, length};
 ghost use Rattle.std.specs.List.{AllByRecursion as Each};
 ghost use Rattle.std.specs.Option.{option_and_then, option_map};
 ghost use Rattle.fpl_base.specs.Keeping.{KeysRise, map_of};

@@ -1,14 +1,13 @@
 -- the messages that a session answers, however it ends
-use Rattle.std.proofs.Common.{◌≡◌, ℕ, List, [], ◌∷◌, ◌++◌, inl, inr, refl, sym, subst}
+use Rattle.std.proofs.Common.{ℕ, List, [], ◌∷◌, ◌++◌, inl, inr, refl, sym, subst}
 use Rattle.std.specs.Prelude.{Option}
 use Rattle.std.specs.Io.KnownBytes.{Consumes}
 use Rattle.fpl_http.specs.Stream.{Begins, Closed, End, Open, Reads, Refused, Request}
 use Rattle.fpl_http.proofs.StreamLemmas.{begins_more, begins_reads, begins_then}
-use Rattle.fpl_session.specs.declared.ending.Ending.{Ending}
 use Rattle.fpl_session.specs.declared.ending.Ending.TheVariants as Ends
 use Rattle.fpl_desk.specs.Answered.{Answered, SessionsAnswer}
 use Rattle.fpl_session.specs.Replies.{Speaks}
-use Rattle.fpl_session.specs.Sessions.{Heard, SessionOf}
+use Rattle.fpl_session.specs.Sessions.{Heard}
 use Rattle.fpl_session.specs.Stops.{IsDueBehind, LastFailed, Leads}
 use Rattle.fpl_session.proofs.RunLemmas.{run_then}
 

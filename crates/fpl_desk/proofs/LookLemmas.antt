@@ -1,5 +1,5 @@
 -- Reads that are counted while nothing but views is asked.
-use Rattle.std.proofs.Common.{◌≡◌, ◌∙◌, ◌⊎◌, ◌≤◌, ◌+◌, ℕ, Bool, false, List, [], ◌∷◌, Option, Some, None, Ok, Err, ap, arith, inl, inr, not, ◌==◌, refl, sum, sym, subst}
+use Rattle.std.proofs.Common.{◌≡◌, ◌∙◌, ◌≤◌, ◌+◌, ℕ, false, List, [], ◌∷◌, Option, Some, None, Ok, ap, arith, inl, inr, not, ◌==◌, refl, sum, sym, subst}
 use Rattle.std.specs.Option.{option_map}
 use Rattle.std.proofs.lemmas.Bool.Decides.{nat_tests}
 use Rattle.std.proofs.lemmas.List.Sums.{sum_by-cons}
@@ -10,8 +10,6 @@ use Rattle.fpl_http.specs.Stream.{Request as Message}
 use Rattle.fpl_routes.specs.Targets.{IsFound}
 use Rattle.fpl_routes.specs.declared.route.Found.TheVariants as found
 use Rattle.fpl_routes.specs.declared.route.Route.{Route}
-use Rattle.fpl_session.specs.Replies.{Speaks}
-use Rattle.fpl_session.specs.Runs.{Run}
 use Rattle.season_book.specs.Book.{Book, Facts}
 use Rattle.season_book.specs.Verdict.{locked_at, pass, view_answer}
 use Rattle.season_book.specs.declared.request.Request.{Request}
@@ -23,7 +21,7 @@ use Rattle.season_running.specs.Standing.{StandsIn}
 use Rattle.season_views.specs.Reads.{reads_allowed}
 use Rattle.fpl_replies.specs.Replying.{Asking, IsAsked, Reply, asked_by}
 use Rattle.fpl_desk.specs.Kept.{Kept, asked_in}
-use Rattle.fpl_desk.specs.Looks.{AreLooks, Counted, CountsAs, CountsLooks, LockNone, LocksNone, LooksOn, ReadFew, RunsReadFew, TellsOneAtMost, host_with}
+use Rattle.fpl_desk.specs.Looks.{AreLooks, Counted, CountsAs, CountsLooks, LockNone, LooksOn, RunsReadFew, TellsOneAtMost, host_with}
 use Rattle.fpl_desk.proofs.KeptLemmas.{caller_stood}
 
 -- ---- a moment that locks nothing leaves the book

@@ -3,7 +3,7 @@ ghost use Rattle.std.specs.Prelude.{◌≡◌, ◌≤◌, ◌⊎◌, IfSome, Mat
 ghost use Rattle.std.specs.Io.KnownBytes.{IsAtEnd, Keeps};
 ghost use Rattle.fpl_base.specs.Causes.{Rose};
 ghost use Rattle.fpl_words.specs.Orders.{ordered};
-ghost use Rattle.fpl_host.specs.Run.{Ends, IsScoreDue, RunsAs, Scored};
+ghost use Rattle.fpl_host.specs.Run.{Ends, IsScoreDue, RunsAs};
 ghost use Rattle.fpl_host.specs.Serve.{connections_in};
 
 use crate::pipe::pipe;

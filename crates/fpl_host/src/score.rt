@@ -1,9 +1,8 @@
 // The command that scores one match.
-ghost use Rattle.std.specs.Prelude.{◌≡◌, ◌≤◌, ◌<◌, ◌⊎◌, ℕ, List, IfOk, OnErr, IfSome, length, string_bytes};
+ghost use Rattle.std.specs.Prelude.{◌≡◌, ◌≤◌, ◌<◌, ◌⊎◌, IfOk, IfSome, length, string_bytes};
 ghost use Rattle.std.specs.Io.KnownBytes.{IsAtEnd};
 ghost use Rattle.fpl_base.specs.Causes.{Rose};
 ghost use Rattle.fpl_host.specs.Run.{IsScoreDue, row_text};
-ghost use Rattle.score_sheet.specs.Sheets.{HasWrongRow};
 
 use crate::input::{InputFault, read_all};
 use fpl_asking::status::{DONE, TOO_LONG, WRONG_ROW};

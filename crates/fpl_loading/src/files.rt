@@ -1,5 +1,5 @@
 // The season files of a folder.
-ghost use Rattle.std.specs.Prelude.{◌≡◌, ◌≤◌, All, Err, IfErr, IfOk, IfSome, length, string_bytes};
+ghost use Rattle.std.specs.Prelude.{◌≡◌, All, Err, IfErr, IfOk, IfSome, string_bytes};
 ghost use Rattle.fpl_base.specs.Shelves.{HasShelfCause};
 ghost use Rattle.fpl_base.specs.declared.outside.ShelfFault.TheVariants as fault_of;
 ghost use Rattle.season_book.specs.Commands.{IsCommand};

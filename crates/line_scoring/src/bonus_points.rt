@@ -1,5 +1,5 @@
 ghost use Rattle.std.specs.Prelude.{◌≡◌, ◌≤◌, ◌*◌, pos, negsuc, ◌≤ℤ◌};
-ghost use Rattle.rule_book.specs.Figures.{figure, IsLine};
+ghost use Rattle.rule_book.specs.Figures.{IsLine};
 ghost use Rattle.rule_book.specs.BonusPoints.{minutes_bps, clean_sheet_bps, passes_bps, bps_of};
 ghost use Rattle.rule_book.specs.Scoring.{by_position};
 

@@ -1,5 +1,5 @@
 ghost use Rattle.std.specs.Prelude.{◌≡◌, ◌≤◌, ◌*◌, pos, negsuc, ◌≤ℤ◌};
-ghost use Rattle.rule_book.specs.Figures.{figure, IsLine};
+ghost use Rattle.rule_book.specs.Figures.{IsLine};
 ghost use Rattle.rule_book.specs.Points.{minutes_points, clean_sheet_points, goal_points, points_of};
 ghost use Rattle.rule_book.specs.Scoring.{by_position, gives_one_per, takes_one_per, nothing, gain, loss};
 

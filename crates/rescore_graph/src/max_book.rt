@@ -1,4 +1,4 @@
-ghost use Rattle.std.specs.Prelude.{◌≡◌, ℕ, ◌≤◌, ◌<◌, [], ◌∷◌, ◌++◌, length, IfOk, OnOk, OnErr, IsTrue, ◌↔◌, slice_set, refl};
+ghost use Rattle.std.specs.Prelude.{◌≡◌, ◌≤◌, ◌<◌, [], ◌∷◌, ◌++◌, length, IfOk, OnOk, OnErr, IsTrue, ◌↔◌, slice_set, refl};
 ghost use Rattle.rescore_graph.specs.MaxGraph.{max_graph, IsLayered, IsThere, max_level, max_inputs};
 ghost use Rattle.rescore_graph.specs.Graph.{Among, NoneTwice};
 ghost use Rattle.rescore_graph.specs.declared.max_node.Peak.{Peak};

@@ -1,7 +1,7 @@
 -- The lines for the rows, one more at a time.
-use Rattle.std.proofs.Common.{◌≡◌, ◌<◌, ◌≤◌, ◌+◌, ◌∷◌, [], ◌++◌, ℕ, ℤ, suc, List, Bool, true, false, cond, length, get_or, map, filter, take, drop, Some, Option, arith, length-append, refl, sym, ap, ◌∙◌, rules}
+use Rattle.std.proofs.Common.{◌≡◌, ◌<◌, ◌≤◌, ◌+◌, ◌∷◌, [], ◌++◌, ℕ, ℤ, suc, List, Bool, true, false, cond, length, get_or, filter, take, drop, Some, arith, length-append, refl, sym, ap, ◌∙◌}
 use Rattle.std.specs.List.{flat_map, slice_get}
-use Rattle.std.proofs.lemmas.List.{flat_map_more, take_more, map-append, take-append-drop, length-map}
+use Rattle.std.proofs.lemmas.List.{flat_map_more, take_more, take-append-drop}
 use Rattle.std.proofs.lemmas.List.Elements.{filter-append}
 use Rattle.std.proofs.lemmas.List.Filters.{length-filter_more}
 use Rattle.std.proofs.Math.Seq.{drop-cons, get_or-append_seam}

@@ -1,5 +1,5 @@
 // One row of a match, from the fields of a record.
-ghost use Rattle.std.specs.Prelude.{List, ◌≡◌, ◌≢◌, ◌<◌, ◌≤◌, ◌^◌, ℕ, Some, None, length, IfSome, MatchOption};
+ghost use Rattle.std.specs.Prelude.{List, ◌≡◌, ◌≢◌, ◌<◌, ◌≤◌, ℕ, Some, None, length, IfSome, MatchOption};
 ghost use Rattle.std.specs.Fmt.{decimal};
 ghost use Rattle.csv.specs.Records.{fields_of, field_at};
 ghost use Rattle.rule_book.specs.Figures.{IsLine, line_range};

@@ -1,5 +1,5 @@
 // The rows of a match, from the bytes.
-ghost use Rattle.std.specs.Prelude.{List, ℕ, ◌≡◌, All, IfOk, IfErr, IfSome, MatchOption, map, ◌==◌};
+ghost use Rattle.std.specs.Prelude.{◌≡◌, All, IfOk, IfErr, IfSome, MatchOption, map, ◌==◌};
 ghost use Rattle.std.specs.List.{list_any};
 ghost use Rattle.csv.specs.Records.{fields_of};
 ghost use Rattle.rule_book.specs.Figures.{IsLine};

@@ -1,5 +1,5 @@
 // What is committed of slots.
-ghost use Rattle.std.specs.Prelude.{◌≡◌, [], Some, IfOk, OnOk};
+ghost use Rattle.std.specs.Prelude.{◌≡◌, Some, IfOk, OnOk};
 ghost use Rattle.season_batches.specs.Batches.{AreToldInRange, KeepsBy, batch_by};
 
 use crate::changes::delete;

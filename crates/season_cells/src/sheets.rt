@@ -1,6 +1,6 @@
 // What a sheet changes: the lines that are others, and the mark.
-ghost use Rattle.std.specs.Prelude.{◌≡◌, ◌≤◌, ◌↔◌, ◌+◌, IfOk, IsTrue, length};
-ghost use Rattle.rule_book.specs.MatchFacts.{is_finished, line_in, line_of, lines_of};
+ghost use Rattle.std.specs.Prelude.{◌≡◌, ◌≤◌, ◌+◌, IfOk, length};
+ghost use Rattle.rule_book.specs.MatchFacts.{is_finished, line_in, lines_of};
 ghost use Rattle.season_cells.specs.Plans.{AreOthersIn, IsSheet};
 
 use crate::plan::{Plan, has_line};

@@ -1,5 +1,5 @@
 // The cells of a host, which follow what is changed.
-ghost use Rattle.std.specs.Prelude.{◌≡◌, ◌≢◌, ◌≤◌, ◌+◌, ℕ, [], false, true, Option, IfOk, IsOk, OnOk};
+ghost use Rattle.std.specs.Prelude.{◌≡◌, ◌≢◌, ◌≤◌, ◌+◌, [], false, true, Option, IfOk, IsOk, OnOk};
 ghost use Rattle.season_book.specs.Book.{Book};
 ghost use Rattle.season_book.specs.Commands.{IsCommand};
 ghost use Rattle.season_book.specs.Doing.{IsOutLate, IsStoreless};

@@ -1,5 +1,5 @@
 -- Who goes on from a tie wins it by the rule book.
-use Rattle.std.proofs.Common.{◌≡◌, ℕ, zero, suc, ◌+◌, ◌-◌, ◌*◌, ◌^◌, ◌<◌, ◌≤◌, ◌==◌, Bool, true, false, if◌then◌else◌, cond, ◌⊎◌, inl, inr, List, take, drop, Option, length, get_or, slice_index, refl, sym, ◌∙◌, ap, ap₂, subst, arith, add-one}
+use Rattle.std.proofs.Common.{◌≡◌, ℕ, zero, suc, ◌+◌, ◌-◌, ◌*◌, ◌^◌, ◌<◌, ◌≤◌, ◌==◌, Bool, true, false, if◌then◌else◌, cond, ◌⊎◌, inl, inr, List, take, drop, Option, length, slice_index, refl, sym, ◌∙◌, ap, ap₂, subst, arith, add-one}
 use Rattle.std.proofs.Math.Nat.{pow-succ'}
 use Rattle.std.proofs.lemmas.List.{get_or-drop, get_or-take, length-drop, length-take}
 use Rattle.rule_book.specs.declared.cup.Bracket.{Bracket}

@@ -1,5 +1,5 @@
 // What views show of entries.
-ghost use Rattle.std.specs.Prelude.{◌≡◌, ◌≤◌, ◌+◌, ◌==◌, ◌||◌, ℕ, List, Some, None, length, map, nat_lt, if◌then◌else◌};
+ghost use Rattle.std.specs.Prelude.{◌≡◌, ◌≤◌, ◌+◌, ◌==◌, ◌||◌, List, Some, None, length, map, nat_lt, if◌then◌else◌};
 ghost use Rattle.rule_book.specs.Batch.{price_of};
 ghost use Rattle.rule_book.specs.History.{Event};
 ghost use Rattle.rule_book.specs.HistoryRules.{is_started};

@@ -1,6 +1,5 @@
 // What views show.
 ghost use Rattle.std.specs.Prelude.{◌≡◌, ◌≤◌, ◌<◌, ◌+◌, ◌&&◌, Some, None, IfOk, IsSome, OnErr, length, nat_le, slice_get, if◌then◌else◌};
-ghost use Rattle.std.specs.Option.{option_map};
 ghost use Rattle.rule_book.specs.Calendar.{is_locked};
 ghost use Rattle.season_book.specs.Verdict.{shown_or_unknown};
 ghost use Rattle.season_book.specs.Views.{shown_of, season_shown, fixture_shown};

@@ -1,4 +1,4 @@
-use Rattle.std.proofs.Common.{◌≡◌, ◌<◌, ◌≢◌, ℕ, length, arith, below_more, get_or-set_other, get_or-set_same, ap, ◌∙◌, Some}
+use Rattle.std.proofs.Common.{◌<◌, ◌≢◌, length, arith, below_more, get_or-set_other, get_or-set_same, ap, ◌∙◌, Some}
 use Rattle.std.proofs.Math.ListN.{length-set}
 use Rattle.score_sheet.proofs.row.figures_of.Goals as goal
 
