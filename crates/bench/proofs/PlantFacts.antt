@@ -1,15 +1,14 @@
 -- Cells of a tree: planted one after another, and after a node got another number.
-use Rattle.std.proofs.Common.{◌≡◌, ◌≢◌, ℕ, ◌+◌, ◌-◌, ◌*◌, ◌^◌, ◌<◌, ◌≤◌, true, false, List, ◌⊎◌, inl, inr, ⊎_elim, None, IsSome, is_some, sym, ◌∙◌, ap, subst, arith, set, nat_cmp, max}
-use Rattle.std.specs.Prelude.{slice_index, nat_le}
+use Rattle.std.proofs.Common.{◌≡◌, ◌≢◌, ℕ, ◌+◌, ◌-◌, ◌*◌, ◌^◌, ◌<◌, ◌≤◌, true, false, List, ◌⊎◌, ⊎_elim, None, is_some, sym, ◌∙◌, ap, subst, arith, set, nat_cmp, max}
+use Rattle.std.specs.Prelude.{slice_index}
 use Rattle.std.specs.Cmp.{nat_cmp_total}
 use Rattle.std.proofs.lemmas.List.{get_or-set_other}
-use Rattle.std.proofs.lemmas.Bool.Decides.{leb_tells}
 use Rattle.rescore_graph.specs.States.{State, value_of, is_dirty, values_in, planted, raise, Puts}
 use Rattle.rescore_graph.specs.Settling.{Sound}
 use Rattle.rescore_graph.proofs.ChangeFacts.{sound_changed}
 use Rattle.rescore_graph.proofs.RaisedFacts.{value_raise, some_raise, raise_dirty}
 use Rattle.rescore_graph.proofs.WorkFacts.{put_here, put_others, apart}
-use Rattle.bench.specs.Tree.{IsNode, part, tree_graph}
+use Rattle.bench.specs.Tree.{part, tree_graph}
 use Rattle.bench.specs.TreeLaws.{tree_lawful, number_exact}
 
 -- the nodes up to k were planted, and no other
@@ -17,45 +16,8 @@ pub record IsFilled (s : State ℕ ℕ) (k : ℕ) : Type 0 where
   pub there : (q : ℕ) → 1 ≤ q → q ≤ k → s q ≡ planted
   pub none : (q : ℕ) → (q < 1) ⊎ (k < q) → s q ≡ None
 
-pub filled_none : (s : State ℕ ℕ) → ((q : ℕ) → s q ≡ None) → IsFilled s 0
-filled_none s h = record { there = λ q l u. absurd (omega arith); none = λ q o. h q }
-
-pub filled_more : (s t : State ℕ ℕ) (k : ℕ) → IsFilled s k → Puts nat_cmp s t (k + 1) planted → IsFilled t (k + 1)
-filled_more s t k f puts = record {
-  there = λ q l u. ⊎_elim (λ i. subst (λ x. t x ≡ planted) i (put_here nat_cmp nat_cmp_total number_exact (k + 1) s t planted puts))
-      (λ ne. put_others nat_cmp nat_cmp_total number_exact (k + 1) s t planted puts q ne ∙ f.there q l (under q u ne)) (apart nat_cmp nat_cmp_total number_exact (k + 1) q);
-  none = λ q o. put_others nat_cmp nat_cmp_total number_exact (k + 1) s t planted puts q (outside q o) ∙ f.none q (further q o);
-}
-  where
-    under : (q : ℕ) → q ≤ k + 1 → (k + 1) ≢ q → q ≤ k
-    under q u ne = ⊎_elim (λ p. p.1) (λ p. let b : k < q = p.1 in absurd (ne (omega arith))) (leb_tells q k)
-
-    outside : (q : ℕ) → (q < 1) ⊎ (k + 1 < q) → (k + 1) ≢ q
-    outside q (inl h) i = omega arith
-    outside q (inr h) i = omega arith
-
-    further : (q : ℕ) → (q < 1) ⊎ (k + 1 < q) → (q < 1) ⊎ (k < q)
-    further q (inl h) = inl h
-    further q (inr h) = inr (omega arith)
-
 clash : true ≡ false → ⊥
 clash e = cc
-
--- cells that all were planted just now
-pub filled_sound : (size : ℕ) (numbers : List ℕ) (s : State ℕ ℕ) → IsFilled s size → Sound (tree_graph size numbers) s
-filled_sound size numbers s f = record {
-  cells = λ q. (there q (leb_tells 1 q) (leb_tells q size), (λ l. ap is_some (f.there q l.0 l.1)));
-  inputs = λ q m l c a. absurd (clash (sym (ap is_dirty (f.there q l.0 l.1)) ∙ c));
-  value = λ q l c. absurd (clash (sym (ap is_dirty (f.there q l.0 l.1)) ∙ c));
-}
-  where
-    gone : (q : ℕ) → (q < 1) ⊎ (size < q) → IsSome (s q) → IsNode size q
-    gone q o y = absurd (clash (sym y ∙ ap is_some (f.none q o)))
-
-    there : (q : ℕ) → ((nat_le 1 q ≡ true) × (1 ≤ q)) ⊎ ((nat_le 1 q ≡ false) × (q < 1)) → ((nat_le q size ≡ true) × (q ≤ size)) ⊎ ((nat_le q size ≡ false) × (size < q)) → IsSome (s q) → IsNode size q
-    there q (inl a) (inl b) y = (a.1, b.1)
-    there q (inr a) b y = gone q (inl a.1) y
-    there q a (inr b) y = gone q (inr b.1) y
 
 module _ (size : ℕ) (numbers : List ℕ) (few : size < 2 ^ 31) (s t : State ℕ ℕ) (sound : Sound (tree_graph size numbers) s) (n v : ℕ) (low : 1 ≤ n) (high : n ≤ size) (puts : Puts nat_cmp s t n (raise (s n))) where
   others : (q : ℕ) → n ≢ q → t q ≡ s q

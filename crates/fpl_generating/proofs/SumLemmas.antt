@@ -1,8 +1,7 @@
 -- Totals that are summed row by row.
-use Rattle.std.proofs.Common.{◌≡◌, ◌∙◌, ◌<◌, ◌≤◌, ◌+◌, ℕ, suc, List, ◌∷◌, length, drop, drop-cons, get_or, add-one, pos, ◌+ℤ◌, arith, ap, sym}
+use Rattle.std.proofs.Common.{◌≡◌, ◌∙◌, ◌<◌, ◌+◌, ℕ, suc, List, ◌∷◌, length, drop, drop-cons, get_or, add-one, ◌+ℤ◌, arith, ap, sym}
 use Rattle.std.specs.Prelude.{ℤ}
 use Rattle.std.proofs.lemmas.Int.{ints}
-use Rattle.std.proofs.lemmas.List.{drop_all}
 use Rattle.season_book.specs.declared.shown.ShownRanked.{ShownRanked}
 use Rattle.fpl_generating.specs.Summaries.{sum_of}
 
@@ -13,9 +12,3 @@ sum_more rows at row sum all within is so_far =
     let front : drop at rows ≡ row ∷ drop (at + 1) rows = rw add-one (drop-cons rows at row within ∙ ap (λ (first : ShownRanked). first ∷ drop (suc at) rows) (sym is)) in
     let left : sum_of (drop at rows) ≡ row.row.total +ℤ sum_of (drop (at + 1) rows) = ap sum_of front in
     omega (arith, ints, left, so_far)
-
--- behind the last row it is the sum of all
-pub sum_all : (rows : List ShownRanked) (at : ℕ) (sum all : ℤ) → length rows ≤ at → sum +ℤ sum_of (drop at rows) ≡ all → sum ≡ all
-sum_all rows at sum all past so_far =
-    let none : sum_of (drop at rows) ≡ pos 0 = ap sum_of (drop_all at rows past) in
-    omega (arith, ints, none, so_far)

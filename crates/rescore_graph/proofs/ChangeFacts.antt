@@ -1,5 +1,5 @@
 -- What keeps cells sound when the rules change.
-use Rattle.std.proofs.Common.{◌≡◌, true, false, ◌↔◌, Option, Some, None, IsSome, is_some, sym, ◌∙◌, ap}
+use Rattle.std.proofs.Common.{◌≡◌, false, ◌↔◌, Option, Some, IsSome, is_some, sym, ◌∙◌, ap}
 use Rattle.rescore_graph.specs.Graph.{Among, Graph, IsGraph}
 use Rattle.rescore_graph.specs.States.{State, value_of, is_dirty, values_in}
 use Rattle.rescore_graph.specs.Settling.{Sound, SoundBut}
@@ -21,17 +21,6 @@ sound_changed g h law s t sound cells same = record {
       ∙ ap Some (law.local q u.live (values_in s) (values_in t) (λ m a. sym (u.values m a)) ∙ sym (u.own (values_in t)));
 }
 
--- cells without live nodes
-pub sound_empty : {N V : Type 0} (g : Graph N V) (s : State N V) → ((q : N) → ¬ g.live q) → ((q : N) → s q ≡ None) → Sound g s
-sound_empty g s none empty = record {
-  cells = λ q. ((λ y. absurd (clash (sym y ∙ ap is_some (empty q)))), (λ l. absurd (none q l)));
-  inputs = λ q m l c a. absurd (none q l);
-  value = λ q l c. absurd (none q l);
-}
-  where
-    clash : true ≡ false → ⊥
-    clash e = cc
-
 -- The rules changed and the cells did not yet: all is sound but for what the change touches.
 pub sound_start : {N V : Type 0} (g h : Graph N V) → IsGraph g → (X : N → Type 0) (s : State N V) → Sound g s → ((q : N) → (¬ X q) → g.live q ↔ h.live q) → ((q : N) → (¬ X q) → h.live q → Untouched g h s s q) → SoundBut h X s
 sound_start g h law X s sound lives same = record {
@@ -48,12 +37,4 @@ sound_shrinks h law X Y s t sound cells same kept = record {
   inputs = λ q m y l c a. let o = same q y l c in let e = sound.inputs q m o.0 l (sym (ap is_dirty o.1) ∙ c) a in ap is_some (kept m (law.inputs_live q m l a) e) ∙ e;
   value = λ q y l c. let o = same q y l c in let d = sym (ap is_dirty o.1) ∙ c in
       ap value_of o.1 ∙ sound.value q o.0 l d ∙ ap Some (law.local q l (values_in s) (values_in t) (λ m a. sym (kept m (law.inputs_live q m l a) (sound.inputs q m o.0 l d a))));
-}
-
--- nothing is left out
-pub sound_whole : {N V : Type 0} (h : Graph N V) (s : State N V) → SoundBut h (λ _. ⊥) s → Sound h s
-sound_whole h s sound = record {
-  cells = λ q. sound.cells q (λ x. x);
-  inputs = λ q m. sound.inputs q m (λ x. x);
-  value = λ q. sound.value q (λ x. x);
 }

@@ -23,7 +23,7 @@ use Rattle.season_nodes.specs.declared.nodes.Node.{Node}
 use Rattle.season_nodes.specs.declared.nodes.Node.TheVariants as node
 use Rattle.season_running.specs.Kept.{AreKeptBy}
 use Rattle.season_running.specs.Standing.{HostRows, Running, host_rows, passed}
-use Rattle.season_host.specs.Cells.{AreCellsNow, AreCellsOfHost, AreCorrectedNow, LeadsNow, Locks, LocksNow, running_in, running_seen}
+use Rattle.season_host.specs.Cells.{AreCellsNow, AreCellsOfHost, LeadsNow, Locks, LocksNow, running_in, running_seen}
 
 -- a season and its managers are seen as the season that runs
 pub seen_is : (r : Running) (f : Facts) (m : Managers) (l : List LeagueFacts) (c : List Bracket) → f ≡ r.facts → m.managers ≡ r.managers → m.profile ≡ r.facts.profile → l ≡ r.leagues → c ≡ r.cups
@@ -31,71 +31,16 @@ pub seen_is : (r : Running) (f : Facts) (m : Managers) (l : List LeagueFacts) (c
 seen_is r f m l c same rows profile leagues cups =
     λ i. facts_with (same i).profile (same i).calendar (same i).players (same i).matches (record { profile = profile i; managers = rows i }) (leagues i) (cups i)
 
--- the cells of a season that runs are those of the host in which it runs
-of_running : (operator : List ℕ) (lasts : List (ℕ × Last)) (running : Option Running) (cells : Option CellRows)
-    → AreCellsNow running cells → AreCellsOfHost (host_rows operator running lasts) cells
-of_running operator lasts None cells are = are
-of_running operator lasts (Some r) None are = are
-of_running operator lasts (Some r) (Some cells) are = are
-
-pub of_host : (host : HostRows) (running : Option Running) (cells : Option CellRows) → host ≡ host_rows host.operator running host.lasts
-    → AreCellsNow running cells → AreCellsOfHost host cells
-of_host host running cells is are = subst (λ (h : HostRows). AreCellsOfHost h cells) (sym is) (of_running host.operator host.lasts running cells are)
-
--- what leads to the season of a host leads to the one that runs in it
-leads_running : (operator : List ℕ) (lasts : List (ℕ × Last)) (before running : Option Running) (plan : Plan)
-    → LeadsNow before (running_in (host_rows operator running lasts)) plan → LeadsNow before running plan
-leads_running operator lasts None None plan leads = leads
-leads_running operator lasts None (Some r) plan leads = leads
-leads_running operator lasts (Some b) None plan leads = leads
-leads_running operator lasts (Some b) (Some r) plan leads = leads
-
-pub leads_host : (host : HostRows) (before running : Option Running) (plan : Plan) → host ≡ host_rows host.operator running host.lasts
-    → LeadsNow before (running_in host) plan → LeadsNow before running plan
-leads_host host before running plan is leads =
-    leads_running host.operator host.lasts before running plan (subst (λ (h : HostRows). LeadsNow before (running_in h) plan) is leads)
-
 -- the facts of the season that ran, or of this one where none did
 abbrev pub seen_or : Option Running → Running → SeasonFacts
 seen_or before running = option_map_or running_seen before (running_seen running)
-
-pub cells_then : (before : Option Running) (running : Running) (cells : CellRows) → AreCellsNow before (Some cells) → AreCellsOf (seen_or before running) cells
-cells_then None running cells are = cc
-cells_then (Some b) running cells are = are
 
 pub leads_then : (before : Option Running) (running : Running) (plan : Plan) (cells : CellRows) → AreCellsNow before (Some cells)
     → LeadsNow before (Some running) plan → LeadsTo (seen_or before running) (running_seen running) plan
 leads_then None running plan cells are leads = absurd leads
 leads_then (Some b) running plan cells are leads = leads are.season
 
--- a plan leads nowhere where no season runs, before or behind it
-pub leads_nowhere : {X : Type 0} (before : Option Running) (plan : Plan) → LeadsNow before None plan → X
-leads_nowhere None plan leads = absurd leads
-leads_nowhere (Some b) plan leads = absurd leads
-
-pub leads_from_none : {X : Type 0} (before : Option Running) (running : Running) (plan : Plan) → AreCellsNow before None → LeadsNow before (Some running) plan → X
-leads_from_none None running plan are leads = absurd leads
-leads_from_none (Some b) running plan are leads = absurd are
-
 -- What is corrected.
-
-pub corrected_then : (before : Option Running) (running : Running) (plan : Plan) (old new : CellRows) → LeadsNow before (Some running) plan
-    → IsCorrected (seen_or before running) (running_seen running) old.cells new.cells → AreCorrectedNow before (Some running) (Some old) (Some new)
-corrected_then None running plan old new leads is = absurd leads
-corrected_then (Some b) running plan old new leads is = is
-
-corrected_running : (operator : List ℕ) (lasts : List (ℕ × Last)) (before running : Option Running) (old new : Option CellRows)
-    → AreCorrectedNow before running old new → AreCorrectedNow before (running_in (host_rows operator running lasts)) old new
-corrected_running operator lasts None running old new is = tt
-corrected_running operator lasts (Some b) None old new is = tt
-corrected_running operator lasts (Some b) (Some r) None new is = tt
-corrected_running operator lasts (Some b) (Some r) (Some old) None is = tt
-corrected_running operator lasts (Some b) (Some r) (Some old) (Some new) is = is
-
-pub corrected_host : (host : HostRows) (before running : Option Running) (old new : Option CellRows) → host ≡ host_rows host.operator running host.lasts
-    → AreCorrectedNow before running old new → AreCorrectedNow before (running_in host) old new
-corrected_host host before running old new is corrected =
-    subst (λ (h : HostRows). AreCorrectedNow before (running_in h) old new) (sym is) (corrected_running host.operator host.lasts before running old new corrected)
 
 -- a node is the same in facts that are the same
 same_self : (b : SeasonFacts) (n : Node) → IsSame b b n
@@ -117,38 +62,11 @@ unchanged b cells = record {
   once = λ n stays. inl refl;
 }
 
-pub stays_corrected : (running : Option Running) (cells : Option CellRows) → AreCorrectedNow running running cells cells
-stays_corrected None cells = tt
-stays_corrected (Some r) None = tt
-stays_corrected (Some r) (Some cells) = unchanged (running_seen r) cells.cells
-
--- nothing is asked of cells that were made where no season ran
-pub begun_corrected : (before after : Option Running) (old new : Option CellRows) → before ≡ None → AreCorrectedNow before after old new
-begun_corrected None after old new is = tt
-begun_corrected (Some b) after old new is = cc
-
 -- Moments.
 
 -- the season before a moment, or this one where none ran
 abbrev pub season_then : Option Running → Running → Running
 season_then before running = unwrap_or before running
-
-pub locks_then : (before : Option Running) (running : Running) (first : ℕ) → LocksNow before (Some running) first → Locks (season_then before running) running first
-locks_then None running first locks = absurd locks
-locks_then (Some b) running first locks = locks
-
-pub cells_at : (before : Option Running) (running : Running) (first : ℕ) (cells : CellRows) → AreCellsNow before (Some cells) → LocksNow before (Some running) first
-    → AreCellsOf (running_seen (season_then before running)) cells
-cells_at None running first cells are locks = absurd locks
-cells_at (Some b) running first cells are locks = are
-
-pub none_then : (before : Option Running) (first : ℕ) (cells : Option CellRows) → AreCellsNow before cells → LocksNow before None first → AreCellsNow None cells
-none_then None first cells are locks = are
-none_then (Some b) first cells are locks = absurd locks
-
-pub some_then : {X : Type 0} (before : Option Running) (running : Running) (first : ℕ) → AreCellsNow before None → LocksNow before (Some running) first → X
-some_then None running first are locks = absurd locks
-some_then (Some b) running first are locks = absurd are
 
 -- the season of a moment differs in its locks from the one before
 pub locked_season : MomentPasses → (before running : Running) (first : ℕ) (books : SeasonFacts) → books ≡ running_seen running → Locks before running first

@@ -1,7 +1,7 @@
 -- What a lock leads to.
-use Rattle.std.proofs.Common.{◌≡◌, ◌∙◌, ◌==◌, ℕ, [], true≢false, true, false, Option, Some, None, Result, ap, arith, refl, subst, sym}
+use Rattle.std.proofs.Common.{◌≡◌, ◌∙◌, ◌==◌, ℕ, [], false, Option, Some, None, Result, ap, arith, refl, subst, sym}
 use Rattle.std.specs.Prelude.{not}
-use Rattle.std.specs.Option.{option_map, option_map_or}
+use Rattle.std.specs.Option.{option_map}
 use Rattle.std.proofs.lemmas.Bool.Decides.{nat_tests}
 use Rattle.std.proofs.lemmas.Option.{none-some, same_Some}
 use Rattle.fpl_base.specs.Keeping.{Map}
@@ -11,7 +11,6 @@ use Rattle.season_book.specs.Book.{Book, Facts}
 use Rattle.season_book.specs.Verdict.{locked_at, pass}
 use Rattle.season_cells.specs.Kept.{CellRows}
 use Rattle.season_host.specs.Accepted.{locks_more}
-use Rattle.season_host.specs.Cells.{running_in}
 use Rattle.season_items.specs.Staying.{LockedItemsStay, LooksTellItems}
 use Rattle.season_opening.specs.Opening.{IsKeepable}
 use Rattle.season_records.specs.Keeping.{LocksKeepRecords, MomentsAreEarly, NoLockLeavesBook}
@@ -31,9 +30,6 @@ use Rattle.season_keeping.proofs.Leading.{commit_leads, commit_stops}
 same_of : (a b : ℕ) → not (a == b) ≡ false → a ≡ b
 same_of a b is = grind (arith, nat_tests, is)
 
-apart_of : (a b : ℕ) → not (a == b) ≡ true → a ≡ b → ⊥
-apart_of a b is same = grind (arith, nat_tests, is, same)
-
 locked_same : (o : Option Facts) (now : ℕ) → locks_more o now ≡ false → (facts : Facts) → o ≡ Some facts
     → (after_pass facts.calendar now).locked ≡ facts.calendar.locked
 locked_same None now is facts there = absurd (none-some facts there)
@@ -50,10 +46,6 @@ facts_stay : NoLockLeavesBook → (o : Option Facts) (now : ℕ) → locks_more 
 facts_stay none o now is =
     ap (λ (b : Book). b.facts) (none (record { facts = o; entries = []; leagues = []; cups = []; lasts = [] }) now (λ facts there. locked_same o now is facts there))
 
-pub running_stays : NoLockLeavesBook → (rows : HostRows) (now : ℕ) → locks_more rows.facts now ≡ false → running_in (passed now rows) ≡ running_in rows
-running_stays none rows now is =
-    ap (λ (o : Option Facts). option_map (λ facts. record { facts = facts; managers = rows.managers; leagues = rows.leagues; cups = rows.cups }) o) (facts_stay none rows.facts now is)
-
 -- and so does the host
 rows_stay : NoLockLeavesBook → (rows : HostRows) (now : ℕ) → locks_more rows.facts now ≡ false → passed now rows ≡ rows
 rows_stay none rows now is = ap (λ (o : Option Facts). record rows { facts = o }) (facts_stay none rows.facts now is)
@@ -68,17 +60,6 @@ host_stays none inside old rows cells now view leads same is =
     ap (λ (r : HostRows). holding inside r cells) (leads ∙ rows_stay none inside.rows now (ap (λ (h : Housed). locks_more h.rows.facts now) view ∙ is))
     ∙ ap (holding inside inside.rows) same
     ∙ view
-
-abbrev locked_count : Option Facts → ℕ
-locked_count o = option_map_or (λ f. f.calendar.locked) o 0
-
-moves_on : (o : Option Facts) (now : ℕ) → locks_more o now ≡ true → option_map (locked_at now) o ≡ o → ⊥
-moves_on None now is same = true≢false (sym is)
-moves_on (Some facts) now is same = apart_of (after_pass facts.calendar now).locked facts.calendar.locked is (ap locked_count same)
-
-pub locks_of : (rows : HostRows) (now : ℕ) → locks_more rows.facts now ≡ true → (book : Book) → StandsIn rows book → pass book now ≡ book → ⊥
-locks_of rows now is book stands same =
-    moves_on rows.facts now is (subst (λ (o : Option Facts). option_map (locked_at now) o ≡ o) stands.facts (ap (λ (b : Book). b.facts) same))
 
 -- What it leads to.
 

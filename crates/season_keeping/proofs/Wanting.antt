@@ -1,14 +1,13 @@
 -- Memory ran out before anything was committed: the host is stale, and the keeper holds what it held.
-use Rattle.std.proofs.Common.{◌≡◌, ℕ, List, true, false, inl, inr, refl}
+use Rattle.std.proofs.Common.{◌≡◌, ℕ, List, true, inl, inr, refl}
 use Rattle.fpl_base.specs.Keeping.{Map}
 use Rattle.fpl_base.specs.declared.kinds.Caller.{Caller}
 use Rattle.season_book.specs.Book.{Book}
 use Rattle.season_book.specs.Verdict.{Failures}
 use Rattle.season_book.specs.declared.answer.Answer.TheVariants as answer
 use Rattle.season_book.specs.declared.request.Request.{Request}
-use Rattle.season_records.specs.Records.{records}
 use Rattle.season_keeping.specs.Answering.{LeadsOn, MayEnd}
-use Rattle.season_keeping.specs.Housed.{Backs, Housed}
+use Rattle.season_keeping.specs.Housed.{Housed}
 use Rattle.season_keeping.proofs.Leading.{is_fresh}
 
 module _ (K : Type 0) (tells serves : K → Type 0) (holds passes : K → Map → Type 0) (keeper : K) (old new : Housed) (stale : new.stale ≡ true) (book : Book) where
@@ -26,11 +25,6 @@ module _ (K : Type 0) (tells serves : K → Type 0) (holds passes : K → Map �
       led,
     );
   }
-
--- and a stop leaves what it left
-pub wanting_stops : (K : Type 0) (holds passes : K → Map → Type 0) (keeper : K) (old : Housed) (book : Book) → old.stale ≡ false
-    → Backs holds passes keeper old book → (x : Map) → passes keeper x → x ≡ records book
-wanting_stops K holds passes keeper old book fresh backs x passed = backs.alone fresh x passed
 
 -- want of memory may be answered, and leaves the book
 pub wanting_ends : (operator : List ℕ) (failures : Failures) (book : Book) (caller : Caller) (now : ℕ) (asked : Request)

@@ -10,8 +10,8 @@ use Rattle.rule_book.specs.Entries.{entry_in}
 use Rattle.rule_book.specs.LeagueCalls.{is_drawn, is_member, with_member, with_order}
 use Rattle.rule_book.specs.Leagues.{LeagueFacts}
 use Rattle.rule_book.specs.Ranks.{AllDiffer}
-use Rattle.classic_leagues.specs.Books.{CanDraw, IsLeague}
-use Rattle.classic_leagues.proofs.Members.{member_as_before, member_now, order_differs}
+use Rattle.classic_leagues.specs.Books.{CanDraw}
+use Rattle.classic_leagues.proofs.Members.{member_as_before, member_now}
 use Rattle.rescore_graph.specs.Graph.{Among}
 use Rattle.season_nodes.specs.Places.{numbered}
 use Rattle.season_nodes.specs.Season.{AreOrders, IsOrder}
@@ -43,9 +43,6 @@ by_order league order is differ drawn = record {
   differ = subst AllDiffer is differ;
   members = λ e a. drawn_member order league.members e (drawn (some_drawn league.order e a)).draw.1 (subst (λ those. Among those e) (sym is) a);
 }
-
-pub is_order : (league : LeagueFacts) → IsLeague league → IsOrder league
-is_order league is = by_order league league.order refl (order_differs league is) is.drawn
 
 -- a league that was not drawn has an order, and one that is drawn so, or has a member more, keeps one
 pub not_drawn : (league : LeagueFacts) → league.order ≡ [] → IsOrder league

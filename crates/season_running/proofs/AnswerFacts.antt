@@ -55,16 +55,6 @@ rules_judged (Some facts) now command =
     chosen (is_some (begun_by command)) (Err (answer.Rule rule.SeasonThere)) (if are_there facts command then behind else Err answer.Unknown) tt
     (chosen (are_there facts command) behind (Err answer.Unknown) (rules_unless (refusal_of facts now command) (changed_by facts command)) tt)
 
--- so no refusal speaks of a store
-pub storeless_refused : (verdict : Result Facts Answer) (reply : Answer) → Rules verdict → IsRefused verdict reply → IsStoreless reply
-storeless_refused verdict (answer.Done number made) rules refused = tt
-storeless_refused verdict (answer.Shown shown) rules refused = tt
-storeless_refused verdict (answer.Rule rule) rules refused = tt
-storeless_refused verdict answer.Unknown rules refused = tt
-storeless_refused verdict answer.Keeper rules refused = subst Rules refused rules
-storeless_refused verdict (answer.Damaged key) rules refused = subst Rules refused rules
-storeless_refused verdict answer.Memory rules refused = tt
-
 pub storeless_refusal : (reply : Answer) → IsRefusal reply → IsStoreless reply
 storeless_refusal (answer.Done number made) rules = absurd rules
 storeless_refusal (answer.Shown shown) rules = absurd rules
