@@ -1,5 +1,6 @@
 // What the locks of gameweeks do to the ties of cups.
 ghost use Rattle.std.specs.Prelude.{◌<◌, ◌+◌, OnOk};
+ghost use Rattle.rule_book.specs.CupCalls.{most_cups};
 ghost use Rattle.season_graph.specs.Followed.{CupsRefreshed, LockedCupsRefreshed, Refreshes};
 ghost use Rattle.season_graph.specs.Touched.{cup_round, tie_nodes, ties_since};
 ghost use Rattle.season_nodes.specs.BookFacts.{facts_of};
@@ -40,7 +41,7 @@ fn refresh_numbered(
     number: u32,
     from: u8,
 ) -> Result<(), Memory>
-    requires { number < 32 }
+    requires { number < most_cups }
     ensures { OnOk result
         (Refreshes books.now
         (ties_since (facts_of books.now) from (number + 1)) cells.old cells.new) }

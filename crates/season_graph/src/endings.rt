@@ -1,5 +1,6 @@
 // What the end of a gameweek does to the cells.
 ghost use Rattle.std.specs.Prelude.{◌≡◌, ◌<◌, ◌+◌, [], ◌∷◌, OnOk};
+ghost use Rattle.rule_book.specs.Entries.{most_entries};
 ghost use Rattle.season_graph.specs.Followed.{MarkRefreshed, Refreshes};
 ghost use Rattle.season_graph.specs.Touched.{ending_in, ending_nodes, moved_endings, others_finished, team_nodes};
 ghost use Rattle.season_nodes.specs.BookFacts.{facts_of};
@@ -105,7 +106,7 @@ fn refresh_team(
     number: u32,
     gameweek: Gw,
 ) -> Result<(), Memory>
-    requires { number < 2048 }
+    requires { number < most_entries }
     ensures { OnOk result
         (Refreshes books.now (Node.TeamGw (number + 1) gameweek ∷ []) cells.old cells.new) }
 {

@@ -1,5 +1,6 @@
 // Who holds whom in the gameweeks that are locked.
 ghost use Rattle.std.specs.Prelude.{◌<◌, ◌≤◌, ◌+◌, OnOk};
+ghost use Rattle.rule_book.specs.Entries.{most_entries};
 ghost use Rattle.season_graph.specs.Indexed.{EntryIndexed, LocksIndexed, PicksIndexed, TeamIndexed};
 ghost use Rattle.season_nodes.specs.BookFacts.{facts_of};
 
@@ -19,7 +20,7 @@ pub(crate) fn index_gameweeks(index: &mut Index, books: &Books, first: u8) -> Re
 
 // Puts into the index whom the entry of a number from 0 holds in the locked gameweeks behind the first ones.
 fn index_issued(index: &mut Index, books: &Books, number: u32, first: u8) -> Result<(), Memory>
-    requires { number < 2048 }
+    requires { number < most_entries }
     ensures { OnOk result
         (EntryIndexed (facts_of books.now) (number + 1) first index.old index.new) }
 {

@@ -1,5 +1,6 @@
 // What locks of gameweeks do to the cells.
 ghost use Rattle.std.specs.Prelude.{◌<◌, ◌+◌, [], ◌∷◌, OnOk, IfSome, slice_get};
+ghost use Rattle.rule_book.specs.Entries.{most_entries};
 ghost use Rattle.season_graph.specs.Followed.{EntriesRefreshed, EntryRefreshed, GameweeksRefreshed, LocksRefreshed, PlayersRefreshed, Refreshes, ScoresRefreshed, TablesRefreshed, TotalsRefreshed};
 ghost use Rattle.season_nodes.specs.declared.nodes.Node.{Node};
 
@@ -134,7 +135,7 @@ fn refresh_issued(
     number: u32,
     first: u8,
 ) -> Result<(), Memory>
-    requires { number < 2048 }
+    requires { number < most_entries }
     ensures { OnOk result (EntryRefreshed books.now (number + 1) first cells.old cells.new) }
 {
     let Some(entry) = EntryId::new(number + 1) else {

@@ -2,6 +2,7 @@
 // leagues.
 ghost use Rattle.std.specs.Prelude.{◌≡◌, ◌<◌, ◌≤◌, ◌+◌, [], ◌∷◌, length, map, max, nat_le, if◌then◌else◌, OnOk};
 ghost use Rattle.std.specs.List.{range_with_len};
+ghost use Rattle.rule_book.specs.LeagueCalls.{most_leagues};
 ghost use Rattle.rule_book.specs.Totals.{gameweeks};
 ghost use Rattle.season_graph.specs.Followed.{ChosenRefreshed, LeaguesRefreshed, Refreshes};
 ghost use Rattle.season_graph.specs.Touched.{head_nodes, head_since, heads_nodes, league_start, locked_rounds, numbered_nodes, round_nodes, rounds_since, row_nodes};
@@ -52,7 +53,7 @@ fn refresh_numbered(
     number: u32,
     first: u8,
 ) -> Result<(), Memory>
-    requires number { number < 512 }
+    requires number { number < most_leagues }
     requires first { first < 38 }
     ensures { OnOk result
         (Refreshes books.now
@@ -109,7 +110,7 @@ pub(crate) fn refresh_heads(cells: &mut SeasonCells, books: &Books) -> Result<()
 
 // The same of the league of a number from 0.
 fn refresh_head_numbered(cells: &mut SeasonCells, books: &Books, number: u32) -> Result<(), Memory>
-    requires { number < 512 }
+    requires { number < most_leagues }
     ensures { OnOk result
         (Refreshes books.now (head_nodes (facts_of books.now) (number + 1)) cells.old cells.new) }
 {

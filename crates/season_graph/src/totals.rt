@@ -1,5 +1,6 @@
 // What the locks of gameweeks, and changes of leagues, do to the totals of the entries.
 ghost use Rattle.std.specs.Prelude.{◌<◌, ◌≡◌, ◌+◌, [], ◌∷◌, map, OnOk};
+ghost use Rattle.rule_book.specs.Entries.{most_entries};
 ghost use Rattle.season_graph.specs.Followed.{OthersRefreshed, Refreshes};
 ghost use Rattle.season_graph.specs.Touched.{member_nodes, members_in, members_since, numbered_nodes, total_nodes};
 ghost use Rattle.season_nodes.specs.BookFacts.{facts_of};
@@ -26,7 +27,7 @@ pub(crate) fn refresh_totals(cells: &mut SeasonCells, books: &Books) -> Result<(
 
 // Brings the totals of the entry of a number from 0 up to date.
 fn refresh_numbered(cells: &mut SeasonCells, books: &Books, number: u32) -> Result<(), Memory>
-    requires { number < 2048 }
+    requires { number < most_entries }
     ensures { OnOk result
         (Refreshes books.now (total_nodes (facts_of books.now) (number + 1)) cells.old cells.new) }
 {
