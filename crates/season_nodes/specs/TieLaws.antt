@@ -77,13 +77,6 @@ few_rounds n r i few low =
       | inr more ↦ let none = none_after n r few more in absurd (omega (arith, none, low))
     ]
 
--- and half as many ties as slots
-pub few_ties : (n r : ℕ) → n ≤ 1024 → n / 2 ^ (r + 1) ≤ 512
-few_ties n r few =
-    let once : n / 2 ^ r / 2 ≡ n / 2 ^ (r + 1) = shr-shr n r 1 in
-    let less = shr_le n r in
-    omega (arith, once, less, few)
-
 -- the entry of a number stands at the place before it
 at_number : {X : Type 0} (xs : List X) (c : ℕ) (x : X) (t : Bool) → (c == 0) ≡ t → cond t None (slice_get xs (c - 1)) ≡ Some x → (1 ≤ c) × (c ≤ length xs)
 at_number xs c x true e at = absurd (cc)
