@@ -37,17 +37,6 @@ some_not_none x o some none = absurd (cc)
 
 -- One more.
 
-abbrev nobodies : List Manager
-nobodies = []
-
-pub none_restored : (m : Map) (players : List Player) → AreRestored m players []
-none_restored m players zero manager found = absurd (cc)
-none_restored m players (suc e) manager found = absurd (nobody e (sym (entry_at nobodies e) ∙ found))
-  where
-    nobody : (e : ℕ) → slice_get nobodies e ≡ Some manager → ⊥
-    nobody zero found = absurd (cc)
-    nobody (suc e) found = absurd (cc)
-
 pub one_more : (m : Map) (players : List Player) (managers : List Manager) (new : Manager) → AreRestored m players managers → IsRestored m players (length managers + 1) new
     → AreRestored m players (managers ++ new ∷ [])
 one_more m players managers new restored last e manager found =

@@ -1,6 +1,6 @@
 -- Connections that are served one after another.
-use Rattle.std.proofs.Common.{◌≡◌, ◌≢◌, ◌∙◌, ◌<◌, ◌≤◌, ℕ, zero, suc, List, [], ◌∷◌, length, Option, Some, None, IfSome, MatchOption, inl, inr, refl, sym, subst, arith, length-drop}
-use Rattle.std.specs.Prelude.{Ok, Err, drop}
+use Rattle.std.proofs.Common.{◌≡◌, ◌≢◌, ◌∙◌, ◌<◌, ◌≤◌, ℕ, zero, suc, List, length, Option, Some, None, IfSome, MatchOption, inl, inr, refl, sym, subst, arith, length-drop}
+use Rattle.std.specs.Prelude.{Ok, Err}
 use Rattle.fpl_base.specs.Causes.{Rose}
 use Rattle.fpl_base.specs.Doors.{GivesBack, Opens}
 use Rattle.fpl_base.specs.Keeping.{Map}
@@ -19,16 +19,6 @@ use Rattle.fpl_host.proofs.CourseLemmas.{leads_all_on, leads_all_same, leads_all
 
 rose_some : (before after : ℕ) → before ≡ 0 → Rose before after → 0 < after
 rose_some before after is rose = omega (arith, is, rose)
-
-fewer_of : (all : List (List ℕ)) (after : Option (List (List ℕ))) (left fresh : Option (List ℕ)) → Opens (Some all) after left fresh → 0 < length all → after ≡ Some (drop 1 all)
-fewer_of [] after left fresh opens some = absurd (omega (arith, some))
-fewer_of (bytes ∷ more) after left fresh (took, is, left_is) some = is
-
--- one connection fewer is to come behind it
-pub one_fewer : (before middle after : Option (List (List ℕ))) (left fresh : Option (List ℕ)) → Opens before middle left fresh → after ≡ middle
-    → IfSome before (λ all. 0 < length all) → OneFewer before after
-one_fewer None middle after left fresh opens same some = tt
-one_fewer (Some all) middle after left fresh opens same some = same ∙ fewer_of all middle left fresh opens some
 
 -- ---- those that are still to come
 

@@ -57,20 +57,6 @@ slice_at (x ∷ xs) (suc i) d less = slice_at xs i d (omega (arith, less))
 
 -- One more.
 
-abbrev none_yet : List LeagueFacts
-none_yet = []
-
-pub none_restored : (rows : Rows) (leagues : List LeagueFacts) → leagues ≡ [] → AreLeaguesRestored rows leagues
-none_restored rows leagues none = subst (AreLeaguesRestored rows) (sym none) by
-  where
-    nothing : (league : LeagueFacts) (i : ℕ) → slice_get none_yet i ≡ Some league → ⊥
-    nothing league zero found = absurd (cc)
-    nothing league (suc i) found = absurd (cc)
-
-    by : AreLeaguesRestored rows []
-    by zero league found = absurd (cc)
-    by (suc i) league found = absurd (nothing league i (sym (at_number none_yet i) ∙ found))
-
 pub one_more : (rows : Rows) (leagues more : List LeagueFacts) (new : LeagueFacts) → more ≡ leagues ++ new ∷ [] → AreLeaguesRestored rows leagues → IsLeagueRestored rows (length leagues + 1) new
     → AreLeaguesRestored rows more
 one_more rows leagues more new is restored last = subst (AreLeaguesRestored rows) (sym is) by

@@ -6,6 +6,5 @@ pub mod LevelFacts
 pub mod MaxFacts
 pub mod ChangeFacts
 pub mod RemainsFacts
-pub mod NodeOrder
 pub mod KeyFacts
 pub mod HashFacts

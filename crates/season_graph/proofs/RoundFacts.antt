@@ -2,7 +2,7 @@
 use Rattle.std.proofs.Common.{◌≡◌, ℕ, zero, suc, ◌+◌, ◌-◌, ◌<◌, ◌≤◌, ◌==◌, nat_le, nat_lt, Bool, true, false, ◌&&◌, if◌then◌else◌, ◌⊎◌, inl, inr, ⊎_elim, List, [], ◌∷◌, ◌++◌, pos, Option, Some, None, is_some, length, map, refl, sym, ◌∙◌, ap, ap₂, subst, arith}
 use Rattle.std.specs.List.{flat_map, range_with_len, slice_get, slice_index}
 use Rattle.std.specs.Option.{option_map, option_map_or}
-use Rattle.std.proofs.lemmas.Bool.Decides.{leb_tells, nat_tests}
+use Rattle.std.proofs.lemmas.Bool.Decides.{leb_tells}
 use Rattle.std.proofs.lemmas.List.{append_assoc, append-nil}
 use Rattle.std.proofs.lemmas.Option.{slice_get_past}
 use Rattle.rule_book.specs.Entries.{entry_in}
@@ -111,9 +111,6 @@ module _ (b d : SeasonFacts) (stay : EntriesStay b d) (locked : b.calendar.locke
   row_stays l e = row_kept b d l (λ x. order_in (leagues x) l) stay (λ x. start_in (leagues x) l) e (λ x. gameweeks (start_in (leagues x) l) (locked x))
 
 -- Where they are listed.
-
-below_test : (n m : ℕ) → nat_lt n m ≡ true → n < m
-below_test n m e = grind (arith, nat_tests)
 
 has_some_average : (n : ℕ) → has_average n ≡ true → 0 < n
 has_some_average zero e = absurd (clash (sym e))

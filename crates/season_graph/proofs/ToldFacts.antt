@@ -92,9 +92,6 @@ pub ascending_distinct : (lines : Lines) → Rising (players_in lines) → Disti
 ascending_distinct [] up = tt
 ascending_distinct (row ∷ lines) up = ((λ a. not_below row.0 (up.0 row.0 a)), ascending_distinct lines up.1)
 
-entry_of : Appearance → ℕ × ℤ
-entry_of a = (a.player, bps_of a.position a.line)
-
 part_case : (t u : Bool) (g : ℕ → ℕ × ℤ) (x : ℕ) (xs : List ℕ) (a : Appearance) (rest : List Appearance) → t ≡ u → g x ≡ (a.player, bps_of a.position a.line)
     → map g xs ≡ map (λ c. (c.player, bps_of c.position c.line)) rest → map g (cond t (x ∷ xs) xs) ≡ map (λ c. (c.player, bps_of c.position c.line)) (cond u (a ∷ rest) rest)
 part_case true true g x xs a rest e i o = ap₂ (λ y ys. y ∷ ys) i o

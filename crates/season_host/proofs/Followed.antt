@@ -1,5 +1,5 @@
 -- Cells that follow what a host became.
-use Rattle.std.proofs.Common.{◌≡◌, ◌∙◌, ℕ, List, [], Option, None, Some, inl, refl, ap, subst, sym}
+use Rattle.std.proofs.Common.{◌≡◌, ◌∙◌, ℕ, List, [], Option, None, Some, ap, subst, sym}
 use Rattle.std.specs.Option.{option_map, option_map_or, unwrap_or}
 use Rattle.std.proofs.lemmas.Option.{same_Some}
 use Rattle.manager_book.specs.declared.manager.Manager.{Manager}
@@ -9,21 +9,16 @@ use Rattle.rule_book.specs.Leagues.{LeagueFacts}
 use Rattle.rule_book.specs.Calendar.{IsCalendar}
 use Rattle.season_book.specs.Book.{Facts, Last}
 use Rattle.season_book.specs.Verdict.{locked_at}
-use Rattle.season_cells.specs.Correcting.{IsCorrected}
 use Rattle.season_cells.specs.Kept.{AreCellsOf, CellRows, season_seen}
 use Rattle.season_views.specs.Cells.{books_seen}
-use Rattle.season_cells.specs.Leading.{LeadsTo}
-use Rattle.season_cells.specs.declared.plan.Plan.{Plan}
 use Rattle.season_graph.specs.BookChanges.{MomentPasses}
-use Rattle.season_graph.specs.Changes.{DifferInLocks, IsSame}
+use Rattle.season_graph.specs.Changes.{DifferInLocks}
 use Rattle.season_nodes.specs.BookFacts.{facts_with}
-use Rattle.season_nodes.specs.Held.{SeasonRows}
 use Rattle.season_nodes.specs.Season.{IsSeason, SeasonFacts}
-use Rattle.season_nodes.specs.declared.nodes.Node.{Node}
 use Rattle.season_nodes.specs.declared.nodes.Node.TheVariants as node
 use Rattle.season_running.specs.Kept.{AreKeptBy}
 use Rattle.season_running.specs.Standing.{HostRows, Running, host_rows, passed}
-use Rattle.season_host.specs.Cells.{AreCellsNow, AreCellsOfHost, LeadsNow, Locks, LocksNow, running_in, running_seen}
+use Rattle.season_host.specs.Cells.{AreCellsOfHost, Locks, LocksNow, running_in, running_seen}
 
 -- a season and its managers are seen as the season that runs
 pub seen_is : (r : Running) (f : Facts) (m : Managers) (l : List LeagueFacts) (c : List Bracket) → f ≡ r.facts → m.managers ≡ r.managers → m.profile ≡ r.facts.profile → l ≡ r.leagues → c ≡ r.cups
@@ -35,32 +30,7 @@ seen_is r f m l c same rows profile leagues cups =
 abbrev pub seen_or : Option Running → Running → SeasonFacts
 seen_or before running = option_map_or running_seen before (running_seen running)
 
-pub leads_then : (before : Option Running) (running : Running) (plan : Plan) (cells : CellRows) → AreCellsNow before (Some cells)
-    → LeadsNow before (Some running) plan → LeadsTo (seen_or before running) (running_seen running) plan
-leads_then None running plan cells are leads = absurd leads
-leads_then (Some b) running plan cells are leads = leads are.season
-
 -- What is corrected.
-
--- a node is the same in facts that are the same
-same_self : (b : SeasonFacts) (n : Node) → IsSame b b n
-same_self b (node.Line f p) = (refl, refl, refl)
-same_self b (node.Bonus f) = (refl, refl)
-same_self b (node.PlayerGw p g) = refl
-same_self b (node.TeamGw e g) = (refl, refl, refl, refl)
-same_self b (node.Total e s) = refl
-same_self b (node.Average l g) = (refl, λ e a. refl)
-same_self b (node.Match l g i) = (refl, refl, λ e a. refl)
-same_self b (node.HeadRow l e) = (refl, refl, refl)
-same_self b (node.Tie c r i) = (refl, λ e a. refl)
-
--- where nothing changed, nothing is touched, and no cell has to be another
-unchanged : (b : SeasonFacts) (cells : SeasonRows) → IsCorrected b b cells cells
-unchanged b cells = record {
-  others = λ n stays unreached. refl;
-  touched = λ n live touched. absurd (touched.1 (refl, λ is. same_self b n));
-  once = λ n stays. inl refl;
-}
 
 -- Moments.
 

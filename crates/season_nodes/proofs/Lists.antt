@@ -1,7 +1,7 @@
 -- Lists that a loop makes, one more element at a time.
 use Rattle.std.proofs.Common.{◌≡◌, ◌<◌, ◌≤◌, ◌+◌, ◌==◌, ◌||◌, ◌∷◌, [], ◌++◌, ℕ, Bool, true, false, cond, if◌then◌else◌, List, Option, Some, is_some, length, get_or, map, take, drop, arith, refl, sym, ap, ◌∙◌, subst}
 use Rattle.std.specs.Prelude.{IfSome}
-use Rattle.std.specs.List.{slice_get, filter, flat_map, fold, list_any}
+use Rattle.std.specs.List.{slice_get, filter, flat_map, list_any}
 use Rattle.std.proofs.lemmas.List.{at_drop_all, at_drop_more, take_all, take_more, map-append, append-nil, flat_map_more}
 use Rattle.std.proofs.lemmas.List.Elements.{filter_more}
 use Rattle.std.proofs.lemmas.List.Sums.{fold_push}
@@ -55,10 +55,6 @@ mapped_more f xs i d within = sym (map-append f (take i xs) (get_or xs i d ∷ [
 -- what a function makes of each, one after another, with one more
 pub flat_more : {X Y : Type 0} (f : X → List Y) (xs : List X) (i : ℕ) (d : X) → i < length xs → flat_map f (take i xs) ++ f (get_or xs i d) ≡ flat_map f (take (i + 1) xs)
 flat_more f xs i d within = flat_map_more f [] (take i xs) (get_or xs i d) ∙ ap (flat_map f) (sym (take_more xs i d within))
-
--- a sum, one more
-pub fold_more : {X B : Type 0} (f : B → X → B) (b : B) (xs : List X) (i : ℕ) (x : X) → i < length xs → x ≡ get_or xs i x → f (fold f b (take i xs)) x ≡ fold f b (take (i + 1) xs)
-fold_more f b xs i x within is = sym (fold_push f b (take i xs) x) ∙ ap (fold f b) (sym (take_next xs i x within is))
 
 -- a list whose first n are made of the first n of another, where neither has more
 pub made_whole : {X Y : Type 0} (f : X → Y) (xs : List X) (ys : List Y) (n : ℕ) → length xs ≤ n → length ys ≤ n → take n ys ≡ map f (take n xs) → ys ≡ map f xs
