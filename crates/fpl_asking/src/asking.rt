@@ -4,7 +4,7 @@ ghost use Rattle.fpl_base.specs.Moments.{Moments};
 ghost use Rattle.season_book.specs.Hosts.{IsRequest};
 ghost use Rattle.season_book.specs.declared.answer.Answer.TheVariants as answer_of;
 ghost use Rattle.season_keeping.specs.Answering.{IsCaused};
-ghost use Rattle.fpl_desk.specs.Kept.{Leads};
+ghost use Rattle.fpl_desk.specs.Kept.{Leads, kept_as};
 ghost use Rattle.fpl_asking.specs.Asking.{IsHeard, IsHeardAt};
 
 use fpl_base::{Caller, Clock, Keeper, Moment, Steps};
@@ -24,8 +24,8 @@ pub fn ask_at<K: Keeper, L: Ledger>(
     requires fresh { host.old.stale ≡ false }
     requires asked { IsRequest request.now }
     ensures heard { (moments : Option Moments) → Leads K.tells K.serves K.holds K.passes
-        (record { host = host.old; moments = moments; failed = K.faults keeper.old; keeper = keeper.old })
-        (record { host = host.new; moments = moments; failed = K.faults keeper.new; keeper = keeper.new })
+        (kept_as host.old moments (K.faults keeper.old) keeper.old)
+        (kept_as host.new moments (K.faults keeper.new) keeper.new)
         (λ served behind. IsHeardAt now served caller request.now result behind) }
     ensures stale { host.new.stale ≡ true
         → (result ≡ answer_of.Memory) ⊎ (result ≡ answer_of.Keeper) }
@@ -48,8 +48,8 @@ pub fn ask<K: Keeper, C: Clock, L: Ledger>(
     requires fresh { host.old.stale ≡ false }
     requires asked { IsRequest request.now }
     ensures heard { Leads K.tells K.serves K.holds K.passes
-        (record { host = host.old; moments = C.left clock.old; failed = K.faults keeper.old; keeper = keeper.old })
-        (record { host = host.new; moments = C.left clock.new; failed = K.faults keeper.new; keeper = keeper.new })
+        (kept_as host.old (C.left clock.old) (K.faults keeper.old) keeper.old)
+        (kept_as host.new (C.left clock.new) (K.faults keeper.new) keeper.new)
         (λ served behind. IsHeard served caller request.now result behind) }
     ensures stale { host.new.stale ≡ true
         → (result ≡ answer_of.Memory) ⊎ (result ≡ answer_of.Keeper) }

@@ -2,7 +2,7 @@
 ghost use Rattle.std.specs.Prelude.{◌≡◌, ◌≤◌, ◌⊎◌, false, true};
 ghost use Rattle.fpl_base.specs.Causes.{Rose};
 ghost use Rattle.season_book.specs.declared.answer.Answer.TheVariants as answer_of;
-ghost use Rattle.fpl_desk.specs.Kept.{Leads};
+ghost use Rattle.fpl_desk.specs.Kept.{Leads, kept_as};
 ghost use Rattle.fpl_reports.specs.Reports.{HasReport};
 ghost use Rattle.fpl_asking.specs.Printing.{IsReported, ReportsAs};
 
@@ -28,8 +28,8 @@ pub fn reported<W: Sink, C: Clock, K: Keeper, L: Ledger>(
 ) -> u8
     requires fresh { host.old.stale ≡ false }
     ensures reported { Leads K.tells K.serves K.holds K.passes
-        (record { host = host.old; moments = C.left clock.old; failed = K.faults keeper.old; keeper = keeper.old })
-        (record { host = host.new; moments = C.left clock.new; failed = K.faults keeper.new; keeper = keeper.new })
+        (kept_as host.old (C.left clock.old) (K.faults keeper.old) keeper.old)
+        (kept_as host.new (C.left clock.new) (K.faults keeper.new) keeper.new)
         (IsReported view (W.taken output.old) (W.taken output.new) result) }
     ensures statuses { (result ≡ 0) ⊎ (result ≡ 3) ⊎ (result ≡ 4) ⊎ (result ≡ 6) ⊎ (result ≡ 13) }
     ensures keeper { result ≡ 4 → Rose (K.faults keeper.old) (K.faults keeper.new) }

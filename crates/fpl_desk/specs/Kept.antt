@@ -17,6 +17,10 @@ pub record Kept (K : Type 0) : Type 0 where
   pub failed : ℕ
   pub keeper : K
 
+-- what is kept of a host, of the moments that its clock has left, and of a keeper that has failed so often
+abbrev pub kept_as : {K : Type 0} → Housed → Option Moments → ℕ → K → Kept K
+kept_as host moments failed keeper = record { host = host; moments = moments; failed = failed; keeper = keeper }
+
 -- what is served has a book in place of rows, and all else is the same
 pub record Agrees {K : Type 0} (kept : Kept K) (served : Served) : Type 0 where
   pub operator : served.host.operator ≡ kept.host.rows.operator

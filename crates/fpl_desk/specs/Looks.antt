@@ -23,6 +23,9 @@ pub record Counted (K : Type 0) : Type 0 where
   pub kept : Kept K
   pub reads : ℕ
 
+abbrev pub counted_as : {K : Type 0} → Kept K → ℕ → Counted K
+counted_as kept reads = record { kept = kept; reads = reads }
+
 -- the host of what is kept, with a book in place of its rows
 abbrev pub host_with : {K : Type 0} → Counted K → Book → HostState
 host_with now book = record { operator = now.kept.host.rows.operator; book = book }

@@ -12,8 +12,8 @@ ghost use Rattle.season_keeping.specs.Opening.{Opens, Withholds};
 ghost use Rattle.season_opening.specs.declared.loading.OpenFault.{OpenFault};
 ghost use Rattle.season_opening.specs.declared.loading.OpenFault.TheVariants as fault;
 ghost use Rattle.fpl_desk.specs.Desks.{Asks, IsFaultReply, RepliesAs};
-ghost use Rattle.fpl_desk.specs.Kept.{IsStoodByRows, IsStoodByStops, Leads, StandsByRecords, asked_in, caller_in};
-ghost use Rattle.fpl_desk.specs.Looks.{Counted, CountsAs, CountsLooks};
+ghost use Rattle.fpl_desk.specs.Kept.{IsStoodByRows, IsStoodByStops, Leads, StandsByRecords, asked_in, caller_in, kept_as};
+ghost use Rattle.fpl_desk.specs.Looks.{Counted, CountsAs, CountsLooks, counted_as};
 ghost use Rattle.fpl_replies.specs.Replying.{IsReplyUntil, Judges, asked_by, reply_of, unless_malformed};
 ghost use Rattle.fpl_replies.specs.Whole.{IsKeptReply};
 
@@ -151,14 +151,16 @@ fn answered<K: Keeper, C: Clock, L: Ledger>(
     requires { host.old.host.stale ≡ false }
     ensures status { IfOk result (λ reply. IsTrue (is_answer_status reply.status)) }
     ensures answered { Leads K.tells K.serves K.holds K.passes
-        (record { host = host.old.host; moments = C.left clock.old; failed = K.faults keeper.old; keeper = keeper.old })
-        (record { host = host.new.host; moments = C.left clock.new; failed = K.faults keeper.new; keeper = keeper.new })
+        (kept_as host.old.host (C.left clock.old) (K.faults keeper.old) keeper.old)
+        (kept_as host.new.host (C.left clock.new) (K.faults keeper.new) keeper.new)
         (λ served behind. RepliesAs
         (asked_in host.old.host.rows (request_seen message.now) route ids.now) served
         (answer_in result) behind) }
     ensures counts { CountsAs (asked_in host.old.host.rows (request_seen message.now) route ids.now)
-        (record { kept = record { host = host.old.host; moments = C.left clock.old; failed = K.faults keeper.old; keeper = keeper.old }; reads = steps.old })
-        (record { kept = record { host = host.new.host; moments = C.left clock.new; failed = K.faults keeper.new; keeper = keeper.new }; reads = steps.new }) }
+        (counted_as (kept_as host.old.host (C.left clock.old) (K.faults keeper.old) keeper.old)
+        steps.old)
+        (counted_as (kept_as host.new.host (C.left clock.new) (K.faults keeper.new) keeper.new)
+        steps.new) }
 {
     match asked_by(alloc, &host.host, &mut host.scratch, message, route, ids)? {
         Asked::Refused(reply) => Ok(reply),
@@ -190,12 +192,14 @@ fn judged<K: Keeper, C: Clock, L: Ledger>(
     requires asked { IsRequest request.now }
     ensures status { IfOk result (λ reply. IsTrue (is_answer_status reply.status)) }
     ensures judged { Leads K.tells K.serves K.holds K.passes
-        (record { host = host.old; moments = C.left clock.old; failed = K.faults keeper.old; keeper = keeper.old })
-        (record { host = host.new; moments = C.left clock.new; failed = K.faults keeper.new; keeper = keeper.new })
+        (kept_as host.old (C.left clock.old) (K.faults keeper.old) keeper.old)
+        (kept_as host.new (C.left clock.new) (K.faults keeper.new) keeper.new)
         (λ served behind. Judges served caller request.now (answer_in result) behind) }
     ensures counts { CountsAs (Ok (caller, request.now))
-        (record { kept = record { host = host.old; moments = C.left clock.old; failed = K.faults keeper.old; keeper = keeper.old }; reads = steps.old })
-        (record { kept = record { host = host.new; moments = C.left clock.new; failed = K.faults keeper.new; keeper = keeper.new }; reads = steps.new }) }
+        (counted_as (kept_as host.old (C.left clock.old) (K.faults keeper.old) keeper.old)
+        steps.old)
+        (counted_as (kept_as host.new (C.left clock.new) (K.faults keeper.new) keeper.new)
+        steps.new) }
 {
     let now = clock.now();
     let answer = host.answer(keeper, caller, now, request, steps);
@@ -266,17 +270,8 @@ fn unready(alloc: Global, fault: OpenFault) -> Result<Reply, Memory>
 impl<K: Keeper, C: Clock, L: Ledger> Service<HostWithScratch, K, C, L> for Desk {
     ghost State = { Counted K };
 
-    ghost see = { λ now.
-        record {
-          kept
-              = record {
-                host = now.0.host;
-                moments = C.left now.2;
-                failed = K.faults now.1;
-                keeper = now.1;
-              };
-          reads = now.3;
-        } };
+    ghost see = { λ now. counted_as
+        (kept_as now.0.host (C.left now.2) (K.faults now.1) now.1) now.3 };
 
     // How many reads are counted; and what is answered by the rows, with what a stop leaves, and by the keeper's records.
     ghost answers = { λ _. Both CountsLooks

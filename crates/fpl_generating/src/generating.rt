@@ -3,7 +3,7 @@ ghost use Rattle.std.specs.Prelude.{◌≡◌, ◌≤◌, ◌-◌, ◌⊎◌, Er
 ghost use Rattle.fpl_base.specs.Causes.{Rose};
 ghost use Rattle.fpl_base.specs.Moments.{Moments};
 ghost use Rattle.fpl_asking.specs.Printing.{PrintsOne};
-ghost use Rattle.fpl_desk.specs.Kept.{Leads};
+ghost use Rattle.fpl_desk.specs.Kept.{Leads, kept_as};
 ghost use Rattle.fpl_generating.specs.Generating.{IsCorrected, IsGenerated, TabledBehind};
 ghost use Rattle.fpl_generating.specs.Summaries.{summary_text};
 
@@ -31,8 +31,8 @@ pub fn generated<W: Sink, K: Keeper, L: Ledger>(
 ) -> u8
     requires fresh { host.old.stale ≡ false }
     ensures generated { (moments : Option Moments) → Leads K.tells K.serves K.holds K.passes
-        (record { host = host.old; moments = moments; failed = K.faults keeper.old; keeper = keeper.old })
-        (record { host = host.new; moments = moments; failed = K.faults keeper.new; keeper = keeper.new })
+        (kept_as host.old moments (K.faults keeper.old) keeper.old)
+        (kept_as host.new moments (K.faults keeper.new) keeper.new)
         (IsGenerated seed (W.taken output.old) (W.taken output.new) result) }
     ensures statuses { (result ≡ 0) ⊎ (result ≡ 3) ⊎ (result ≡ 4) ⊎ (result ≡ 6) ⊎ (result ≡ 13) }
     ensures keeper { result ≡ 4 → Rose (K.faults keeper.old) (K.faults keeper.new) }
@@ -58,8 +58,8 @@ fn corrected<W: Sink, K: Keeper, L: Ledger>(
 ) -> u8
     requires fresh { host.old.stale ≡ false }
     ensures corrected { (moments : Option Moments) → Leads K.tells K.serves K.holds K.passes
-        (record { host = host.old; moments = moments; failed = K.faults keeper.old; keeper = keeper.old })
-        (record { host = host.new; moments = moments; failed = K.faults keeper.new; keeper = keeper.new })
+        (kept_as host.old moments (K.faults keeper.old) keeper.old)
+        (kept_as host.new moments (K.faults keeper.new) keeper.new)
         (IsCorrected season.old first.now (W.taken output.old) (W.taken output.new) result) }
     ensures statuses { (result ≡ 0) ⊎ (result ≡ 3) ⊎ (result ≡ 4) ⊎ (result ≡ 6) ⊎ (result ≡ 13) }
     ensures keeper { result ≡ 4 → Rose (K.faults keeper.old) (K.faults keeper.new) }
@@ -87,8 +87,8 @@ fn tabled_behind<W: Sink, K: Keeper, L: Ledger>(
     requires order { from ≤ to }
     requires within { to ≤ 2122 }
     ensures tabled { (moments : Option Moments) → Leads K.tells K.serves K.holds K.passes
-        (record { host = host.old; moments = moments; failed = K.faults keeper.old; keeper = keeper.old })
-        (record { host = host.new; moments = moments; failed = K.faults keeper.new; keeper = keeper.new })
+        (kept_as host.old moments (K.faults keeper.old) keeper.old)
+        (kept_as host.new moments (K.faults keeper.new) keeper.new)
         (TabledBehind season.old from (to - from) (W.taken output.old)
         (W.taken output.new) result) }
     ensures same { season.new ≡ season.old }

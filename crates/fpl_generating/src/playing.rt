@@ -4,7 +4,7 @@ ghost use Rattle.fpl_base.specs.Causes.{Rose};
 ghost use Rattle.fpl_base.specs.Moments.{Moments};
 ghost use Rattle.season_book.specs.Commands.{IsCommand};
 ghost use Rattle.season_generator.specs.Made.{step_of};
-ghost use Rattle.fpl_desk.specs.Kept.{Leads};
+ghost use Rattle.fpl_desk.specs.Kept.{Leads, kept_as};
 ghost use Rattle.fpl_generating.specs.Generating.{IsPlayed, PlaysOn, is_done};
 
 use fpl_asking::status::MEMORY;
@@ -31,8 +31,8 @@ pub(crate) fn play<W: Sink, K: Keeper, L: Ledger>(
     requires order { from ≤ to }
     requires within { to ≤ 2122 }
     ensures played { (moments : Option Moments) → Leads K.tells K.serves K.holds K.passes
-        (record { host = host.old; moments = moments; failed = K.faults keeper.old; keeper = keeper.old })
-        (record { host = host.new; moments = moments; failed = K.faults keeper.new; keeper = keeper.new })
+        (kept_as host.old moments (K.faults keeper.old) keeper.old)
+        (kept_as host.new moments (K.faults keeper.new) keeper.new)
         (PlaysOn season.old from (to - from) (W.taken output.old) (W.taken output.new) result) }
     ensures same { season.new ≡ season.old }
     ensures fresh { OnOk result (host.new.stale ≡ false) }
@@ -62,8 +62,8 @@ fn play_one<W: Sink, K: Keeper, L: Ledger>(
     requires fresh { host.old.stale ≡ false }
     requires within { number < 2122 }
     ensures played { (moments : Option Moments) → Leads K.tells K.serves K.holds K.passes
-        (record { host = host.old; moments = moments; failed = K.faults keeper.old; keeper = keeper.old })
-        (record { host = host.new; moments = moments; failed = K.faults keeper.new; keeper = keeper.new })
+        (kept_as host.old moments (K.faults keeper.old) keeper.old)
+        (kept_as host.new moments (K.faults keeper.new) keeper.new)
         (IsPlayed season.old number (W.taken output.old) (W.taken output.new) result) }
     ensures same { season.new ≡ season.old }
     ensures fresh { OnOk result (host.new.stale ≡ false) }

@@ -2,7 +2,7 @@
 ghost use Rattle.std.specs.Prelude.{◌≡◌, ◌≤◌, ◌⊎◌, Err, IfErr, OnOk, Option, false};
 ghost use Rattle.fpl_base.specs.Causes.{Rose};
 ghost use Rattle.fpl_base.specs.Moments.{Moments};
-ghost use Rattle.fpl_desk.specs.Kept.{Leads};
+ghost use Rattle.fpl_desk.specs.Kept.{Leads, kept_as};
 ghost use Rattle.fpl_generating.specs.Generating.{IsTabled};
 ghost use Rattle.fpl_generating.specs.Summaries.{sum_of, table_in, table_of};
 
@@ -33,8 +33,8 @@ pub(crate) fn tabled<W: Sink, K: Keeper, L: Ledger>(
 ) -> Result<Table, u8>
     requires fresh { host.old.stale ≡ false }
     ensures tabled { (moments : Option Moments) → Leads K.tells K.serves K.holds K.passes
-        (record { host = host.old; moments = moments; failed = K.faults keeper.old; keeper = keeper.old })
-        (record { host = host.new; moments = moments; failed = K.faults keeper.new; keeper = keeper.new })
+        (kept_as host.old moments (K.faults keeper.old) keeper.old)
+        (kept_as host.new moments (K.faults keeper.new) keeper.new)
         (IsTabled (W.taken output.old) (W.taken output.new) result) }
     ensures fresh { OnOk result (host.new.stale ≡ false) }
     ensures output { OnOk result (output.new ≡ output.old) }

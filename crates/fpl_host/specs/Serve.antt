@@ -22,6 +22,9 @@ pub record DoorState : Type 0 where
   pub given_back : Option (List Ended)
   pub faults : ℕ
 
+abbrev pub doors_as : Option (List (List ℕ)) → Option (List Ended) → ℕ → DoorState
+doors_as coming given_back faults = record { coming = coming; given_back = given_back; faults = faults }
+
 -- one connection: it was opened, it was one session of the host, and it was given back with what that session left of
 -- its source and what its sink took; where it is told what comes, the session is over all that the connection sends. A
 -- read or a write ended it only where a fault of this connection was counted

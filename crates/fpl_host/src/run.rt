@@ -4,7 +4,7 @@ ghost use Rattle.std.specs.Io.KnownBytes.{IsAtEnd, Keeps};
 ghost use Rattle.fpl_base.specs.Causes.{Rose};
 ghost use Rattle.fpl_words.specs.Orders.{ordered};
 ghost use Rattle.fpl_host.specs.Run.{Ends, IsScoreDue, RunsAs};
-ghost use Rattle.fpl_host.specs.Serve.{connections_in};
+ghost use Rattle.fpl_host.specs.Serve.{connections_in, doors_as};
 
 use crate::pipe::pipe;
 use crate::requests::{generate, load, report};
@@ -42,7 +42,7 @@ pub fn run<S: Source, W: Sink, C: Clock, K: Keeper, D: Doors, F: Shelf, L: Ledge
           moments = C.left clock.old;
           taken = W.taken output.old;
           keeper = keeper.old;
-          doors = record { coming = D.coming doors.old; given_back = D.given_back doors.old; faults = D.faults doors.old };
+          doors = doors_as (D.coming doors.old) (D.given_back doors.old) (D.faults doors.old);
           files = F.files shelf.old;
         })
         (record {
@@ -50,7 +50,7 @@ pub fn run<S: Source, W: Sink, C: Clock, K: Keeper, D: Doors, F: Shelf, L: Ledge
           moments = C.left clock.new;
           taken = W.taken output.new;
           keeper = keeper.new;
-          doors = record { coming = D.coming doors.new; given_back = D.given_back doors.new; faults = D.faults doors.new };
+          doors = doors_as (D.coming doors.new) (D.given_back doors.new) (D.faults doors.new);
           files = F.files shelf.new;
         }) result }
 

@@ -1,10 +1,10 @@
 // The command that serves connections, one after another.
 ghost use Rattle.std.specs.Prelude.{◌≡◌, ◌≤◌, ◌<◌, ◌⊎◌, IfSome, MatchOption, None, OnErr, OnOk, length};
 ghost use Rattle.fpl_base.specs.Causes.{Rose};
-ghost use Rattle.fpl_desk.specs.Kept.{LeadsAll};
+ghost use Rattle.fpl_desk.specs.Kept.{LeadsAll, kept_as};
 ghost use Rattle.fpl_replies.specs.Replying.{IsReplyUntil};
 ghost use Rattle.fpl_replies.specs.Whole.{IsKeptReply};
-ghost use Rattle.fpl_host.specs.Serve.{IsAskedOnce, OneFewer, Serves, ServesOn};
+ghost use Rattle.fpl_host.specs.Serve.{IsAskedOnce, OneFewer, Serves, ServesOn, doors_as};
 
 use crate::opening::unopened;
 use crate::talk::talk;
@@ -30,8 +30,8 @@ pub fn serve<W: Sink, C: Clock, K: Keeper, D: Doors, L: Ledger>(
         (λ all. connections ≤ length all) }
     ensures served { Serves K.tells K.serves K.holds K.passes K.faults keeper.old keeper.new key.now
         connections
-        (record { coming = D.coming doors.old; given_back = D.given_back doors.old; faults = D.faults doors.old })
-        (record { coming = D.coming doors.new; given_back = D.given_back doors.new; faults = D.faults doors.new })
+        (doors_as (D.coming doors.old) (D.given_back doors.old) (D.faults doors.old))
+        (doors_as (D.coming doors.new) (D.given_back doors.new) (D.faults doors.new))
         (C.left clock.old) (C.left clock.new) (W.taken output.old) (W.taken output.new) result }
     ensures statuses { (result ≡ 0) ⊎ (result ≡ 3) ⊎ (result ≡ 4) ⊎ (result ≡ 5) ⊎ (result ≡ 6)
         ⊎ (result ≡ 8) }
@@ -68,14 +68,14 @@ fn serve_all<C: Clock, K: Keeper, D: Doors, L: Ledger>(
     requires { MatchOption (D.coming doors.old) ((d : D) → D.coming d ≡ None)
         (λ all. connections ≤ length all) }
     ensures served { LeadsAll K.tells K.serves K.holds K.passes
-        (record { host = host.old.host; moments = C.left clock.old; failed = K.faults keeper.old; keeper = keeper.old })
-        (record { host = host.new.host; moments = C.left clock.new; failed = K.faults keeper.new; keeper = keeper.new })
+        (kept_as host.old.host (C.left clock.old) (K.faults keeper.old) keeper.old)
+        (kept_as host.new.host (C.left clock.new) (K.faults keeper.new) keeper.new)
         (ServesOn IsReplyUntil connections
-        (record { coming = D.coming doors.old; given_back = D.given_back doors.old; faults = D.faults doors.old })
-        (record { coming = D.coming doors.new; given_back = D.given_back doors.new; faults = D.faults doors.new }) result)
+        (doors_as (D.coming doors.old) (D.given_back doors.old) (D.faults doors.old))
+        (doors_as (D.coming doors.new) (D.given_back doors.new) (D.faults doors.new)) result)
         (ServesOn IsKeptReply connections
-        (record { coming = D.coming doors.old; given_back = D.given_back doors.old; faults = D.faults doors.old })
-        (record { coming = D.coming doors.new; given_back = D.given_back doors.new; faults = D.faults doors.new }) result) }
+        (doors_as (D.coming doors.old) (D.given_back doors.old) (D.faults doors.old))
+        (doors_as (D.coming doors.new) (D.given_back doors.new) (D.faults doors.new)) result) }
     ensures statuses { (result ≡ 0) ⊎ (result ≡ 6) ⊎ (result ≡ 8) }
     ensures doors { result ≡ 8 → Rose (D.faults doors.old) (D.faults doors.new) }
 {
@@ -104,14 +104,14 @@ fn serve_one<C: Clock, K: Keeper, D: Doors, L: Ledger>(
 ) -> Result<Ending, Failed>
     requires { IfSome (D.coming doors.old) (λ all. 0 < length all) }
     ensures served { LeadsAll K.tells K.serves K.holds K.passes
-        (record { host = host.old.host; moments = C.left clock.old; failed = K.faults keeper.old; keeper = keeper.old })
-        (record { host = host.new.host; moments = C.left clock.new; failed = K.faults keeper.new; keeper = keeper.new })
+        (kept_as host.old.host (C.left clock.old) (K.faults keeper.old) keeper.old)
+        (kept_as host.new.host (C.left clock.new) (K.faults keeper.new) keeper.new)
         (IsAskedOnce IsReplyUntil
-        (record { coming = D.coming doors.old; given_back = D.given_back doors.old; faults = D.faults doors.old })
-        (record { coming = D.coming doors.new; given_back = D.given_back doors.new; faults = D.faults doors.new }) result)
+        (doors_as (D.coming doors.old) (D.given_back doors.old) (D.faults doors.old))
+        (doors_as (D.coming doors.new) (D.given_back doors.new) (D.faults doors.new)) result)
         (IsAskedOnce IsKeptReply
-        (record { coming = D.coming doors.old; given_back = D.given_back doors.old; faults = D.faults doors.old })
-        (record { coming = D.coming doors.new; given_back = D.given_back doors.new; faults = D.faults doors.new }) result) }
+        (doors_as (D.coming doors.old) (D.given_back doors.old) (D.faults doors.old))
+        (doors_as (D.coming doors.new) (D.given_back doors.new) (D.faults doors.new)) result) }
     ensures coming { OnOk result (OneFewer (D.coming doors.old) (D.coming doors.new)) }
     ensures kept { OnOk result (D.faults doors.new ≡ D.faults doors.old) }
     ensures cause { OnErr result (Rose (D.faults doors.old) (D.faults doors.new)) }

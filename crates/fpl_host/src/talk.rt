@@ -3,8 +3,8 @@ ghost use Rattle.std.specs.Prelude.{◌≡◌, IfSome};
 ghost use Rattle.fpl_base.specs.Causes.{Rose};
 ghost use Rattle.fpl_session.specs.Replies.{Speaks};
 ghost use Rattle.fpl_session.specs.Sessions.{EndsAs, SessionOf};
-ghost use Rattle.fpl_desk.specs.Kept.{LeadsAll};
-ghost use Rattle.fpl_desk.specs.Looks.{CountsLooks, SessionReadsFew};
+ghost use Rattle.fpl_desk.specs.Kept.{LeadsAll, kept_as};
+ghost use Rattle.fpl_desk.specs.Looks.{CountsLooks, SessionReadsFew, counted_as};
 ghost use Rattle.fpl_replies.specs.Replying.{IsReplyUntil};
 ghost use Rattle.fpl_replies.specs.Whole.{IsKeptReply};
 ghost use Rattle.fpl_host.specs.Pipe.{IsSession};
@@ -31,8 +31,8 @@ pub fn talk<S: Source, W: Sink, C: Clock, K: Keeper, L: Ledger>(
     steps: &mut Steps<L>,
 ) -> Ending
     ensures leads { LeadsAll K.tells K.serves K.holds K.passes
-        (record { host = host.old.host; moments = C.left clock.old; failed = K.faults keeper.old; keeper = keeper.old })
-        (record { host = host.new.host; moments = C.left clock.new; failed = K.faults keeper.new; keeper = keeper.new })
+        (kept_as host.old.host (C.left clock.old) (K.faults keeper.old) keeper.old)
+        (kept_as host.new.host (C.left clock.new) (K.faults keeper.new) keeper.new)
         (IsSession IsReplyUntil (S.left source.old) (S.left source.new) (W.taken sink.old)
         (W.taken sink.new) result)
         (IsSession IsKeptReply (S.left source.old) (S.left source.new) (W.taken sink.old)
@@ -40,12 +40,16 @@ pub fn talk<S: Source, W: Sink, C: Clock, K: Keeper, L: Ledger>(
 
     // How many reads are counted for each message, and so for all of them.
     ensures counts { SessionOf (Speaks CountsLooks) (S.left source.old) (S.left source.new)
-        (record { kept = record { host = host.old.host; moments = C.left clock.old; failed = K.faults keeper.old; keeper = keeper.old }; reads = steps.old })
-        (record { kept = record { host = host.new.host; moments = C.left clock.new; failed = K.faults keeper.new; keeper = keeper.new }; reads = steps.new })
+        (counted_as (kept_as host.old.host (C.left clock.old) (K.faults keeper.old) keeper.old)
+        steps.old)
+        (counted_as (kept_as host.new.host (C.left clock.new) (K.faults keeper.new) keeper.new)
+        steps.new)
         (W.taken sink.old) (W.taken sink.new) result }
     ensures reads { SessionReadsFew (S.left source.old) (S.left source.new)
-        (record { kept = record { host = host.old.host; moments = C.left clock.old; failed = K.faults keeper.old; keeper = keeper.old }; reads = steps.old })
-        (record { kept = record { host = host.new.host; moments = C.left clock.new; failed = K.faults keeper.new; keeper = keeper.new }; reads = steps.new }) }
+        (counted_as (kept_as host.old.host (C.left clock.old) (K.faults keeper.old) keeper.old)
+        steps.old)
+        (counted_as (kept_as host.new.host (C.left clock.new) (K.faults keeper.new) keeper.new)
+        steps.new) }
     ensures exact { IfSome (S.left source.old) (λ all. EndsAs all result) }
     ensures read { result ≡ Ending.Read → Rose (S.faults source.old) (S.faults source.new) }
     ensures write { result ≡ Ending.Write → Rose (W.faults sink.old) (W.faults sink.new) }

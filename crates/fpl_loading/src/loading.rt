@@ -7,7 +7,7 @@ ghost use Rattle.season_book.specs.Hosts.{IsRequest};
 ghost use Rattle.season_book.specs.declared.answer.Answer.TheVariants as answer_of;
 ghost use Rattle.season_book.specs.declared.request.Request.TheVariants as request_of;
 ghost use Rattle.season_keeping.specs.Answering.{IsCaused};
-ghost use Rattle.fpl_desk.specs.Kept.{Leads};
+ghost use Rattle.fpl_desk.specs.Kept.{Leads, kept_as};
 ghost use Rattle.fpl_asking.specs.Asking.{IsHeard};
 ghost use Rattle.fpl_asking.specs.Printing.{PrintsOne};
 ghost use Rattle.fpl_loading.specs.Loading.{IsLoad, counts_of, is_number_old, loaded_text};
@@ -35,8 +35,8 @@ pub fn loaded<W: Sink, C: Clock, K: Keeper, L: Ledger>(
     requires fresh { host.old.stale ≡ false }
     requires lawful { All IsCommand commands.items }
     ensures loaded { Leads K.tells K.serves K.holds K.passes
-        (record { host = host.old; moments = C.left clock.old; failed = K.faults keeper.old; keeper = keeper.old })
-        (record { host = host.new; moments = C.left clock.new; failed = K.faults keeper.new; keeper = keeper.new })
+        (kept_as host.old (C.left clock.old) (K.faults keeper.old) keeper.old)
+        (kept_as host.new (C.left clock.new) (K.faults keeper.new) keeper.new)
         (IsLoad commands.items (W.taken output.old) (W.taken output.new) result) }
     ensures statuses { (result ≡ 0) ⊎ (result ≡ 3) ⊎ (result ≡ 4) ⊎ (result ≡ 6) ⊎ (result ≡ 13) }
     ensures keeper { result ≡ 4 → Rose (K.faults keeper.old) (K.faults keeper.new) }
@@ -73,8 +73,8 @@ fn ask_command<C: Clock, K: Keeper, L: Ledger>(
     requires fresh { host.old.stale ≡ false }
     requires asked { IsRequest (request_of.Command number command) }
     ensures heard { Leads K.tells K.serves K.holds K.passes
-        (record { host = host.old; moments = C.left clock.old; failed = K.faults keeper.old; keeper = keeper.old })
-        (record { host = host.new; moments = C.left clock.new; failed = K.faults keeper.new; keeper = keeper.new })
+        (kept_as host.old (C.left clock.old) (K.faults keeper.old) keeper.old)
+        (kept_as host.new (C.left clock.new) (K.faults keeper.new) keeper.new)
         (λ served behind. IsHeard served caller_of.Operator
         (request_of.Command number command) result behind) }
     ensures stale { host.new.stale ≡ true
