@@ -5,4 +5,5 @@ pub mod Pipe
 pub mod Requests
 pub mod Run
 pub mod Serve
+pub mod Talk
 pub mod Whole

@@ -8,6 +8,7 @@ ghost use Rattle.fpl_desk.specs.Looks.{CountsLooks, SessionReadsFew, counted_as}
 ghost use Rattle.fpl_replies.specs.Replying.{IsReplyUntil};
 ghost use Rattle.fpl_replies.specs.Whole.{IsKeptReply};
 ghost use Rattle.fpl_host.specs.Pipe.{IsSession};
+ghost use Rattle.fpl_host.specs.Talk.{TalksCount, TalksLead};
 
 use fpl_base::{Clock, Keeper, Sink, Source, Steps};
 use fpl_desk::{
@@ -54,14 +55,31 @@ pub fn talk<S: Source, W: Sink, C: Clock, K: Keeper, L: Ledger>(
     ensures read { result ≡ Ending.Read → Rose (S.faults source.old) (S.faults source.new) }
     ensures write { result ≡ Ending.Write → Rose (W.faults sink.old) (W.faults sink.new) }
 {
-    // The laws by which a session is told by each of the views, and reads few, for the prover.
+    // The laws of what a session is told by, for the prover.
+    talks_lead::<K>();
+    talks_count::<K>();
+    session(alloc, desk, host, keeper, source, sink, clock, steps)
+}
+
+// A law: a session leads on by each of the three views of its keeper.
+fn talks_lead<K: Keeper>()
+    ensures { TalksLead K.tells K.serves K.holds K.passes }
+{
+    // The laws on which it stands, for the prover.
     sessions_split::<ReadsFirst<K>>();
     sessions_split::<RowsFirst<K>>();
     sessions_split::<StopsFirst<K>>();
     sessions_lift::<ByRows<K>>();
     sessions_lift::<ByStops<K>>();
     sessions_lift::<ByRecords<K>>();
+}
+
+// A law: a session counts reads as its messages do, which are few where these are looks.
+fn talks_count<K: Keeper>()
+    ensures { TalksCount K.tells K.serves K.holds K.passes }
+{
+    // The laws on which it stands, for the prover.
+    sessions_split::<ReadsFirst<K>>();
     sessions_answer::<ReadsFirst<K>>();
     looks_read_few::<K>();
-    session(alloc, desk, host, keeper, source, sink, clock, steps)
 }

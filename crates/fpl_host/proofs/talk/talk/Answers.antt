@@ -1,5 +1,4 @@
 use Rattle.fpl_desk.specs.Looks.{Counted}
-use Rattle.fpl_host.proofs.CourseLemmas.{session_counts, session_leads, session_reads_few}
 use Rattle.fpl_host.proofs.talk.talk.Goals as goal
 
 pub returns-clause-leads : goal.returns-clause-leads
@@ -12,8 +11,7 @@ returns-clause-leads g c =
       kept = record { host = c.session.new.host.host; moments = g.C.Clock.left c.session.new.clock; failed = g.K.Keeper.faults c.session.new.keeper; keeper = c.session.new.keeper };
       reads = c.session.new.steps;
     } in
-    session_leads _ g.K.Keeper.tells g.K.Keeper.serves g.K.Keeper.holds g.K.Keeper.passes c.sessions_split.ensures.sessions c.sessions_split-2.ensures.sessions c.sessions_split-3.ensures.sessions
-    c.sessions_lift.ensures.sessions c.sessions_lift-2.ensures.sessions c.sessions_lift-3.ensures.sessions first last _ _ _ _ _ c.session.ensures.session
+    c.talks_lead.ensures.leads first last _ _ _ _ _ c.session.ensures.session
 
 pub returns-clause-counts : goal.returns-clause-counts
 returns-clause-counts g c =
@@ -25,7 +23,7 @@ returns-clause-counts g c =
       kept = record { host = c.session.new.host.host; moments = g.C.Clock.left c.session.new.clock; failed = g.K.Keeper.faults c.session.new.keeper; keeper = c.session.new.keeper };
       reads = c.session.new.steps;
     } in
-    session_counts _ g.K.Keeper.tells g.K.Keeper.serves g.K.Keeper.holds g.K.Keeper.passes c.sessions_split.ensures.sessions first last _ _ _ _ _ c.session.ensures.session
+    c.talks_count.ensures.counts first last _ _ _ _ _ c.session.ensures.session
 
 pub returns-clause-reads : goal.returns-clause-reads
 returns-clause-reads g c =
@@ -37,5 +35,5 @@ returns-clause-reads g c =
       kept = record { host = c.session.new.host.host; moments = g.C.Clock.left c.session.new.clock; failed = g.K.Keeper.faults c.session.new.keeper; keeper = c.session.new.keeper };
       reads = c.session.new.steps;
     } in
-    session_reads_few _ c.sessions_answer.ensures c.looks_read_few.ensures first last _ _ _ _ _
-    (session_counts _ g.K.Keeper.tells g.K.Keeper.serves g.K.Keeper.holds g.K.Keeper.passes c.sessions_split.ensures.sessions first last _ _ _ _ _ c.session.ensures.session)
+    c.talks_count.ensures.reads first last _ _ _ _ _
+    (c.talks_count.ensures.counts first last _ _ _ _ _ c.session.ensures.session)
