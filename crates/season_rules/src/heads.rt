@@ -23,25 +23,8 @@ fn average_in(value: Option<&Value>) -> i32
     ensures near { IsWithin 18000000 result }
 {
     match value {
-        Some(value) => average_held(value),
-        None => 0,
-    }
-}
-
-fn average_held(value: &Value) -> i32
-    ensures value { result ≡ average_held (Some value.now) }
-    ensures near { IsWithin 18000000 result }
-{
-    match value {
-        Value::Line(_) => 0,
-        Value::Bonus(_) => 0,
-        Value::PlayerGw(_) => 0,
-        Value::TeamGw(_) => 0,
-        Value::Total(_) => 0,
-        Value::Average(points) => points.get(),
-        Value::Match(_) => 0,
-        Value::HeadRow(_) => 0,
-        Value::Tie(_) => 0,
+        Some(Value::Average(points)) => points.get(),
+        _ => 0,
     }
 }
 
@@ -52,26 +35,8 @@ fn scores_in(value: Option<&Value>) -> (i32, i32)
     ensures high { IsWithin 18000000 result.1 }
 {
     match value {
-        Some(value) => scores_held(value),
-        None => (0, 0),
-    }
-}
-
-fn scores_held(value: &Value) -> (i32, i32)
-    ensures value { result ≡ scores_held (Some value.now) }
-    ensures low { IsWithin 18000000 result.0 }
-    ensures high { IsWithin 18000000 result.1 }
-{
-    match value {
-        Value::Line(_) => (0, 0),
-        Value::Bonus(_) => (0, 0),
-        Value::PlayerGw(_) => (0, 0),
-        Value::TeamGw(_) => (0, 0),
-        Value::Total(_) => (0, 0),
-        Value::Average(_) => (0, 0),
-        Value::Match(scores) => scores.get(),
-        Value::HeadRow(_) => (0, 0),
-        Value::Tie(_) => (0, 0),
+        Some(Value::Match(scores)) => scores.get(),
+        _ => (0, 0),
     }
 }
 

@@ -41,25 +41,8 @@ pub(crate) fn net_in(value: Option<&Value>) -> i32
     ensures near { IsWithin 18000000 result }
 {
     match value {
-        Some(value) => net_held(value),
-        None => 0,
-    }
-}
-
-fn net_held(value: &Value) -> i32
-    ensures value { result ≡ net_held (Some value.now) }
-    ensures near { IsWithin 18000000 result }
-{
-    match value {
-        Value::Line(_) => 0,
-        Value::Bonus(_) => 0,
-        Value::PlayerGw(_) => 0,
-        Value::TeamGw(score) => score.get().net,
-        Value::Total(_) => 0,
-        Value::Average(_) => 0,
-        Value::Match(_) => 0,
-        Value::HeadRow(_) => 0,
-        Value::Tie(_) => 0,
+        Some(Value::TeamGw(score)) => score.get().net,
+        _ => 0,
     }
 }
 

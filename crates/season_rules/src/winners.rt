@@ -18,24 +18,8 @@ pub fn winner_in(value: Option<&Value>) -> u32
     ensures { result ≡ winner_held (option_copied value.entry) }
 {
     match value {
-        Some(value) => winner_held(value),
-        None => 0,
-    }
-}
-
-fn winner_held(value: &Value) -> u32
-    ensures { result ≡ winner_held (Some value.now) }
-{
-    match value {
-        Value::Line(_) => 0,
-        Value::Bonus(_) => 0,
-        Value::PlayerGw(_) => 0,
-        Value::TeamGw(_) => 0,
-        Value::Total(_) => 0,
-        Value::Average(_) => 0,
-        Value::Match(_) => 0,
-        Value::HeadRow(_) => 0,
-        Value::Tie(winner) => *winner,
+        Some(Value::Tie(winner)) => *winner,
+        _ => 0,
     }
 }
 
@@ -66,24 +50,8 @@ fn side_in(value: Option<&Value>) -> Side
     ensures { result ≡ side_held (option_copied value.entry) }
 {
     match value {
-        Some(value) => side_held(value),
-        None => no_side(),
-    }
-}
-
-fn side_held(value: &Value) -> Side
-    ensures { result ≡ side_held (Some value.now) }
-{
-    match value {
-        Value::Line(_) => no_side(),
-        Value::Bonus(_) => no_side(),
-        Value::PlayerGw(_) => no_side(),
-        Value::TeamGw(score) => side_of(score.get()),
-        Value::Total(_) => no_side(),
-        Value::Average(_) => no_side(),
-        Value::Match(_) => no_side(),
-        Value::HeadRow(_) => no_side(),
-        Value::Tie(_) => no_side(),
+        Some(Value::TeamGw(score)) => side_of(score.get()),
+        _ => no_side(),
     }
 }
 

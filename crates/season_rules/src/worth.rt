@@ -50,24 +50,8 @@ pub fn worth_in(value: Option<&Value>) -> LineWorth
     ensures { result ≡ worth_in (option_copied value.entry) }
 {
     match value {
-        Some(value) => worth_held(value),
-        None => no_worth(),
-    }
-}
-
-fn worth_held(value: &Value) -> LineWorth
-    ensures { result ≡ worth_in (Some value.now) }
-{
-    match value {
-        Value::Line(worth) => *worth,
-        Value::Bonus(_) => no_worth(),
-        Value::PlayerGw(_) => no_worth(),
-        Value::TeamGw(_) => no_worth(),
-        Value::Total(_) => no_worth(),
-        Value::Average(_) => no_worth(),
-        Value::Match(_) => no_worth(),
-        Value::HeadRow(_) => no_worth(),
-        Value::Tie(_) => no_worth(),
+        Some(Value::Line(worth)) => *worth,
+        _ => no_worth(),
     }
 }
 
@@ -77,25 +61,8 @@ pub fn figures_in(value: Option<&Value>) -> Figures
     ensures modest { IsModest result }
 {
     match value {
-        Some(value) => figures_held(value),
-        None => no_figures(),
-    }
-}
-
-fn figures_held(value: &Value) -> Figures
-    ensures value { result ≡ figures_held (Some value.now) }
-    ensures modest { IsModest result }
-{
-    match value {
-        Value::Line(_) => no_figures(),
-        Value::Bonus(_) => no_figures(),
-        Value::PlayerGw(figures) => figures.get(),
-        Value::TeamGw(_) => no_figures(),
-        Value::Total(_) => no_figures(),
-        Value::Average(_) => no_figures(),
-        Value::Match(_) => no_figures(),
-        Value::HeadRow(_) => no_figures(),
-        Value::Tie(_) => no_figures(),
+        Some(Value::PlayerGw(figures)) => figures.get(),
+        _ => no_figures(),
     }
 }
 
@@ -104,24 +71,8 @@ fn bonus_in(value: Option<&Value>, player: PlayerId) -> u8
     ensures { result ≡ unwrap_or (at_id (bonuses_in (option_copied value.entry)) player) 0 }
 {
     match value {
-        Some(value) => bonus_held(value, player),
-        None => 0,
-    }
-}
-
-fn bonus_held(value: &Value, player: PlayerId) -> u8
-    ensures { result ≡ unwrap_or (at_id (bonuses_in (Some value.now)) player) 0 }
-{
-    match value {
-        Value::Line(_) => 0,
-        Value::Bonus(rows) => bonus_among(rows.as_slice(), player),
-        Value::PlayerGw(_) => 0,
-        Value::TeamGw(_) => 0,
-        Value::Total(_) => 0,
-        Value::Average(_) => 0,
-        Value::Match(_) => 0,
-        Value::HeadRow(_) => 0,
-        Value::Tie(_) => 0,
+        Some(Value::Bonus(rows)) => bonus_among(rows.as_slice(), player),
+        _ => 0,
     }
 }
 
