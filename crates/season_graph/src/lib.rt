@@ -12,7 +12,6 @@ mod holding;
 mod indexing;
 mod laws;
 mod locks;
-mod reading;
 mod refreshing;
 mod rounds;
 mod totals;
@@ -25,9 +24,6 @@ pub use evaluation::{evaluate_all, settle_season};
 pub use laws::{
     books_alike, calendar_changes, cups_change, index_stays, leagues_change, lines_are_told,
     managers_change, matches_change, players_change, replay_is_told, same_is_alike,
-};
-pub use reading::{
-    bonuses_held, gameweek_held, head_held, line_held, score_held, tie_held, total_held,
 };
 pub use season_nodes::{
     Bonuses, Books, GameweekFigures, GameweekScore, Index, LineWorth, Node, Value, is_same,

@@ -9,13 +9,14 @@ ghost use Rattle.season_views.specs.Entries.{OfEachBook, OfEachNames};
 ghost use Rattle.season_views.specs.Leagues.{AreIssued, classic_row_since};
 
 use crate::names::name_of;
+use crate::reading::total_held;
 use classic_leagues::{League, table};
 use fpl_base::{EntryId, Gw, ListOf, Memory, Steps};
 use manager_book::ManagerBook;
 use rule_book::{Ranked, tables_are_the_one};
 use season_book::{ShownClassic, ShownRanked};
 use season_facts::Season;
-use season_graph::{SeasonCells, total_held};
+use season_graph::SeasonCells;
 use season_ledger::rows_tell;
 use std::alloc::Global;
 use std::sync::ledger::Ledger;

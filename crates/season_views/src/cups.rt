@@ -13,13 +13,14 @@ ghost use Rattle.season_views.specs.Cells.{AreKeptAt};
 ghost use Rattle.season_views.specs.Entries.{OfEachBook};
 ghost use Rattle.season_views.specs.Reads.{reads_of, ties_of};
 
+use crate::reading::tie_held;
 use cup_rounds::{rounds, rounds_follow};
 use fpl_base::{CupId, ListOf, Memory, Steps};
 use manager_book::ManagerBook;
 use rule_book::{Bracket, Slots};
 use season_book::ShownCup;
 use season_facts::Season;
-use season_graph::{SeasonCells, tie_held};
+use season_graph::SeasonCells;
 use season_ledger::rows_tell;
 use std::alloc::Global;
 use std::sync::ledger::Ledger;

@@ -14,6 +14,7 @@ ghost use Rattle.season_entries.specs.Entries.{AreEntries};
 ghost use Rattle.season_views.specs.Cells.{AreKeptIn};
 ghost use Rattle.season_views.specs.Entries.{OfEachHistory, me_with};
 
+use crate::reading::{score_held, total_held};
 use crate::views::locked_gameweek;
 use fpl_base::{EntryId, Gw, PlayerId, Steps, Tenths};
 use manager_book::ManagerBook;
@@ -21,7 +22,7 @@ use player_prices::selling_price;
 use rule_book::{Pick, Team};
 use season_book::{ShownEntryGameweek, ShownMe, ShownPick};
 use season_facts::Season;
-use season_graph::{SeasonCells, score_held, total_held};
+use season_graph::SeasonCells;
 use season_ledger::rows_tell;
 use std::sync::ledger::Ledger;
 

@@ -13,6 +13,7 @@ ghost use Rattle.season_views.specs.Entries.{OfEachBook, OfEachNames};
 ghost use Rattle.season_views.specs.Leagues.{AreIssued};
 
 use crate::names::name_of;
+use crate::reading::head_held;
 use classic_leagues::League;
 use fpl_base::{EntryId, LeagueId, ListOf, Memory, Steps};
 use head_to_head::table;
@@ -20,7 +21,7 @@ use manager_book::ManagerBook;
 use rule_book::{HeadRanked, HeadScore, tables_are_the_one};
 use season_book::{ShownHead, ShownHeadRanked};
 use season_facts::Season;
-use season_graph::{SeasonCells, head_held};
+use season_graph::SeasonCells;
 use season_ledger::rows_tell;
 use std::alloc::Global;
 use std::sync::ledger::Ledger;

@@ -7,6 +7,7 @@ mod entries;
 mod head;
 mod leagues;
 mod names;
+mod reading;
 mod sheets;
 mod views;
 

@@ -9,10 +9,11 @@ ghost use Rattle.season_nodes.specs.declared.nodes.Node.{Node};
 ghost use Rattle.season_book.specs.Views.{line_shown};
 ghost use Rattle.season_views.specs.Cells.{AreKeptOf, line_with};
 
+use crate::reading::{bonuses_held, line_held};
 use fpl_base::{FixtureId, Memory, PlayerId, Steps};
 use season_book::{ShownLine, ShownLines};
 use season_facts::Season;
-use season_graph::{SeasonCells, bonuses_held, line_held, lines_are_told};
+use season_graph::{SeasonCells, lines_are_told};
 use season_rules::bonus_among;
 use std::alloc::Global;
 use std::sync::ledger::Ledger;

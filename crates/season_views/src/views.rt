@@ -7,13 +7,14 @@ ghost use Rattle.season_book.specs.declared.request.View.TheVariants as view;
 ghost use Rattle.season_views.specs.Cells.{AreKeptOf};
 ghost use Rattle.season_views.specs.Reads.{reads_allowed};
 
+use crate::reading::gameweek_held;
 use crate::sheets::lines_shown;
 use fpl_base::{Gw, Memory, Moment, Steps};
 use rule_book::Player;
 use season_book::{Moments, Shown, ShownFixture, ShownSeason, View};
 use season_calendar::Calendar;
 use season_facts::Season;
-use season_graph::{SeasonCells, gameweek_held};
+use season_graph::SeasonCells;
 use std::alloc::Global;
 use std::sync::ledger::Ledger;
 
