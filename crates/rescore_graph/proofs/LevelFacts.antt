@@ -2,14 +2,12 @@
 use Rattle.std.proofs.Common.{◌≡◌, ◌≢◌, ℕ, zero, suc, ◌+◌, ◌<◌, ◌≤◌, Bool, true, false, List, [], ◌∷◌, ◌++◌, ◌⊎◌, inl, inr, ⊎_elim, refl, sym, ◌∙◌, ap, subst, arith, take, length, get_or, nat_cmp, Ordering, Less, Equal, Greater}
 use Rattle.std.proofs.lemmas.Cmp.{ranked}
 use Rattle.std.specs.Ordering.{MatchOrdering}
-use Rattle.std.specs.List.{sum_by}
-use Rattle.std.proofs.lemmas.List.Sums.{sum_by-append}
 use Rattle.rescore_graph.specs.Graph.{Among, Graph, IsGraph}
 use Rattle.rescore_graph.specs.States.{State, is_dirty, IsDirty}
 use Rattle.rescore_graph.specs.Settling.{Sound, Evaluates}
 use Rattle.rescore_graph.specs.Work.{AreAll, IsFront}
 use Rattle.rescore_graph.proofs.RaisedFacts.{dirty_some}
-use Rattle.rescore_graph.proofs.ProgressFacts.{dirty_after, true_not_false}
+use Rattle.rescore_graph.proofs.ProgressFacts.{dirty_after}
 use Rattle.rescore_graph.proofs.WorkFacts.{among_taken}
 
 -- the element stands in the list, at a place from one to before another
@@ -87,16 +85,6 @@ left_same l m n d P h ne p = test (nat_cmp l m) (ranked l m (nat_cmp l m) refl)
     test Equal k = inr (k, ne, p)
     test Greater k = absurd (omega arith)
 
--- a node that is clean, or of another level, is left as it is
-pub left_skipped : {N V : Type 0} (g : Graph N V) (n : N) (t : State N V) (l : ℕ) → (¬ ((l ≡ g.level n) × IsDirty t n)) → ((n q : N) → (n ≡ q) ⊎ (n ≢ q)) → ((d : N) → IsDirty t d → l ≤ g.level d)
-    → (d : N) → IsDirty t d → (l < g.level d) ⊎ ((l ≡ g.level d) × (n ≢ d) × IsDirty t d)
-left_skipped g n t l not_here apart least d k = ⊎_elim
-    (λ i. ⊎_elim inl (λ r. absurd (not_here (r.0 ∙ ap g.level (sym i), subst (IsDirty t) (sym i) k))) (left_same l (g.level d) zero (suc zero) (IsDirty t d) (least d k) (λ z. zero_not_one z) k))
-    (λ ne. left_same l (g.level d) n d (IsDirty t d) (least d k) ne k) (apart n d)
-  where
-    zero_not_one : zero ≡ suc zero → ⊥
-    zero_not_one z = omega arith
-
 -- what is left of a level after a node was evaluated
 pub left_after : {N V : Type 0} (g : Graph N V) (law : IsGraph g) (apart : (n q : N) → (n ≡ q) ⊎ (n ≢ q)) (n : N) (v : V) (t u w : State N V) (sound : Sound g t) → Evaluates g n v t u w
     → (l : ℕ) → l ≡ g.level n → ((d : N) → IsDirty t d → l ≤ g.level d)
@@ -104,13 +92,6 @@ pub left_after : {N V : Type 0} (g : Graph N V) (law : IsGraph g) (apart : (n q 
 left_after g law apart n v t u w sound e l le least d k = let h = dirty_after g law apart n v t u w sound e d k in
     ⊎_elim (λ f. left_same l (g.level d) n d (IsDirty t d) (least d f) h.0 f)
     (λ b. let c : g.level n < g.level d = law.inputs_lower d n b.0 b.1 in inl (omega arith)) h.1
-
--- the weights so far, and one more
-pub cost_more : {N : Type 0} (f : N → ℕ) (xs ys : List N) (n : N) (b c : ℕ) → ys ≡ xs ++ n ∷ [] → c ≤ b + f n → c + sum_by f xs ≤ b + sum_by f ys
-cost_more f xs ys n b c e k =
-    let j : sum_by f (xs ++ n ∷ []) ≡ sum_by f xs + sum_by f (n ∷ []) = sum_by-append f xs (n ∷ []) in
-    let i : sum_by f ys ≡ sum_by f (xs ++ n ∷ []) = ap (sum_by f) e in
-    omega arith
 
 -- a level that is not below, and of which nothing is left, is above
 pub past_level : {X : Type 0} (xs : List X) (place end l m : ℕ) (d : X) → end ≤ place → l ≤ m → (m ≡ l → StandsFrom xs place end d) → l < m

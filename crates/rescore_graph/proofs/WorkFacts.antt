@@ -1,21 +1,17 @@
 -- The work list and its nodes by place, and cells under one write.
-use Rattle.std.proofs.Common.{◌≡◌, ◌≢◌, ℕ, zero, suc, ◌+◌, ◌<◌, ◌≤◌, Bool, true, false, cond, not, ◌||◌, List, [], ◌∷◌, ◌++◌, ◌⊎◌, inl, inr, ⊎_elim, Option, is_some, refl, sym, ◌∙◌, ap, subst, arith, take, nat_cmp, Ordering, Less, Equal, Greater, is_eq}
+use Rattle.std.proofs.Common.{◌≡◌, ◌≢◌, ℕ, zero, suc, ◌+◌, ◌<◌, ◌≤◌, Bool, true, false, cond, not, ◌||◌, List, [], ◌∷◌, ◌++◌, ◌⊎◌, inl, inr, ⊎_elim, Option, is_some, refl, sym, ◌∙◌, ap, subst, arith, take, Ordering, Less, Equal, Greater, is_eq}
 use Rattle.std.specs.Cmp.{IsTotalOrder, eq_by_cmp_equiv}
-use Rattle.std.proofs.lemmas.Cmp.{ranked}
-use Rattle.std.specs.Ordering.{MatchOrdering}
 use Rattle.std.proofs.lemmas.Map.Lookups.{CmpEqualImpliesEq}
-use Rattle.std.specs.List.{list_any, sum_by}
-use Rattle.std.proofs.lemmas.List.Sums.{sum_by-append}
+use Rattle.std.specs.List.{list_any}
 use Rattle.std.proofs.Common.{length, get_or, length-append, append-nil, append_assoc}
 use Rattle.std.proofs.lemmas.List.{take_more}
 use Rattle.std.proofs.lemmas.List.Folds.{list_any-append}
 use Rattle.std.specs.BTreeMap.{is_at}
 use Rattle.rescore_graph.specs.declared.cells.Slot.{Slot}
-use Rattle.rescore_graph.specs.Graph.{Among, Graph}
+use Rattle.rescore_graph.specs.Graph.{Among}
 use Rattle.rescore_graph.specs.States.{State, is_dirty, IsDirty, raise, stored, Raised, Puts}
-use Rattle.rescore_graph.specs.Settling.{Sound}
 use Rattle.rescore_graph.specs.Work.{AreAll, IsFront}
-use Rattle.rescore_graph.proofs.RaisedFacts.{raise_dirty, dirty_some, clean_stored, raised_more}
+use Rattle.rescore_graph.proofs.RaisedFacts.{raise_dirty, clean_stored, raised_more}
 use Rattle.rescore_graph.proofs.ProgressFacts.{among_last, among_more, among_push}
 
 or_true : (a b : Bool) → (a || b) ≡ true → (a ≡ true) ⊎ (b ≡ true)

@@ -1,16 +1,11 @@
 -- The lines for the rows, one more at a time.
-use Rattle.std.proofs.Common.{◌≡◌, ◌<◌, ◌≤◌, ◌+◌, ◌∷◌, [], ◌++◌, ℕ, ℤ, suc, List, Bool, true, false, cond, length, get_or, filter, take, drop, Some, arith, length-append, refl, sym, ap, ◌∙◌}
-use Rattle.std.specs.List.{flat_map, slice_get}
-use Rattle.std.proofs.lemmas.List.{flat_map_more, take_more, take-append-drop}
-use Rattle.std.proofs.lemmas.List.Elements.{filter-append}
-use Rattle.std.proofs.lemmas.List.Filters.{length-filter_more}
-use Rattle.std.proofs.Math.Seq.{drop-cons, get_or-append_seam}
-use Rattle.std.proofs.lemmas.Option.{slice_get-get_or, slice_get-map}
-use Rattle.std.specs.Option.{option_map}
+use Rattle.std.proofs.Common.{◌≡◌, ◌<◌, ◌+◌, ◌∷◌, [], ◌++◌, ℕ, ℤ, List, Bool, length, get_or, take, sym, ap, ◌∙◌}
+use Rattle.std.specs.List.{flat_map}
+use Rattle.std.proofs.lemmas.List.{flat_map_more, take_more}
 use mir.Val.{bool_byte}
 use Rattle.fpl_base.specs.declared.kinds.Profile.{Profile}
 use Rattle.rule_book.specs.declared.line.Appearance.{Appearance}
-use Rattle.rule_book.specs.Bonus.{takes_part, standing, bonus_in}
+use Rattle.rule_book.specs.Bonus.{takes_part, bonus_in}
 use Rattle.rule_book.specs.BonusPoints.{bps_of}
 use Rattle.score_sheet.specs.Scores.{line_text, numbers_text}
 

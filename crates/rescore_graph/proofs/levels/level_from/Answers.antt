@@ -1,4 +1,4 @@
-use Rattle.std.proofs.Common.{ℕ, ◌<◌, ◌≤◌, ◌+◌, ◌⊎◌, arith, inl, inr, take}
+use Rattle.std.proofs.Common.{◌<◌, ◌≤◌, ◌+◌, ◌⊎◌, arith, inl, inr, take}
 use Rattle.rescore_graph.specs.Graph.{Among}
 use Rattle.rescore_graph.proofs.LevelFacts.{least_more}
 use Rattle.rescore_graph.proofs.levels.level_from.Goals.{then-from-level+then-level-least, else-from-level, else-from-level-via-then-from-level+else-level-least, else-from-level-via-else-from-level}

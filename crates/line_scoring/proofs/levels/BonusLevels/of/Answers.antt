@@ -1,4 +1,4 @@
-use Rattle.std.proofs.Common.{rules, take, take_all, ap, ◌∙◌, w32, FitsSigned}
+use Rattle.std.proofs.Common.{rules, take_all, ap, ◌∙◌, w32, FitsSigned}
 use Rattle.std.proofs.lemmas.Int.{to_z-of_z}
 use Rattle.rule_book.specs.Bonus.{bonus_of}
 use Rattle.line_scoring.specs.Levels.{bonus_by}

@@ -1,7 +1,7 @@
-use Rattle.std.proofs.Common.{◌≡◌, ◌∙◌, ⊎_elim, inr, subst}
+use Rattle.std.proofs.Common.{◌≡◌, ◌∙◌, ⊎_elim, subst}
 use Rattle.rescore_graph.specs.Graph.{Among}
-use Rattle.rescore_graph.specs.States.{look, IsDirty, Raised}
-use Rattle.rescore_graph.proofs.RaisedFacts.{raised_keeps, raised_more, raised_some}
+use Rattle.rescore_graph.specs.States.{look, IsDirty}
+use Rattle.rescore_graph.proofs.RaisedFacts.{raised_keeps, raised_some}
 use Rattle.rescore_graph.proofs.WorkFacts.{among_get, among_taken, front_more, mark_more}
 use Rattle.rescore_graph.proofs.cells.Cells.mark_all.Goals as goal
 

@@ -1,6 +1,6 @@
-use Rattle.std.proofs.Common.{true, false, not, sym, ◌∙◌, [], refl, subst}
+use Rattle.std.proofs.Common.{false}
 use Rattle.rescore_graph.specs.States.{look, is_dirty}
-use Rattle.rescore_graph.proofs.WorkFacts.{puts_raised, puts_dirty, all_pushed, all_kept, was_dirty}
+use Rattle.rescore_graph.proofs.WorkFacts.{puts_raised, all_pushed, all_kept, was_dirty}
 use Rattle.rescore_graph.proofs.cells.Cells.mark_one.Goals as goal
 
 pub returns-in_err-push-clause-raised : goal.returns-in_err-push-clause-raised

@@ -1,11 +1,11 @@
-use Rattle.std.proofs.Common.{rules, ◌≡◌, ◌∙◌, sym, ap, arith, subst}
+use Rattle.std.proofs.Common.{rules, ◌≡◌, ◌∙◌, sym, arith, subst}
 use Rattle.rescore_graph.specs.States.{look, State, IsDirty}
 use Rattle.rescore_graph.specs.Settling.{Progress, Remains}
 use Rattle.rescore_graph.proofs.RaisedFacts.{dirty_some}
 use Rattle.rescore_graph.proofs.RemainsFacts.{remains, remains_within}
 use Rattle.rescore_graph.proofs.ProgressFacts.{evaluated_sound, next}
 use Rattle.rescore_graph.proofs.WorkFacts.{apart}
-use Rattle.rescore_graph.proofs.LevelFacts.{left_after, left_skipped}
+use Rattle.rescore_graph.proofs.LevelFacts.{left_after}
 use Rattle.rescore_graph.proofs.cells.Cells.settle_node.Goals as goal
 
 pub returns-in_err-push-clause-remains : goal.returns-in_err-push-clause-remains
