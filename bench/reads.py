@@ -26,10 +26,10 @@ LAST = (1, 1, [90, 1])  # of which fixture, of whom and with which figures the l
 HELD = (5, 169, [90, 3])  # the same of the player who is held most, with a goal more than anybody has
 # The calls by which a cell is read.
 READS = (("rescore_graph::cells::Cells::get",),)
-# Those by which a cell is evaluated, and those by which the evaluation of an entry's gameweek reads one of its players.
+# Those by which a cell is evaluated.
 EVALUATIONS = (("rescore_graph::cells::Cells::evaluate",),)
-TEAMS = (("season_rules::teams::player_figures",),)
-SQUAD = 15
+# A goal that moves no bonus of a player whom nobody holds: the line, the bonus and the player's gameweek, and no entry's.
+UNHELD = 3
 
 
 class Stream(managers.Stream):
@@ -126,16 +126,14 @@ def main():
         ("a line put again: evaluations", runs.more("again", "opened", EVALUATIONS), 0),
         (f"the table of {ENTRIES} rows: reads", runs.more("table", "opened", READS), 3 * ENTRIES + 8),
         ("/me: reads", runs.more("me", "opened", READS), 64),
-        ("a goal of whom nobody holds: entries' gameweeks evaluated", runs.more("unheld", "came", TEAMS) // SQUAD, 0),
+        ("a goal of whom nobody holds: evaluations", runs.more("unheld", "came", EVALUATIONS), UNHELD),
     )
     for name, count, most in bounds:
         print(f"{name}: {count:,}, of at most {most:,}{'' if count <= most else ', and so TOO MANY'}")
     for name, run, other in (("whom nobody holds", "unheld", "came"), ("who is held most", "held", "opened")):
-        reads, evaluated, teams = (runs.more(run, other, kinds) for kinds in (READS, EVALUATIONS, TEAMS))
-        print(f"a goal of {name}: {reads:,} reads, {evaluated:,} evaluations, of them {teams // SQUAD:,} of entries' gameweeks")
-    teams = runs.of("opened", runs.seen(TEAMS[0])) // SQUAD
-    print(f"an opening evaluates the gameweek of each entry once: {teams:,}, of {ENTRIES:,}")
-    kept = [count <= most for _, count, most in bounds] + [teams == ENTRIES]
+        reads, evaluated = (runs.more(run, other, kinds) for kinds in (READS, EVALUATIONS))
+        print(f"a goal of {name}: {reads:,} reads, {evaluated:,} evaluations")
+    kept = [count <= most for _, count, most in bounds]
     print(f"{kept.count(True)} passed, {kept.count(False)} failed")
     return 0 if all(kept) else 1
 
