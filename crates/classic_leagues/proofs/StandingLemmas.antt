@@ -1,7 +1,7 @@
 -- A table that is made of the sorted rows is one of the rows given.
 use Rattle.std.proofs.Common.{ℕ, ℤ, ◌≡◌, ◌∙◌, refl, ap, subst, List, Bool, true, false, cond, map, ◌&&◌, ◌||◌, ◌==◌, IsPermutation, IsSorted}
 use Rattle.std.specs.Prelude.{nat_lt, int_lt}
-use Rattle.std.specs.Ordering.{is_lt, is_eq, ordering_then, nat_cmp, int_cmp}
+use Rattle.std.specs.Ordering.{is_lt, is_eq, ordering_then}
 use Rattle.std.specs.declared.cmp.Ordering.TheVariants.{Less, Equal, Greater}
 use Rattle.std.proofs.lemmas.List.Sorted.{IsPermutation-map}
 use Rattle.std.proofs.lemmas.Simd.{map-map}

@@ -1,8 +1,7 @@
 // Which cup can be played.
-ghost use Rattle.std.specs.Prelude.{◌≡◌, ◌≢◌, ◌≤◌, ◌<◌, ◌+◌, ◌*◌, ◌^◌, ◌↔◌, ℕ, IfSome, IfNone, IsTrue, OnOk, length};
+ghost use Rattle.std.specs.Prelude.{◌≡◌, ◌≢◌, ◌≤◌, ◌<◌, ◌+◌, ◌*◌, ◌^◌, ◌↔◌, ℕ, IfSome, IfNone, IsTrue, OnOk};
 ghost use Rattle.rule_book.specs.Cups.{StandsOnce, HasNoByeTie, IsCup, wrong_cup};
 ghost use Rattle.rule_book.specs.Refusals.{IsJudged};
-ghost use Rattle.cup_rounds.specs.Shapes.{HasShape};
 
 use fpl_base::{Gw, Rule};
 use rule_book::Bracket;

@@ -1,6 +1,6 @@
 // A keeper over memory: one that never fails, and one that fails at calls that are listed.
 ghost use Rattle.std.specs.Prelude.{◌≡◌, ◌≤◌, ◌<◌, ◌+◌, [], IfOk, reverse, vec_len, vec_capacity};
-ghost use Rattle.fpl_base.specs.Keeping.{KeysRise, applied, applied_one, map_of};
+ghost use Rattle.fpl_base.specs.Keeping.{KeysRise, applied, map_of};
 ghost use Rattle.fpl_base.specs.declared.records.Op.TheVariants as op;
 
 use crate::rows::{delete, put};

@@ -1,5 +1,5 @@
 // Records in the order of their keys.
-ghost use Rattle.std.specs.Prelude.{◌≡◌, ◌≤◌, ◌<◌, ◌+◌, IsTrue, true, false, length, slice_index_or, vec_len, vec_capacity};
+ghost use Rattle.std.specs.Prelude.{◌≡◌, ◌≤◌, ◌<◌, ◌+◌, IsTrue, false, length, vec_len, vec_capacity};
 ghost use Rattle.std.specs.List.{HoldsAt};
 ghost use Rattle.fpl_base.specs.Keeping.{KeysRise, applied_one, is_same_key, map_of, precedes};
 ghost use Rattle.fpl_base.specs.Rows.{IsPlace};

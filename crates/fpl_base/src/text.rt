@@ -1,5 +1,5 @@
 // Owned texts. A contract sees each as its bytes.
-ghost use Rattle.std.specs.Prelude.{◌≡◌, ◌==◌, ◌&&◌, ℕ, List, IfOk, IsTrue, SomeIff, string_bytes};
+ghost use Rattle.std.specs.Prelude.{◌≡◌, ◌&&◌, ℕ, List, IfOk, IsTrue, SomeIff, string_bytes};
 ghost use Rattle.std.specs.List.{list_all};
 ghost use Rattle.std.specs.Str.{is_utf8};
 ghost use Rattle.fpl_base.specs.Texts.{has_length, is_shown, is_letter_or_digit, is_name, is_key, is_code};

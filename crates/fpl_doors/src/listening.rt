@@ -1,6 +1,5 @@
 // Doors over a port of this machine, the trusted edge: they count each error and tell no bytes.
 ghost use Rattle.std.specs.Prelude.{◌≡◌, None, IfOk};
-ghost use Rattle.fpl_base.specs.Causes.{HasCause};
 
 use fpl_base::{Doors, Failed, Sink, Source, Writing};
 use std::io;

@@ -1,7 +1,7 @@
 // Doors over memory: a form that never fails, and one that fails at calls that are listed.
-ghost use Rattle.std.specs.Prelude.{◌≡◌, ◌++◌, ◌∷◌, ◌↔◌, ◌<◌, [], ℕ, List, Some, IfOk, IfSome, IsErr, IsOk, IsTrue, MatchOption, OnErr, map, length};
+ghost use Rattle.std.specs.Prelude.{◌≡◌, ◌++◌, ◌∷◌, ◌↔◌, ◌<◌, [], Some, IfOk, IsErr, IsOk, IsTrue, MatchOption, OnErr, map, length};
 ghost use Rattle.fpl_base.specs.Causes.{HasCause};
-ghost use Rattle.fpl_base.specs.Doors.{GivesBack, Opens};
+ghost use Rattle.fpl_base.specs.Doors.{Opens};
 ghost use Rattle.fpl_base.specs.Plans.{after_call, fails_next};
 ghost use Rattle.fpl_doors.specs.Forms.{ended_in, ended_with};
 

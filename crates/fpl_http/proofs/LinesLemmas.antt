@@ -3,7 +3,7 @@ use Rattle.std.proofs.Common.{◌≡◌, ◌∙◌, ap, sym, subst, refl, ℕ, z
 use Rattle.std.proofs.lemmas.Bool.{cases_Bool, cases_lt}
 use Rattle.std.proofs.lemmas.Bool.Decides.{nat_tests}
 use Rattle.std.proofs.lemmas.List.Sums.{sum_by-cons}
-use Rattle.std.proofs.lemmas.List.{take-append-le, length-append, length-take, take_all, drop-drop, drop_more}
+use Rattle.std.proofs.lemmas.List.{take-append-le, length-append, length-take, take_all, drop_more}
 use Rattle.std.specs.Prelude.{Option, Some, None, option_map, ◌==◌, ◌&&◌, if◌then◌else◌, nat_le, nat_lt, min}
 use Rattle.fpl_http.specs.Lines.{empty_line, strip, head_len, head_len_behind, or_else, line_count, head_end_of, head_end_in}
 use Rattle.fpl_http.specs.declared.lines.HeadEnd.TheVariants.{Missing, TooLarge, At}

@@ -1,5 +1,5 @@
 -- the bytes of the response where memory is wanting, and of a head
-use Rattle.std.proofs.Common.{◌≡◌, ◌≤◌, ◌∙◌, ◌==◌, ℕ, Bool, List, [], ◌++◌, refl, arith, true, false, append_assoc, length}
+use Rattle.std.proofs.Common.{◌≡◌, ◌≤◌, ◌∙◌, ◌==◌, ℕ, Bool, List, ◌++◌, refl, arith, true, false, append_assoc, length}
 use Rattle.std.specs.Prelude.{codes, if◌then◌else◌}
 use Rattle.std.specs.Fmt.{decimal, digits}
 use Rattle.fpl_http.specs.Responses.{closing_line, head_text, memory_text, phrase, response_text}

@@ -6,7 +6,7 @@ ghost use Rattle.fpl_http.specs.Lines.{strip};
 ghost use Rattle.fpl_http.specs.Parts.{Within, bytes_at};
 ghost use Rattle.fpl_http.specs.Responses.{is_answer_status};
 ghost use Rattle.fpl_http.specs.Seen.{request_seen};
-ghost use Rattle.fpl_http.specs.Stream.{IsFront, Request, Refusal, Wanting};
+ghost use Rattle.fpl_http.specs.Stream.{IsFront, Refusal, Wanting};
 
 use crate::buffer::Buffer;
 use crate::head::{FIELDS, Known, Parts, look};

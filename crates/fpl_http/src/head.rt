@@ -1,5 +1,5 @@
 // The head at the front of the bytes that wait, and what it tells of its message.
-ghost use Rattle.std.specs.Prelude.{◌≡◌, ◌≤◌, ℕ, All, List, IfNone, IfSome, length, map};
+ghost use Rattle.std.specs.Prelude.{◌≡◌, ℕ, All, IfNone, IfSome, length, map};
 ghost use Rattle.httparse.specs.Grammar.{RequestHead};
 ghost use Rattle.httparse.specs.Spans.{IsHeaderWithin, IsRequestAt, IsRequestWithin, header_bytes};
 ghost use Rattle.fpl_http.specs.Head.{IsNoHead, ReadsHead};

@@ -2,7 +2,7 @@
 ghost use Rattle.std.specs.Prelude.{◌≡◌, ◌≤◌, ◌==◌, ◌||◌, ◌++◌, IfOk, length};
 ghost use Rattle.std.specs.List.{list_any};
 ghost use Rattle.csv.specs.Writing.{default_writer, row_text};
-ghost use Rattle.fpl_reports.specs.Reports.{counts, entry_rows, factor_at, is_boost, net_row, rows_text, slot_row, slot_rows};
+ghost use Rattle.fpl_reports.specs.Reports.{counts, entry_rows, factor_at, is_boost, rows_text, slot_row, slot_rows};
 
 use crate::lines::{Report, number, signed};
 use crate::season_report::marked;

@@ -1,5 +1,5 @@
 // Fields of a record as what they spell.
-ghost use Rattle.std.specs.Prelude.{◌≡◌, ◌≢◌, ◌<◌, ◌≤◌, ◌∷◌, [], ℕ, MatchOption, Some, length};
+ghost use Rattle.std.specs.Prelude.{◌≡◌, ◌≢◌, ◌<◌, ◌∷◌, [], MatchOption, Some, length};
 ghost use Rattle.csv.specs.Records.{fields_of, field_at};
 ghost use Rattle.fpl_reports.specs.Rows.{Finds, Spells};
 

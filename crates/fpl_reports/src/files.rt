@@ -1,11 +1,11 @@
 // The rows of the three season files.
-ghost use Rattle.std.specs.Prelude.{◌≡◌, ◌≢◌, ◌==◌, ◌≤◌, ℕ, IfOk, MatchOption};
+ghost use Rattle.std.specs.Prelude.{◌≡◌, ◌==◌, ◌≤◌};
 ghost use Rattle.std.specs.List.{list_any};
 ghost use Rattle.csv.specs.Records.{fields_of};
 ghost use Rattle.season_calendar.specs.Instants.{IsInstant};
 ghost use Rattle.fpl_reports.specs.Files.{AddsClub, AddsPlayer, AddsFixture, ArePair, SpellsFixture};
 ghost use Rattle.fpl_reports.specs.Folder.{order_of_player, order_of_fixture};
-ghost use Rattle.fpl_reports.specs.Rows.{Finds, Spells};
+ghost use Rattle.fpl_reports.specs.Rows.{Finds};
 
 use crate::fields::{
     five_fields, read_club, read_fixture, read_gameweek, read_player, read_price, two_fields,

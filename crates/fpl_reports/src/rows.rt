@@ -1,5 +1,5 @@
 // Rows of any kind, from the bytes of a file.
-ghost use Rattle.std.specs.Prelude.{◌≡◌, ◌≢◌, List, ℕ, IfOk, IfErr, MatchOption};
+ghost use Rattle.std.specs.Prelude.{List, ℕ, IfOk, IfErr};
 ghost use Rattle.csv.specs.Records.{fields_of};
 ghost use Rattle.fpl_reports.specs.Rows.{ExplainsRows, Finds, HasRows};
 

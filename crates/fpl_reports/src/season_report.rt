@@ -1,5 +1,5 @@
 // The report of a season: its gameweeks.
-ghost use Rattle.std.specs.Prelude.{◌≡◌, ◌≤◌, ◌++◌, IfOk, cond, nat_le, codes};
+ghost use Rattle.std.specs.Prelude.{◌≡◌, IfOk};
 ghost use Rattle.fpl_reports.specs.Reports.{IsSeasonReport, PutsGameweek, mark};
 
 use crate::lines::{Report, number};

@@ -1,5 +1,5 @@
 // One call of the decoder, and the answer to what it found.
-ghost use Rattle.std.specs.Prelude.{◌≡◌, ◌≤◌, ◌++◌, ℕ, List, IsSome, IsTrue, Some, length};
+ghost use Rattle.std.specs.Prelude.{◌≡◌, ◌≤◌, ◌++◌, ℕ, List, IsSome, Some, length};
 ghost use Rattle.fpl_http.specs.Seen.{request_seen};
 ghost use Rattle.fpl_http.specs.Stream.{Request};
 ghost use Rattle.fpl_session.specs.Replies.{Speaks};

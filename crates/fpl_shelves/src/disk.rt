@@ -1,5 +1,5 @@
 // A shelf of the files of this machine, the trusted edge: it counts each error and tells no bytes.
-ghost use Rattle.std.specs.Prelude.{◌≡◌, ◌≢◌, ◌≤◌, Err, IfOk, None, length};
+ghost use Rattle.std.specs.Prelude.{◌≡◌, ◌≤◌, Err, IfOk, None, length};
 ghost use Rattle.fpl_base.specs.declared.outside.ShelfFault.TheVariants as fault;
 
 use crate::LONGEST;

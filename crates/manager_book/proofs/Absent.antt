@@ -1,14 +1,14 @@
 -- What is read of an entry that was not issued.
-use Rattle.std.proofs.Common.{◌≡◌, ◌<◌, ◌+◌, ◌∷◌, [], ℕ, zero, suc, Bool, true, false, cond, ◌||◌, List, Option, Some, None, length, get_or, arith, refl, sym, ap, ◌∙◌, subst, nat_eq}
+use Rattle.std.proofs.Common.{◌≡◌, ◌∷◌, [], ℕ, zero, suc, Bool, true, false, cond, ◌||◌, List, Option, Some, None, get_or, arith, refl, ap, ◌∙◌, subst, nat_eq}
 use Rattle.std.specs.Prelude.{slice_get, IsSome, IfSome}
 use Rattle.fpl_base.specs.declared.kinds.Position.{Position}
 use Rattle.fpl_base.specs.declared.kinds.Profile.{Profile}
 use Rattle.rule_book.specs.History.{Event}
 use Rattle.rule_book.specs.HistoryRules.{FirstTold}
 use Rattle.rule_book.specs.HistoryTeam.{TeamTold}
-use Rattle.rule_book.specs.HistoryTransfers.{FreeTold, cost_at, counted_through, counted_from}
+use Rattle.rule_book.specs.HistoryTransfers.{FreeTold, cost_at, counted_through}
 use Rattle.season_ledger.specs.declared.row.Row.{Row}
-use Rattle.season_ledger.specs.Rows.{used_by, chip_by, counted_by}
+use Rattle.season_ledger.specs.Rows.{counted_by}
 use Rattle.season_ledger.specs.Stands.{StandsFor}
 use Rattle.season_ledger.proofs.Season.{rows_tell}
 use Rattle.manager_book.specs.declared.manager.Manager.{Manager}

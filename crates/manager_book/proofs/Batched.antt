@@ -1,5 +1,5 @@
 -- A batch that was done to the team that stands.
-use Rattle.std.proofs.Common.{◌≡◌, ◌≢◌, ◌<◌, ◌≤◌, ◌+◌, ◌∷◌, [], ◌++◌, ℕ, zero, suc, Bool, true, false, cond, ◌||◌, List, Option, Some, None, Result, Ok, Err, IfOk, length, map, get_or, arith, refl, sym, ap, ◌∙◌, subst, nat_eq}
+use Rattle.std.proofs.Common.{◌≡◌, ◌≤◌, ◌+◌, ◌∷◌, [], ℕ, zero, suc, Bool, true, false, cond, ◌||◌, List, Option, Some, Result, Ok, Err, IfOk, length, map, arith, refl, sym, ap, ◌∙◌, subst, nat_eq}
 use Rattle.std.specs.List.{AllByRecursion as Each}
 use Rattle.std.specs.Prelude.{All}
 use Rattle.std.proofs.lemmas.List.{length-map}
@@ -13,13 +13,13 @@ use Rattle.rule_book.specs.declared.transfers.Sale.{Sale}
 use Rattle.rule_book.specs.declared.transfers.Swap.{Swap}
 use Rattle.rule_book.specs.Batch.{is_held, place_taken, place_given, GoOneByOne, AreDifferent, ArePlaced, HavePositions, IsTeamAfter, sale_of, sales_of, paid_by, earned_by}
 use Rattle.rule_book.specs.EntryRecords.{swapped, after_sales, paid_for, earned_for}
-use Rattle.rule_book.specs.History.{Holding, Event}
+use Rattle.rule_book.specs.History.{Event}
 use Rattle.rule_book.specs.HistoryTeam.{TeamTold, holding_of, holdings, is_held as is_holding}
 use Rattle.transfer_book.specs.Bounds.{IsCheap}
 use Rattle.season_ledger.specs.declared.row.Row.{Row}
 use Rattle.season_ledger.specs.declared.row.Standing.{Standing}
 use Rattle.season_ledger.specs.Rows.{FitsIn, IsFitTeam, standing_at, team_in, used_by}
-use Rattle.season_ledger.specs.Batches.{GoHeld, ComeFresh, AfterBatch, BatchOn}
+use Rattle.season_ledger.specs.Batches.{GoHeld, ComeFresh, BatchOn}
 use Rattle.season_ledger.specs.Stands.{IsPlaced, StandsFor}
 use Rattle.manager_book.specs.Calls.{IsBatchOf}
 use Rattle.manager_book.proofs.Entries.{all_each}

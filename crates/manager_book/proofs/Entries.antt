@@ -1,13 +1,11 @@
 -- What an entry's rows say of a gameweek that is not before any of them.
-use Rattle.std.proofs.Common.{◌≡◌, ◌<◌, ◌≤◌, ◌+◌, ◌∷◌, [], ℕ, Bool, true, false, cond, List, Option, Some, None, length, map, arith, refl, sym, ap, ◌∙◌, subst, nat_le, is_some}
+use Rattle.std.proofs.Common.{◌≡◌, ◌≤◌, ◌∷◌, [], ℕ, true, false, List, Option, Some, None, arith, refl, sym, ap, ◌∙◌, is_some}
 use Rattle.std.specs.List.{AllByRecursion as Each}
 use Rattle.std.specs.Prelude.{All}
 use Rattle.std.proofs.lemmas.Bool.Decides.{nat_tests}
 use Rattle.std.proofs.lemmas.List.Elements.{All-head, All-tail}
 use Rattle.fpl_base.specs.declared.kinds.Chip.{Chip}
 use Rattle.fpl_base.specs.declared.kinds.Chip.TheVariants.{None as NoChip, Wildcard, FreeHit, BenchBoost, TripleCaptain}
-use Rattle.fpl_base.specs.declared.kinds.Position.{Position}
-use Rattle.rule_book.specs.declared.team.Pick.{Pick}
 use Rattle.rule_book.specs.HistoryTransfers.{is_same_chip}
 use Rattle.season_ledger.specs.declared.row.Standing.{Standing}
 use Rattle.season_ledger.specs.declared.row.Row.{Row}

@@ -1,11 +1,11 @@
 -- The fifteen in another order.
 use Rattle.std.proofs.Common.{◌≡◌, ◌≢◌, ◌<◌, ◌≤◌, ◌+◌, ◌⊎◌, ◌∷◌, [], ◌++◌, ℕ, zero, suc, Bool, true, false, cond, not, ◌||◌, List, Option, Some, None, Result, Ok, Err, IfOk, length, map, take, drop, set, get_or, arith, refl, sym, ap, ◌∙◌, subst, ⊎_elim, nat_eq}
-use Rattle.std.specs.List.{AllByRecursion as Each, flat_map, list_any}
+use Rattle.std.specs.List.{AllByRecursion as Each, flat_map}
 use Rattle.std.specs.Prelude.{find, All, AllPairs}
 use Rattle.std.specs.Option.{option_to_list}
 use Rattle.std.proofs.lemmas.Bool.Decides.{nat_tests}
 use Rattle.std.proofs.lemmas.Bool.{cases_eq}
-use Rattle.std.proofs.lemmas.List.{take_more, take_more_set, take_all, drop_more, drop_all, length-set}
+use Rattle.std.proofs.lemmas.List.{take_more, take_more_set, take_all, drop_more, drop_all}
 use Rattle.std.proofs.lemmas.List.Elements.{All-head, All-tail}
 use Rattle.std.proofs.lemmas.List.{append-nil}
 use Rattle.std.proofs.lemmas.List.Concat.{flat_map-append}
@@ -17,10 +17,8 @@ use Rattle.rule_book.specs.Batch.{is_held, pick_of, AreDifferent}
 use Rattle.rule_book.specs.EntryRecords.{price_among}
 use Rattle.rule_book.specs.History.{Holding, Event, kept}
 use Rattle.rule_book.specs.HistoryRules.{times}
-use Rattle.rule_book.specs.HistorySquad.{order_of, bought_at, picks_of}
-use Rattle.rule_book.specs.HistoryTeam.{holding_of, holdings, is_held as is_holding, IsTeam, TeamTold}
-use Rattle.rule_book.specs.Repeats.{first_repeat}
-use Rattle.rule_book.specs.Squads.{players_of}
+use Rattle.rule_book.specs.HistorySquad.{order_of, bought_at}
+use Rattle.rule_book.specs.HistoryTeam.{holdings, is_held as is_holding, IsTeam, TeamTold}
 use Rattle.squad_rules.proofs.Legal.{apart_when}
 use Rattle.season_ledger.specs.declared.row.Row.{Row}
 use Rattle.season_ledger.specs.declared.row.Standing.{Standing}

@@ -2,14 +2,14 @@
 ghost use Rattle.std.specs.Prelude.{◌≡◌, ◌≤◌, ◌<◌, ◌+◌, ◌++◌, ℕ, List, Some, length, map, OnOk, OnErr, IfOk};
 ghost use Rattle.std.specs.List.{AllByRecursion as Each};
 ghost use Rattle.fpl_base.specs.declared.kinds.Position.{Position};
-ghost use Rattle.rule_book.specs.Batch.{AreIncomersThere, HavePositions, sales_of, IsTeamAfter};
+ghost use Rattle.rule_book.specs.Batch.{AreIncomersThere, HavePositions};
 ghost use Rattle.rule_book.specs.History.{Event, in_gameweek};
 ghost use Rattle.rule_book.specs.History.Deed.{Swap as Swapped};
 ghost use Rattle.rule_book.specs.Refusals.{IsJudged, IsJudgedOrOut};
 ghost use Rattle.season_ledger.specs.Rows.{AllUpTo, IsFitTeam, put_row, standing_at, used_by};
 ghost use Rattle.season_ledger.specs.Batches.{BatchOn};
 ghost use Rattle.season_ledger.specs.Stands.{IsPlaced, StandsFor};
-ghost use Rattle.manager_book.specs.Calls.{team_at, limit_by, transfer_broken, with_gameweek, IsBatchOf, Moves};
+ghost use Rattle.manager_book.specs.Calls.{limit_by, transfer_broken, with_gameweek, IsBatchOf, Moves};
 
 use crate::chips::{is_first, waives};
 use crate::entry_sales::EntrySales;

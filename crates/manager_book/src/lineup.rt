@@ -1,5 +1,5 @@
 // Another order of the fifteen.
-ghost use Rattle.std.specs.Prelude.{◌≡◌, ◌≤◌, ◌++◌, ◌∷◌, ℕ, List, [], None, Some, OnOk, OnErr, IfOk, MatchResult};
+ghost use Rattle.std.specs.Prelude.{◌≡◌, ◌++◌, ◌∷◌, ℕ, List, [], None, Some, OnOk, OnErr, IfOk, MatchResult};
 ghost use Rattle.fpl_base.specs.declared.kinds.Position.{Position};
 ghost use Rattle.rule_book.specs.Batch.{pick_of};
 ghost use Rattle.rule_book.specs.History.{Event, in_gameweek};

@@ -1,5 +1,5 @@
 // A sheet's lines in two columns: ascending players, and the line of each.
-ghost use Rattle.std.specs.Prelude.{◌≡◌, ◌≤◌, [], ◌∷◌, OnOk, OnErr, length, option_copied};
+ghost use Rattle.std.specs.Prelude.{◌≡◌, ◌≤◌, OnOk, OnErr, length, option_copied};
 ghost use Rattle.std.specs.List.{zip};
 ghost use Rattle.rule_book.specs.MatchFacts.{line_in, with_line, without_line};
 ghost use Rattle.match_facts.specs.Columns.{AreColumns, IsAscending, IsSought};

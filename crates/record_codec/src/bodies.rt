@@ -1,5 +1,5 @@
 // The bodies of records, appended to bytes.
-ghost use Rattle.std.specs.Prelude.{[], ◌≡◌, ◌≤◌, ℕ, IfOk, IsTrue, length};
+ghost use Rattle.std.specs.Prelude.{[], ◌≡◌, ◌≤◌, IfOk, IsTrue, length};
 ghost use Rattle.record_codec.specs.Commands.{is_command};
 ghost use Rattle.record_codec.specs.Fields.{short_text};
 ghost use Rattle.record_codec.specs.Items.{body_of, is_item};

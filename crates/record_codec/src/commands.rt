@@ -1,5 +1,5 @@
 // Commands, appended to bytes.
-ghost use Rattle.std.specs.Prelude.{◌≡◌, ◌≤◌, ◌++◌, ℕ, OnOk, IsTrue, length};
+ghost use Rattle.std.specs.Prelude.{◌≡◌, ◌≤◌, ◌++◌, OnOk, IsTrue, length};
 ghost use Rattle.record_codec.specs.Commands.{bytes_of_command, is_command, whole};
 ghost use Rattle.record_codec.specs.Fields.{byte, listed, profile_end};
 ghost use Rattle.season_book.specs.declared.command.Command.TheVariants as command;

@@ -1,5 +1,5 @@
 // Fields of records and commands, appended to bytes.
-ghost use Rattle.std.specs.Prelude.{◌≡◌, ◌≤◌, ◌++◌, ℕ, OnOk, length};
+ghost use Rattle.std.specs.Prelude.{◌≡◌, ◌≤◌, ◌++◌, OnOk, length};
 ghost use Rattle.std.specs.Int.{w16, w32, w64};
 ghost use Rattle.record_codec.specs.Fields.{byte, number, or_zero, short_text, long_text, flag, profile_number, position_number, chip_number, kind_number};
 

@@ -1,5 +1,5 @@
 // Lists of records and commands, appended to bytes.
-ghost use Rattle.std.specs.Prelude.{◌≡◌, ◌≤◌, ◌++◌, ℕ, OnOk, length, flat_map};
+ghost use Rattle.std.specs.Prelude.{◌≡◌, ◌++◌, OnOk, flat_map};
 ghost use Rattle.std.specs.Int.{w16, w32, w64};
 ghost use Rattle.record_codec.specs.Commands.{whole, club_bytes, line_bytes, row_bytes, swap_bytes};
 ghost use Rattle.record_codec.specs.Fields.{byte, number};

@@ -1,5 +1,4 @@
 // Commands, read from bytes.
-ghost use Rattle.std.specs.Prelude.{◌≡◌};
 ghost use Rattle.record_codec.specs.CommandReading.{season_at, deadline_at, new_player_at, price_at, new_club_at, gone_at, new_fixture_at, move_at, sheet_at, one_line_at, drop_at, finished_at, new_key_at, squad_at, transfers_at, lineup_at, new_chip_at, new_league_at, join_at, draw_at, new_cup_at, cancel_at, numbered_at, command_at};
 ghost use Rattle.record_codec.specs.Commands.{is_command};
 ghost use Rattle.record_codec.specs.Given.{IsGiven, IsRead};

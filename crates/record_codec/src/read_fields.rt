@@ -1,5 +1,5 @@
 // Fields of records and commands, read from bytes.
-ghost use Rattle.std.specs.Prelude.{◌≡◌, ◌≤◌, IfOk};
+ghost use Rattle.std.specs.Prelude.{◌≤◌, IfOk};
 ghost use Rattle.fpl_base.specs.Texts.{is_name, is_key, is_code};
 ghost use Rattle.record_codec.specs.CommandReading.{whole_in, place_at, flag_at, profile_end_at, position_at, chip_at, kind_at, long_text_at, player_at, club_at, gameweek_at, moment_at, id_at};
 ghost use Rattle.record_codec.specs.Given.{IsGiven, IsRead};

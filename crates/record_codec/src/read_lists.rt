@@ -1,5 +1,4 @@
 // Lists of records and commands, read from bytes.
-ghost use Rattle.std.specs.Prelude.{◌≡◌};
 ghost use Rattle.std.specs.Int.{w16, w32};
 ghost use Rattle.record_codec.specs.CommandReading.{whole_in, player_at, moment_at, id_at, line_at, row_at, swap_at, club_row_at, fifteen_at};
 ghost use Rattle.record_codec.specs.Given.{IsRead};

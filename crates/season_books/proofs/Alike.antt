@@ -1,7 +1,7 @@
 -- Holdings that the test finds the same are the same, and picks that pass the tests are different players at prices that
 -- can be.
-use Rattle.std.proofs.Common.{◌≡◌, ◌≢◌, ℕ, zero, suc, ◌+◌, ◌<◌, ◌≤◌, Bool, true, false, not, ◌&&◌, ◌||◌, eqb, List, [], ◌∷◌, map, get_or, length, arith, refl, subst, sym, ap, ap₂, ◌∙◌, ◌⊎◌, inl, inr}
-use Rattle.std.specs.List.{AllByRecursion as Each, All, AllPairs, list_all, list_any}
+use Rattle.std.proofs.Common.{◌≡◌, ◌≢◌, ℕ, zero, suc, Bool, true, false, not, ◌&&◌, eqb, List, [], ◌∷◌, map, arith, refl, subst, sym, ap, ◌∙◌, ◌⊎◌, inl, inr}
+use Rattle.std.specs.List.{AllByRecursion as Each, All, list_all, list_any}
 use Rattle.std.proofs.lemmas.Bool.{and_parts, not-true, eqb-true, or_parts, eqb-false}
 use Rattle.std.proofs.lemmas.Bool.Decides.{nat_tests}
 use Rattle.std.specs.Cmp.Lexicographic.{pointwise}
@@ -9,7 +9,7 @@ use Rattle.std.specs.Prelude.{Decides}
 use Rattle.std.proofs.lemmas.List.Kept.{AllPairs-cons}
 use Rattle.std.proofs.lemmas.Slice.Eq.{slice_eq-Decides}
 use Rattle.fpl_base.specs.declared.kinds.Position.{Position}
-use Rattle.record_codec.specs.Commands.{differ, is_between}
+use Rattle.record_codec.specs.Commands.{is_between}
 use Rattle.rule_book.specs.declared.team.Pick.{Pick}
 use Rattle.rule_book.specs.Batch.{AreDifferent}
 use Rattle.rule_book.specs.EntryRecords.{IsPriced, SameHoldings, price_among}

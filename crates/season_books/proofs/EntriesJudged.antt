@@ -1,7 +1,7 @@
 -- No record of an entry breaks a rule in a store in which nothing is found wrong.
-use Rattle.std.proofs.Common.{◌≡◌, ℕ, Bool, true, false, cond, not, ◌&&◌, ◌||◌, eqb, List, [], ◌∷◌, Option, Some, None, find, refl, sym, ap, ap₂, ◌∙◌, subst, inl, inr}
-use Rattle.std.specs.Option.{is_some, option_and_then, option_map, option_map_or, option_or}
-use Rattle.std.proofs.lemmas.Bool.{and_parts, cases_Bool, eqb-true, or_parts, true≢false}
+use Rattle.std.proofs.Common.{◌≡◌, ℕ, Bool, true, false, cond, ◌&&◌, eqb, List, [], ◌∷◌, Option, Some, None, find, refl, sym, ap, ap₂, ◌∙◌, subst, inl, inr}
+use Rattle.std.specs.Option.{option_and_then, option_map, option_map_or, option_or}
+use Rattle.std.proofs.lemmas.Bool.{and_parts, cases_Bool, eqb-true, or_parts}
 use Rattle.fpl_base.specs.Keeping.{Map, is_same_key, map_of}
 use Rattle.fpl_base.specs.declared.kinds.Chip.{Chip}
 use Rattle.fpl_base.specs.declared.records.RecordKey.{RecordKey as Key}
@@ -19,7 +19,7 @@ use Rattle.season_books.specs.EntryLaws.{IsLawfulEntry, JudgedEntriesAreRestored
 use Rattle.season_books.specs.EntryRules.{entry_breaks, team_breaks, transfer_breaks}
 use Rattle.season_books.specs.EntryTold.{first_in, first_told, sale_in, sale_told, team_in, team_told}
 use Rattle.season_books.specs.Lawful.{breaks, first_not_spelled, first_wrong, is_wrong, judged, rules_broken}
-use Rattle.season_books.specs.LeagueRules.{has_gap, has_other_key, issue_breaks}
+use Rattle.season_books.specs.LeagueRules.{issue_breaks}
 use Rattle.season_books.specs.SeasonRules.{misses}
 use Rattle.season_books.specs.Stored.{Rows, told}
 use Rattle.season_books.proofs.Lawful.{lawful_restored}

@@ -1,6 +1,6 @@
 -- What is found among records in the order of their keys, and how many stand between two.
-use Rattle.std.proofs.Common.{◌≡◌, ◌≢◌, ◌<◌, ◌≤◌, ◌+◌, ◌-◌, ℕ, zero, suc, Bool, true, false, not, ◌&&◌, List, [], ◌∷◌, length, get_or, take, drop, filter, min, nat_le, nat_lt, Some, None, IsTrue, refl, sym, ap, ◌∙◌, subst, inl, inr, arith, add-one, if◌then◌else◌}
-use Rattle.std.specs.List.{All, AllPairs, HoldsAt, count_by}
+use Rattle.std.proofs.Common.{◌≡◌, ◌<◌, ◌≤◌, ◌+◌, ◌-◌, ℕ, zero, suc, Bool, true, false, not, ◌&&◌, List, [], ◌∷◌, length, get_or, take, drop, filter, min, nat_le, nat_lt, Some, None, IsTrue, refl, sym, ap, ◌∙◌, subst, inl, inr, arith, add-one}
+use Rattle.std.specs.List.{HoldsAt, count_by}
 use Rattle.std.specs.List.Sorted.{IsPartitionPoint}
 use Rattle.std.proofs.Math.Seq.{drop-nil, take-nil}
 use Rattle.std.proofs.lemmas.Bool.{cases_eq}
@@ -10,8 +10,8 @@ use Rattle.std.proofs.lemmas.List.{take_all}
 use Rattle.fpl_base.specs.declared.records.RecordKey.{RecordKey as Key}
 use Rattle.fpl_base.specs.Keeping.{precedes, is_same_key, map_of, KeysRise}
 use Rattle.fpl_base.specs.Rows.{IsPlace}
-use Rattle.fpl_base.proofs.Around.{AllPairs-head, AllPairs-tail}
-use Rattle.fpl_base.proofs.KeyLemmas.{precedes_not_back, precedes_not_same, precedes_self, precedes_or, precedes_trans, same_key_self}
+use Rattle.fpl_base.proofs.Around.{AllPairs-tail}
+use Rattle.fpl_base.proofs.KeyLemmas.{precedes_not_back, precedes_not_same, precedes_or, precedes_trans, same_key_self}
 use Rattle.season_books.specs.Stored.{Rows, is_within, between}
 
 -- the record at a place is the one of its key

@@ -1,5 +1,5 @@
 -- What was judged elsewhere, as tests.
-use Rattle.std.proofs.Common.{◌≡◌, ◌<◌, ◌≤◌, ◌∙◌, ◌+◌, ◌^◌, ℕ, Bool, true, false, cond, ◌&&◌, ◌==◌, nat_le, List, length, map, get_or, min, Option, Some, None, Result, Ok, Err, refl, sym, ap, arith}
+use Rattle.std.proofs.Common.{◌≡◌, ◌≤◌, ◌+◌, ◌^◌, ℕ, Bool, true, false, ◌&&◌, ◌==◌, nat_le, List, length, map, get_or, min, Option, Result, Ok, Err, refl, sym, ap, arith}
 use Rattle.std.specs.Prelude.{is_none}
 use Rattle.std.specs.Result.{is_ok}
 use Rattle.std.specs.List.{list_all, list_any, range_with_len}

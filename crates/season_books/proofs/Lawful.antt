@@ -1,10 +1,9 @@
 -- The teams and transfers of an entry whose records break no rule are records that a book takes.
-use Rattle.std.proofs.Common.{◌≡◌, ℕ, zero, suc, ◌+◌, ◌-◌, ◌<◌, ◌≤◌, Bool, true, false, cond, not, ◌&&◌, ◌||◌, eqb, List, [], ◌∷◌, length, Option, Some, None, arith, refl, sym, ap, ap₂, ◌∙◌, subst, ◌⊎◌, inl, inr}
+use Rattle.std.proofs.Common.{◌≡◌, ℕ, ◌+◌, ◌-◌, ◌<◌, ◌≤◌, Bool, true, false, cond, not, ◌&&◌, ◌||◌, eqb, List, [], ◌∷◌, length, Option, Some, None, arith, refl, sym, ap, ◌∙◌, subst, ◌⊎◌, inl, inr}
 use Rattle.std.specs.List.{AllByRecursion as Each}
 use Rattle.std.specs.Option.{is_some, option_map, option_map_or}
 use Rattle.std.specs.Prelude.{nat_le, nat_lt}
-use Rattle.std.proofs.lemmas.Bool.{and_parts, not-false, not-true, or_cases, eqb-true, eq-eqb, ne_eqb, leb-true, ltb-true, cases_Bool, cases_eq, cases_order, true≢false}
-use Rattle.std.proofs.lemmas.Bool.Decides.{nat_tests}
+use Rattle.std.proofs.lemmas.Bool.{and_parts, not-false, not-true, or_cases, eqb-true, eq-eqb, leb-true, ltb-true, cases_Bool, true≢false}
 use Rattle.fpl_base.specs.Keeping.{Map}
 use Rattle.fpl_base.specs.declared.kinds.Chip.{Chip}
 use Rattle.fpl_base.specs.declared.kinds.Chip.TheVariants.{None as NoChip, Wildcard, FreeHit, BenchBoost, TripleCaptain}
@@ -12,7 +11,7 @@ use Rattle.record_codec.specs.Commands.{is_between}
 use Rattle.rule_book.specs.declared.team.Team.{Team}
 use Rattle.rule_book.specs.declared.transfers.Sale.{Sale}
 use Rattle.rule_book.specs.EntryCalls.{transfer_limit}
-use Rattle.rule_book.specs.EntryRecords.{AllLater, AreEntryRecords, FirstIsBare, FollowsOn, IsFifteen, IsPriced, IsPricedSale, RecordFollows, SameHoldings, TeamsRise, after_sales, earned_for, first_of, paid_for, sales_in, team_before, team_recorded}
+use Rattle.rule_book.specs.EntryRecords.{FirstIsBare, FollowsOn, IsFifteen, IsPriced, IsPricedSale, RecordFollows, SameHoldings, after_sales, earned_for, first_of, paid_for, sales_in, team_before, team_recorded}
 use Rattle.rule_book.specs.History.{is_free_hit}
 use Rattle.rule_book.specs.HistoryTeam.{holdings}
 use Rattle.rule_book.specs.HistoryTransfers.{makes_free}
@@ -20,10 +19,10 @@ use Rattle.season_books.specs.declared.entry_told.RecordedTeam.{RecordedTeam}
 use Rattle.season_books.specs.EntryRules.{entry_breaks}
 use Rattle.season_books.specs.EntryTold.{chip_told, first_told, is_between_ends, is_first_of, is_in_time, last_open, sale_told, team_told}
 use Rattle.season_books.specs.SeasonRules.{terms_told}
-use Rattle.season_books.specs.Sequels.{are_same_holdings, base_told, follows, goes_on, holdings_told, last_before, opens_with, sales_from, sales_told}
+use Rattle.season_books.specs.Sequels.{are_same_holdings, base_told, follows, goes_on, holdings_told, opens_with, sales_told}
 use Rattle.season_books.specs.TeamRules.{is_distinct, is_fit, is_lined_up, is_playable, is_played_again, is_priced, is_too_early, has_players, is_lawful_team, position_told, positions_told}
 use Rattle.season_books.specs.TransferRules.{is_next_number, is_priced_sale, names_players, term_told, is_lawful_sale}
-use Rattle.season_books.specs.EntryLaws.{AreItsSales, AreItsTeams, IsLawfulEntry, LawfulEntriesAreRestored, NumberedSale, sale_numbered, sales_of_rows, team_of_record}
+use Rattle.season_books.specs.EntryLaws.{AreItsSales, AreItsTeams, IsLawfulEntry, LawfulEntriesAreRestored, NumberedSale, sales_of_rows, team_of_record}
 use Rattle.season_books.proofs.Alike.{different_from, holdings_at, priced_from, same_from}
 use Rattle.season_books.proofs.Listed.{all_from_one, found_first, before_as, first_is, none_before_first, none_is}
 use Rattle.season_books.proofs.Numbered.{IsGapless, few_from, nothing_told, of_each, sales_are}

@@ -1,10 +1,10 @@
 -- Transfers listed by gameweek and number, and the same found by number from 1 on.
-use Rattle.std.proofs.Common.{◌≡◌, ℕ, zero, suc, ◌+◌, ◌-◌, ◌<◌, ◌≤◌, Bool, true, false, cond, ◌&&◌, eqb, List, [], ◌∷◌, length, Option, Some, None, arith, refl, sym, ap, ap₂, ◌∙◌, subst, ◌⊎◌, inl, inr}
+use Rattle.std.proofs.Common.{◌≡◌, ℕ, zero, suc, ◌+◌, ◌-◌, ◌<◌, ◌≤◌, true, false, cond, ◌&&◌, eqb, List, [], ◌∷◌, length, Option, Some, None, arith, refl, sym, ap, ap₂, ◌∙◌, subst, ◌⊎◌, inl, inr}
 use Rattle.std.specs.List.{AllByRecursion as Each}
 use Rattle.std.specs.Option.{is_some}
 use Rattle.std.proofs.lemmas.Bool.{eqb-true, eq-eqb, ne_eqb, cases_order, cases_eq, cases_Bool, and_left, and_right, and_parts, true≢false}
 use Rattle.rule_book.specs.declared.transfers.Sale.{Sale}
-use Rattle.rule_book.specs.EntryRecords.{IsPricedSale, sales_in}
+use Rattle.rule_book.specs.EntryRecords.{sales_in}
 use Rattle.season_books.specs.Sequels.{and_then_those, sales_from}
 use Rattle.season_books.specs.EntryLaws.{AllBehind, NumberedSale, SalesRise, sale_numbered, sales_of_rows}
 use Rattle.season_books.proofs.Trading.{none_ahead, one_ahead}

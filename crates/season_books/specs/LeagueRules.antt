@@ -1,5 +1,5 @@
 -- The rules on entries, leagues, members, cups and last commands: when a record of a store breaks one of them.
-use Rattle.std.specs.Prelude.{ℕ, ◌+◌, ◌-◌, Bool, true, false, not, ◌&&◌, ◌||◌, ◌==◌, if◌then◌else◌, List, [], ◌∷◌, Option, Some, None, is_some, nat_le, nat_lt, count_by, filter, map, length, slice_range}
+use Rattle.std.specs.Prelude.{ℕ, ◌+◌, ◌-◌, Bool, false, not, ◌&&◌, ◌||◌, ◌==◌, List, Option, Some, None, is_some, nat_le, nat_lt, count_by, filter, map, length, slice_range}
 use Rattle.std.specs.List.{list_any, range_with_len}
 use Rattle.std.specs.Option.{option_map_or}
 use Rattle.std.specs.Str.{bytes_eq}
@@ -21,7 +21,7 @@ use Rattle.record_codec.specs.declared.slot.Slot.{Slot}
 use Rattle.record_codec.specs.declared.slot.Slot.TheVariants as slot
 use Rattle.season_books.specs.EntryRules.{entry_breaks, first_told}
 use Rattle.season_books.specs.SeasonRules.{is_full, misses}
-use Rattle.season_books.specs.Stored.{Rows, between, deadlines_told, has_gameweek, is_there, is_within, told}
+use Rattle.season_books.specs.Stored.{Rows, deadlines_told, has_gameweek, is_there, is_within, told}
 
 -- What the rules share.
 

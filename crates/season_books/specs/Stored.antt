@@ -1,5 +1,5 @@
 -- What the records of a store tell, and how many of them stand between two keys.
-use Rattle.std.specs.Prelude.{ℕ, Bool, not, ◌&&◌, List, [], Option, Some, None, is_some, count_by, length}
+use Rattle.std.specs.Prelude.{ℕ, Bool, not, ◌&&◌, List, [], Option, Some, is_some, count_by, length}
 use Rattle.std.specs.Option.{option_and_then}
 use Rattle.fpl_base.specs.Keeping.{Map, precedes}
 use Rattle.fpl_base.specs.declared.records.RecordKey.{RecordKey}

@@ -1,5 +1,5 @@
 -- The rules on the team of an entry in a gameweek.
-use Rattle.std.specs.Prelude.{ℕ, Bool, true, false, not, ◌&&◌, List, map, Option, Some, None, is_some, is_none}
+use Rattle.std.specs.Prelude.{ℕ, Bool, not, ◌&&◌, List, map, Option, Some, is_some, is_none}
 use Rattle.std.specs.List.{list_all}
 use Rattle.fpl_base.specs.Keeping.{Map}
 use Rattle.fpl_base.specs.declared.kinds.Chip.{Chip}

@@ -1,5 +1,5 @@
 -- The rules on a transfer of an entry in a gameweek.
-use Rattle.std.specs.Prelude.{◌≡◌, ℕ, ◌-◌, Bool, true, false, ◌&&◌, ◌||◌, ◌==◌, Option, Some, None, is_some, nat_le, nat_lt, ⊤}
+use Rattle.std.specs.Prelude.{◌≡◌, ℕ, ◌-◌, Bool, ◌&&◌, ◌||◌, ◌==◌, Option, Some, None, is_some, nat_le, nat_lt, ⊤}
 use Rattle.fpl_base.specs.Keeping.{Map}
 use Rattle.record_codec.specs.Commands.{is_between}
 use Rattle.record_codec.specs.declared.slot.Slot.TheVariants as slot

@@ -9,7 +9,7 @@ ghost use Rattle.rule_book.specs.LeagueCalls.{is_head, most_members};
 ghost use Rattle.record_codec.specs.ItemReading.{item_of};
 ghost use Rattle.record_codec.specs.Laws.{IsBytes};
 ghost use Rattle.record_codec.specs.declared.slot.Slot.TheVariants as slot;
-ghost use Rattle.season_books.specs.LeagueRules.{cup_breaks, has_gap, has_key, has_other_key, is_answer, is_drawn_wrong, is_league_full, is_member_of, is_registered, issue_breaks, kind_in, last_breaks, league_breaks, leagues_before, member_breaks, plays_from, stands_at_two};
+ghost use Rattle.season_books.specs.LeagueRules.{cup_breaks, has_gap, has_key, has_other_key, is_answer, is_drawn_wrong, is_league_full, is_registered, issue_breaks, kind_in, last_breaks, league_breaks, leagues_before, member_breaks, plays_from, stands_at_two};
 ghost use Rattle.season_books.specs.SeasonRules.{misses, terms_told};
 
 use crate::entry_rules::{entry_breaks, first_of};

@@ -1,7 +1,7 @@
 // What the team of a gameweek follows from.
 ghost use Rattle.std.specs.Prelude.{◌≡◌, ◌≤◌, ◌+◌, IfOk, Some, map, true};
 ghost use Rattle.fpl_base.specs.Keeping.{map_of};
-ghost use Rattle.rule_book.specs.EntryRecords.{after_sales, earned_for, paid_for, price_among};
+ghost use Rattle.rule_book.specs.EntryRecords.{price_among};
 ghost use Rattle.rule_book.specs.History.{is_free_hit};
 ghost use Rattle.rule_book.specs.HistoryRules.{times};
 ghost use Rattle.season_books.specs.EntryTold.{is_first_of, sale_told, team_told};

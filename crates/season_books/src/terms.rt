@@ -1,5 +1,5 @@
 // The terms of the season: its deadlines, its halves, and how far it is locked.
-ghost use Rattle.std.specs.Prelude.{◌≡◌, IfOk, length, min, not};
+ghost use Rattle.std.specs.Prelude.{◌≡◌, IfOk, not};
 ghost use Rattle.fpl_base.specs.Keeping.{map_of};
 ghost use Rattle.rule_book.specs.Calendar.{is_locked_place};
 ghost use Rattle.season_books.specs.SeasonRules.{calendar_told, misses_place, terms_told};

@@ -2,7 +2,7 @@
 ghost use Rattle.std.specs.Prelude.{◌≡◌, IfOk, is_some};
 ghost use Rattle.fpl_base.specs.Keeping.{map_of};
 ghost use Rattle.rule_book.specs.EntryCalls.{transfer_limit};
-ghost use Rattle.season_books.specs.EntryTold.{first_told, sale_told, team_told};
+ghost use Rattle.season_books.specs.EntryTold.{sale_told};
 ghost use Rattle.season_books.specs.SeasonRules.{terms_told};
 ghost use Rattle.season_books.specs.TransferRules.{IsKnown, is_next_number, is_priced_sale, names_players, is_lawful_sale, term_told};
 

@@ -1,6 +1,6 @@
 // Moments as text, by the civil calendar.
-ghost use Rattle.std.specs.Prelude.{◌≡◌, ◌≢◌, ◌≤◌, ◌<◌, ◌+◌, ◌-◌, ◌/◌, ◌%◌, ◌↔◌, ℕ, List, pos, Some, IfSome, IfNone, IsSome, length, slice_index, IsTrue};
-ghost use Rattle.jiff_core.specs.Calendar.{days_from_civil, days_in_month};
+ghost use Rattle.std.specs.Prelude.{◌≡◌, ◌≢◌, ◌≤◌, ◌<◌, ◌+◌, ◌-◌, ◌/◌, ◌%◌, ◌↔◌, ℕ, List, pos, Some, IfSome, IfNone, IsSome, length, IsTrue};
+ghost use Rattle.jiff_core.specs.Calendar.{days_from_civil};
 ghost use Rattle.season_calendar.specs.declared.instant.Parts.{Parts};
 ghost use Rattle.season_calendar.specs.Instants.{IsCivil, IsInstant, IsMomentOf, IsWritten, IsDay, HasMarks, HasDigits, text_of};
 ghost use Rattle.jiff_core.specs.Date.{epoch_day};

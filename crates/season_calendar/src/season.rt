@@ -1,5 +1,4 @@
-ghost use Rattle.std.specs.Prelude.{◌≡◌, ◌≢◌, ◌≤◌, ◌+◌, ◌-◌, ◌&&◌, ◌==◌, ℕ, AllPairs, IfOk, IfErr, IfSome, IsSome, OnOk, OnErr, ◌<◌, Option, None, length, find, nat_le, slice_get, slice_set, ◌↔◌, IsTrue};
-ghost use Rattle.std.specs.Option.{option_map};
+ghost use Rattle.std.specs.Prelude.{◌≡◌, ◌≢◌, ◌≤◌, ◌+◌, ◌-◌, ◌&&◌, ◌==◌, AllPairs, IfOk, IfErr, IfSome, IsSome, OnOk, OnErr, ◌<◌, Option, None, length, find, nat_le, slice_set};
 ghost use Rattle.std.specs.List.{take_while};
 ghost use Rattle.rule_book.specs.Refusals.{IsJudged, IsJudgedOrOut};
 
@@ -377,7 +376,7 @@ impl Calendar {
     }
 }
 
-ghost use Rattle.rule_book.specs.Calendar.{first_out_of_order, is_gameweek, is_early, is_after_previous, is_before_next};
+ghost use Rattle.rule_book.specs.Calendar.{first_out_of_order, is_early, is_after_previous, is_before_next};
 ghost use Rattle.season_calendar.specs.Kept.{IsAt, IsGap, ids_without, is_there_early};
 
 // The first gameweek whose deadline is not after that of the gameweek before.

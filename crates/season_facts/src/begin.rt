@@ -1,5 +1,5 @@
 // The season command.
-ghost use Rattle.std.specs.Prelude.{◌≡◌, ◌≤◌, Some, length, IfOk, MatchResult};
+ghost use Rattle.std.specs.Prelude.{◌≡◌, ◌≤◌, Some, length, IfOk};
 ghost use Rattle.season_book.specs.Commands.{by_id, new_season};
 ghost use Rattle.season_book.specs.Doing.{IsBegun};
 ghost use Rattle.season_book.specs.Verdict.{begun};

@@ -1,5 +1,5 @@
 // What refuses a command on a season.
-ghost use Rattle.std.specs.Prelude.{◌≡◌, ◌≤◌, ◌+◌, ℕ, List};
+ghost use Rattle.std.specs.Prelude.{◌≤◌, ◌+◌, ℕ, List};
 ghost use Rattle.fpl_base.specs.declared.kinds.Position.{Position};
 ghost use Rattle.season_book.specs.Doing.{IsWeighed};
 ghost use Rattle.season_book.specs.declared.command.Command.TheVariants as command;

@@ -1,6 +1,6 @@
 ghost use Rattle.std.specs.Prelude.{◌≡◌, ◌<◌, ◌≤◌, IfOk, IfSome};
 ghost use Rattle.season_book.specs.Commands.{IsCommand};
-ghost use Rattle.season_generator.specs.Made.{caller_of, command_at, draws_before, moment_of, number_of, step_of};
+ghost use Rattle.season_generator.specs.Made.{caller_of, draws_before, moment_of, number_of, step_of};
 ghost use Rattle.season_generator.specs.Places.{IsPlace};
 
 use crate::commands::command_of;

@@ -1,7 +1,7 @@
 // Laws on items: the fields of each have the ranges of their types.
 ghost use Rattle.std.specs.Prelude.{◌≡◌, ◌<◌, ◌^◌, IsTrue, length};
 ghost use Rattle.std.specs.List.{AllByRecursion};
-ghost use Rattle.fpl_base.specs.Texts.{is_code, is_key, is_name};
+ghost use Rattle.fpl_base.specs.Texts.{is_key, is_name};
 ghost use Rattle.record_codec.specs.Items.{is_item};
 ghost use Rattle.record_codec.specs.Ranges.{HasFieldRanges, HasRanges, IsItem, is_place};
 ghost use Rattle.record_codec.specs.Ranges.{IsClub, IsGameweek, IsId, IsMoment, IsPlayer};

@@ -1,9 +1,8 @@
 // Laws on lists: each thing in a list has the range of its type.
-ghost use Rattle.std.specs.Prelude.{◌≡◌, ◌<◌, ◌^◌, ℕ, IsTrue, length};
+ghost use Rattle.std.specs.Prelude.{IsTrue};
 ghost use Rattle.std.specs.List.{AllByRecursion};
-ghost use Rattle.fpl_base.specs.Texts.{is_name};
 ghost use Rattle.record_codec.specs.Commands.{is_between};
-ghost use Rattle.record_codec.specs.Ranges.{IsClub, IsFigure, IsId, IsMoment, IsPlayer, IsWide};
+ghost use Rattle.record_codec.specs.Ranges.{IsFigure, IsId, IsMoment, IsPlayer, IsWide};
 ghost use Rattle.season_items.specs.Things.{IsBelow32, IsByte, IsClubNamed, IsPick, IsRow, IsSwap};
 
 use crate::fields;

@@ -30,7 +30,7 @@ use Rattle.sqlite.specs.Listing.{understood}
 use Rattle.sqlite.specs.State.{State, mode_of, Executes}
 use Rattle.sqlite.proofs.Callers.{statement_of, runs_as}
 use Rattle.fpl_base.specs.declared.records.RecordKey.{RecordKey as Key}
-use Rattle.season_keeper.specs.Table.{schema_of, two, are_both}
+use Rattle.season_keeper.specs.Table.{two, are_both}
 use Rattle.season_keeper.specs.Holding.{Store, Grows, Moves}
 use Rattle.season_keeper.specs.Rows.{record_values, LineKey, line_key, line_values, AreRows, Stores, Stored, AreApart, HasNoLine}
 use Rattle.season_keeper.proofs.Texts.{asking, program, is_kind, as_line, insert_lines, insert_lines_means, clear_lines, clear_lines_means, record_tree, line_tree, line_place}

@@ -1,5 +1,5 @@
 -- A batch that fits the team before it fits swap by swap.
-use Rattle.std.proofs.Common.{◌≡◌, ◌<◌, ◌≤◌, ◌+◌, ◌≢◌, ◌⊎◌, ◌∷◌, [], ◌++◌, ℕ, Bool, true, false, cond, not, ◌&&◌, ◌||◌, List, map, arith, refl, sym, ap, ◌∙◌, subst, inl, inr, ⊎_elim, nat_eq, nat_lt}
+use Rattle.std.proofs.Common.{◌≡◌, ◌≢◌, ◌⊎◌, ◌∷◌, [], ℕ, Bool, true, false, not, ◌&&◌, ◌||◌, List, map, arith, refl, sym, ap, ◌∙◌, inl, inr, ⊎_elim, nat_eq}
 use Rattle.std.proofs.lemmas.Bool.Decides.{nat_tests}
 use Rattle.std.proofs.lemmas.Bool.{cases_eq}
 use Rattle.rule_book.specs.History.{Holding}

@@ -1,24 +1,21 @@
 -- A gameweek without a row has the team of the last row before it without a free hit.
-use Rattle.std.proofs.Common.{◌≡◌, ◌<◌, ◌≤◌, ◌+◌, ◌≢◌, ◌∷◌, [], ◌++◌, ℕ, zero, suc, Bool, true, false, cond, not, ◌&&◌, ◌||◌, List, Option, Some, None, length, map, arith, refl, sym, ap, ◌∙◌, subst, inl, inr, ⊎_elim, nat_eq, nat_lt, nat_le}
-use Rattle.std.specs.Prelude.{filter}
+use Rattle.std.proofs.Common.{◌≡◌, ◌<◌, ◌≤◌, ◌≢◌, ◌∷◌, [], ℕ, Bool, true, false, cond, not, ◌&&◌, ◌||◌, List, Option, Some, None, arith, refl, sym, ap, ◌∙◌, subst, ⊎_elim, nat_eq, nat_lt}
 use Rattle.std.specs.List.{flat_map, AllByRecursion as Each}
 use Rattle.std.proofs.lemmas.Bool.Decides.{nat_tests}
 use Rattle.std.proofs.lemmas.Bool.{cases_eq, cases_lt}
-use Rattle.rule_book.specs.History.{Deed, Event, last_of, chip_said, chip_said_in, chip_at, is_free_hit, counts_in, kept, is_touched, in_gameweek}
-use Rattle.rule_book.specs.HistorySquad.{holdings_of, armbands_of, spent, earned}
+use Rattle.rule_book.specs.History.{Event, last_of, chip_said_in, chip_at, is_free_hit, counts_in, kept, is_touched}
+use Rattle.rule_book.specs.HistorySquad.{holdings_of, armbands_of}
 use Rattle.rule_book.specs.HistoryTeam.{is_begun}
-use Rattle.season_ledger.specs.Rows.{row_at, or_else, is_base, base_at, AllAbove, Rise, put_row, AllUpTo, carried, standing_at}
+use Rattle.season_ledger.specs.Rows.{row_at, or_else, is_base, base_at, AllAbove, Rise, carried, standing_at}
 use Rattle.season_ledger.proofs.Held.{IsHeld, Holds, RowsHold, StandingHeld}
-use Rattle.rule_book.specs.HistoryRules.{first_gw, IsHistory}
-use Rattle.fpl_base.specs.declared.kinds.Chip.{Chip}
+use Rattle.rule_book.specs.HistoryRules.{IsHistory}
 use Rattle.fpl_base.specs.declared.kinds.Chip.TheVariants.{None as NoChip}
 use Rattle.season_ledger.specs.declared.row.Standing.{Standing}
 use Rattle.season_ledger.specs.declared.row.Row.{Row}
 use Rattle.rule_book.specs.HistoryTransfers.{swaps_in}
 use Rattle.season_ledger.proofs.Counts.{swaps_untouched}
 use Rattle.season_ledger.proofs.Legality.{Headed, headed}
-use Rattle.season_ledger.proofs.Lists.{filter_agree_on, flat_map_none, each_weaker}
-use Rattle.season_ledger.proofs.Kept.{kept_more, kept_before, chip_other, touched_other, touched_here}
+use Rattle.season_ledger.proofs.Lists.{filter_agree_on, each_weaker}
 
 -- a row that is there stands above what all rows stand above
 above : (rows : List Row) (g v : ℕ) (t : Standing) → AllAbove g rows → row_at rows v ≡ Some t → g < v

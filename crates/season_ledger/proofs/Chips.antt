@@ -1,7 +1,7 @@
 -- Where a chip was played.
-use Rattle.std.proofs.Common.{◌≡◌, ◌<◌, ◌≤◌, ◌+◌, ◌-◌, ℕ, zero, suc, Bool, true, false, cond, Option, Some, None, arith, refl, sym, ap, ◌∙◌, subst}
+use Rattle.std.proofs.Common.{◌≡◌, ◌<◌, ◌≤◌, ◌+◌, ◌-◌, ℕ, zero, suc, true, false, Some, None, arith, refl, ap, ◌∙◌}
 use Rattle.fpl_base.specs.declared.kinds.Chip.{Chip}
-use Rattle.rule_book.specs.HistoryTransfers.{is_same_chip, chip_among, half_of, used_before}
+use Rattle.rule_book.specs.HistoryTransfers.{is_same_chip, chip_among}
 
 -- one gameweek more without the chip
 pub among_none : (chips : ℕ → Chip) (chip : Chip) (from k : ℕ) → chip_among chips chip from k ≡ None → is_same_chip chip (chips (from + k)) ≡ false → chip_among chips chip from (suc k) ≡ None

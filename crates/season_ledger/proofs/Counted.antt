@@ -1,19 +1,16 @@
 -- The order's players are those counted in.
-use Rattle.std.proofs.Common.{◌≡◌, ◌<◌, ◌≤◌, ◌+◌, ◌≢◌, ◌⊎◌, ◌∷◌, [], ◌++◌, ℕ, zero, suc, Bool, true, false, cond, not, ◌&&◌, ◌||◌, List, length, map, sum, arith, refl, sym, ap, ◌∙◌, subst, inl, inr, ⊎_elim, nat_eq, nat_lt, length-append}
-use Rattle.std.specs.List.{flat_map, AllByRecursion as Each}
-use Rattle.std.proofs.lemmas.List.{append-nil, append_assoc}
+use Rattle.std.proofs.Common.{◌≡◌, ◌≤◌, ◌+◌, ◌≢◌, ◌⊎◌, ◌∷◌, [], ◌++◌, ℕ, suc, Bool, true, false, cond, List, length, map, arith, refl, sym, ap, ◌∙◌, subst, inl, inr, ⊎_elim, nat_eq, length-append}
+use Rattle.std.specs.List.{flat_map}
+use Rattle.std.proofs.lemmas.List.{append-nil}
 use Rattle.std.proofs.lemmas.List.Concat.{flat_map-append}
 use Rattle.std.proofs.lemmas.Bool.Decides.{nat_tests}
-use Rattle.std.proofs.lemmas.Bool.{cases_eq, cases_lt}
-use Rattle.rule_book.specs.History.{Holding, Deed, Event, last_of, in_gameweek}
-use Rattle.rule_book.specs.HistorySquad.{prices_among, brought_by, taken_by, ins, outs, bought_at, follow_one, order_of, holdings_of, spent, paid_by, sum_bought, in_squad, given_by, given_up}
-use Rattle.rule_book.specs.EntryRecords.{swapped}
-use Rattle.rule_book.specs.HistoryTeam.{is_held}
+use Rattle.std.proofs.lemmas.Bool.{cases_eq}
+use Rattle.rule_book.specs.History.{Holding, Deed, Event}
+use Rattle.rule_book.specs.HistorySquad.{prices_among, brought_by, taken_by, ins, outs, follow_one, order_of, in_squad}
 use Rattle.rule_book.specs.HistoryRules.{times, FitsKept}
-use Rattle.fpl_base.specs.declared.kinds.Chip.{Chip}
 use Rattle.rule_book.specs.declared.transfers.Sale.{Sale}
 use Rattle.rule_book.specs.History.Deed.{First, Swap, Lineup, Play, Cancel}
-use Rattle.season_ledger.proofs.Swaps.{order-none, order-some, holdings-swap, holdings-lineup, holdings-play, holdings-cancel, spent-append, push_more}
+use Rattle.season_ledger.proofs.Swaps.{order-none, order-some, push_more}
 
 ins-push : (es : List Event) (g : ℕ) (d : Deed) (p : ℕ) → ins p (es ++ record { gw = g; deed = d } ∷ []) ≡ ins p es + length (brought_by p d)
 ins-push es g d p = ap length (flat_map-append (λ e. brought_by p e.deed) es (record { gw = g; deed = d } ∷ []) ∙ ap (λ r. flat_map (λ e. brought_by p e.deed) es ++ r) (append-nil (brought_by p d))) ∙ length-append (flat_map (λ e. brought_by p e.deed) es) (brought_by p d)

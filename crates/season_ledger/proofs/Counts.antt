@@ -1,9 +1,9 @@
 -- How many swaps a gameweek has, as events come.
-use Rattle.std.proofs.Common.{◌≡◌, ◌<◌, ◌≤◌, ◌+◌, ◌≢◌, ◌∷◌, [], ◌++◌, ℕ, zero, suc, Bool, true, false, cond, ◌&&◌, ◌||◌, List, length, map, arith, refl, sym, ap, ◌∙◌, nat_eq}
+use Rattle.std.proofs.Common.{◌≡◌, ◌+◌, ◌≢◌, ◌∷◌, [], ◌++◌, ℕ, suc, Bool, true, false, cond, ◌&&◌, ◌||◌, List, length, map, arith, refl, ap, ◌∙◌, nat_eq}
 use Rattle.std.proofs.lemmas.Bool.Decides.{nat_tests}
 use Rattle.rule_book.specs.declared.transfers.Sale.{Sale}
 use Rattle.rule_book.specs.History.{Deed, Event, is_touched, in_gameweek}
-use Rattle.rule_book.specs.History.Deed.{First, Swap, Lineup, Play, Cancel}
+use Rattle.rule_book.specs.History.Deed.{Swap}
 use Rattle.rule_book.specs.HistoryTransfers.{is_swap, swaps_in}
 
 pub swaps_in-append : (h k : List Event) (g : ℕ) → swaps_in (h ++ k) g ≡ swaps_in h g + swaps_in k g

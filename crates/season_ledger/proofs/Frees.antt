@@ -1,21 +1,19 @@
 -- Rows tell what each gameweek used, its chip and the first gameweek.
-use Rattle.std.proofs.Common.{◌≡◌, ◌<◌, ◌≤◌, ◌+◌, ◌-◌, ◌≢◌, ◌⊎◌, ◌∷◌, [], ◌++◌, ℕ, zero, suc, Bool, true, false, cond, not, ◌&&◌, ◌||◌, List, Option, Some, None, length, map, arith, refl, sym, ap, ◌∙◌, subst, inl, inr, ⊎_elim, nat_eq, nat_lt}
+use Rattle.std.proofs.Common.{◌≡◌, ◌<◌, ◌≤◌, ◌+◌, ◌-◌, ◌≢◌, ◌⊎◌, ◌∷◌, [], ℕ, zero, suc, Bool, true, false, cond, not, List, Option, Some, None, arith, refl, sym, ap, ⊎_elim, nat_eq, nat_lt}
 use Rattle.std.proofs.lemmas.Bool.Decides.{nat_tests}
-use Rattle.std.proofs.lemmas.Bool.{cases_eq, cases_lt}
+use Rattle.std.proofs.lemmas.Bool.{cases_eq}
 use Rattle.fpl_base.specs.declared.kinds.Chip.{Chip}
-use Rattle.fpl_base.specs.declared.kinds.Chip.TheVariants.{None as NoChip}
 use Rattle.fpl_base.specs.declared.kinds.Profile.{Profile}
-use Rattle.rule_book.specs.FreeTransfers.{free_next, transfer_cost}
-use Rattle.rule_book.specs.History.{Deed, Event, chip_at, is_touched}
+use Rattle.rule_book.specs.History.{Event, chip_at, is_touched}
 use Rattle.rule_book.specs.HistoryRules.{first_gw, IsHistory}
 use Rattle.rule_book.specs.HistoryTransfers.{swaps_in, free_from, free_at, cost_at, counted_from, counted_through, is_past_first, FreeTold}
 use Rattle.season_ledger.specs.declared.row.Standing.{Standing}
 use Rattle.season_ledger.specs.declared.row.Row.{Row}
-use Rattle.season_ledger.specs.Rows.{Rise, AllAbove, row_at, chip_in, made_in, first_row, first_in, used_by, chip_by, is_past, free_by, free_in, cost_by, counted_by}
+use Rattle.season_ledger.specs.Rows.{Rise, AllAbove, row_at, chip_in, made_in, first_row, used_by, chip_by, is_past, free_by, free_in, cost_by, counted_by}
 use Rattle.season_ledger.proofs.Held.{RowsHold, Holds, Stands}
 use Rattle.season_ledger.proofs.Counts.{swaps_untouched}
 use Rattle.season_ledger.proofs.Steps.{nothing_done}
-use Rattle.season_ledger.proofs.Legality.{Headed, headed}
+use Rattle.season_ledger.proofs.Legality.{headed}
 use Rattle.season_ledger.proofs.Carry.{chip_untouched, row_there}
 
 pub chip_is : (rows : List Row) (h : List Event) (g : ℕ) → RowsHold rows h → chip_by rows g ≡ chip_at h g

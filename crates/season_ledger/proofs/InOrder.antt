@@ -1,15 +1,15 @@
 -- What counts in g: what counts of the gameweeks before it, and then all of g.
-use Rattle.std.proofs.Common.{◌≡◌, ◌<◌, ◌≤◌, ◌+◌, ◌≢◌, ◌⊎◌, ◌∷◌, [], ◌++◌, ℕ, Bool, true, false, cond, not, ◌&&◌, ◌||◌, List, map, arith, refl, sym, ap, ◌∙◌, subst, inl, inr, ⊎_elim, nat_eq, nat_lt, nat_le}
+use Rattle.std.proofs.Common.{◌≡◌, ◌<◌, ◌≤◌, ◌+◌, ◌≢◌, ◌⊎◌, ◌∷◌, [], ◌++◌, ℕ, true, false, List, arith, refl, sym, ap, ◌∙◌, subst, inl, inr, ⊎_elim, nat_eq, nat_lt, nat_le}
 use Rattle.std.specs.Prelude.{filter}
-use Rattle.std.specs.List.{flat_map, AllByRecursion as Each}
+use Rattle.std.specs.List.{flat_map}
 use Rattle.std.proofs.lemmas.List.{append-nil, append_assoc}
 use Rattle.std.proofs.lemmas.List.Elements.{filter-append}
 use Rattle.std.proofs.lemmas.Bool.Decides.{nat_tests}
 use Rattle.std.proofs.lemmas.Bool.{cases_eq, cases_lt}
-use Rattle.rule_book.specs.History.{Deed, Event, last_of, chip_said_in, chip_at, is_free_hit, counts_in, kept, in_gameweek}
-use Rattle.rule_book.specs.HistoryRules.{NoneAfter, Fits, GoesOn, IsHistory}
+use Rattle.rule_book.specs.History.{Deed, Event, last_of, chip_said_in, chip_at, counts_in, kept, in_gameweek}
+use Rattle.rule_book.specs.HistoryRules.{NoneAfter, GoesOn, IsHistory}
 use Rattle.fpl_base.specs.declared.kinds.Chip.TheVariants.{None as NoChip}
-use Rattle.season_ledger.proofs.Lists.{filter_none, filter_agree_on, each_weaker}
+use Rattle.season_ledger.proofs.Lists.{filter_none, each_weaker}
 use Rattle.season_ledger.proofs.Kept.{kept_more, kept_before}
 use Rattle.season_ledger.proofs.Swaps.{push_more}
 use Rattle.season_ledger.proofs.Legality.{earlier, earlier_same, kept_later, none_push, none_each}

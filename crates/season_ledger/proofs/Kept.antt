@@ -1,16 +1,15 @@
 -- What counts in a gameweek, as events come.
-use Rattle.std.proofs.Common.{◌≡◌, ◌<◌, ◌≤◌, ◌+◌, ◌≢◌, ◌∷◌, [], ◌++◌, ℕ, zero, suc, Bool, true, false, cond, not, ◌&&◌, ◌||◌, List, length, map, arith, refl, sym, ap, ◌∙◌, subst, inl, inr, ⊎_elim, nat_eq, nat_lt}
+use Rattle.std.proofs.Common.{◌≡◌, ◌<◌, ◌≤◌, ◌+◌, ◌≢◌, ◌∷◌, [], ◌++◌, ℕ, Bool, true, false, ◌||◌, List, arith, refl, ap, ◌∙◌, ⊎_elim, nat_eq, nat_lt}
 use Rattle.std.specs.Prelude.{filter}
 use Rattle.std.specs.List.{flat_map, AllByRecursion as Each}
-use Rattle.std.proofs.lemmas.List.{append-nil, append_assoc}
+use Rattle.std.proofs.lemmas.List.{append-nil}
 use Rattle.std.proofs.lemmas.List.Concat.{flat_map-append}
 use Rattle.std.proofs.lemmas.List.Elements.{filter-append, filter_agree}
 use Rattle.std.proofs.lemmas.Bool.Decides.{nat_tests}
 use Rattle.std.proofs.lemmas.Bool.{cases_lt}
-use Rattle.rule_book.specs.History.{Deed, Event, last_of, chip_said, chip_said_in, chip_at, is_free_hit, counts_in, kept, is_touched, in_gameweek}
-use Rattle.fpl_base.specs.declared.kinds.Chip.{Chip}
-use Rattle.fpl_base.specs.declared.kinds.Chip.TheVariants.{None as NoChip, FreeHit}
-use Rattle.season_ledger.proofs.Lists.{filter_agree_on, filter_all, filter_none, flat_map_none, last_of-append}
+use Rattle.rule_book.specs.History.{Deed, Event, last_of, chip_said, chip_said_in, chip_at, counts_in, kept, is_touched, in_gameweek}
+use Rattle.fpl_base.specs.declared.kinds.Chip.TheVariants.{None as NoChip}
+use Rattle.season_ledger.proofs.Lists.{filter_all, filter_none, last_of-append}
 
 -- deeds of another gameweek say nothing of this one's chip
 none_said : (g w : ℕ) (ds : List Deed) → w ≢ g → flat_map (chip_said_in w) (in_gameweek g ds) ≡ []

@@ -1,19 +1,18 @@
 -- What was paid and earned, and what the fifteen cost.
-use Rattle.std.proofs.Common.{◌≡◌, ◌<◌, ◌≤◌, ◌+◌, ◌≢◌, ◌⊎◌, ◌∷◌, [], ◌++◌, ℕ, zero, suc, Bool, true, false, cond, not, ◌&&◌, ◌||◌, List, length, map, sum, arith, refl, sym, ap, ◌∙◌, subst, inl, inr, ⊎_elim, nat_eq, nat_lt}
-use Rattle.std.specs.List.{flat_map, AllByRecursion as Each}
-use Rattle.std.proofs.lemmas.List.{append-nil, append_assoc}
+use Rattle.std.proofs.Common.{◌≡◌, ◌<◌, ◌≤◌, ◌+◌, ◌≢◌, ◌⊎◌, ◌∷◌, [], ◌++◌, ℕ, Bool, true, false, cond, List, map, arith, refl, sym, ap, ◌∙◌, subst, ⊎_elim, nat_eq}
+use Rattle.std.specs.List.{AllByRecursion as Each}
+use Rattle.std.proofs.lemmas.List.{append-nil}
 use Rattle.std.proofs.lemmas.Bool.Decides.{nat_tests}
-use Rattle.std.proofs.lemmas.Bool.{cases_eq, cases_lt}
-use Rattle.rule_book.specs.History.{Holding, Deed, Event, last_of, in_gameweek}
-use Rattle.rule_book.specs.HistorySquad.{prices_among, brought_by, ins, outs, bought_at, follow_one, order_of, holdings_of, spent, paid_by, sum_bought, in_squad, given_by, given_up}
+use Rattle.std.proofs.lemmas.Bool.{cases_eq}
+use Rattle.rule_book.specs.History.{Holding, Deed, Event, last_of}
+use Rattle.rule_book.specs.HistorySquad.{prices_among, bought_at, order_of, holdings_of, spent, paid_by, sum_bought, in_squad, given_by, given_up}
 use Rattle.rule_book.specs.EntryRecords.{swapped}
 use Rattle.rule_book.specs.HistoryTeam.{is_held}
 use Rattle.rule_book.specs.HistoryRules.{times, FitsKept}
-use Rattle.fpl_base.specs.declared.kinds.Chip.{Chip}
 use Rattle.rule_book.specs.declared.transfers.Sale.{Sale}
 use Rattle.rule_book.specs.History.Deed.{First, Swap, Lineup, Play, Cancel}
 use Rattle.season_ledger.proofs.Lists.{each_weaker}
-use Rattle.season_ledger.proofs.Swaps.{order-none, order-some, bought-push, holdings-swap, holdings-lineup, holdings-play, holdings-cancel, spent-append, push_more}
+use Rattle.season_ledger.proofs.Swaps.{order-some, holdings-swap, holdings-lineup, holdings-play, holdings-cancel, spent-append, push_more}
 use Rattle.season_ledger.proofs.Counted.{Sound, in_squad-times, not_in_squad-times, sound_push, KeptFrom}
 
 -- the picks of players by prices

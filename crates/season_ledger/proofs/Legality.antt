@@ -1,19 +1,17 @@
 -- In a history what counts in any gameweek fits, event by event.
-use Rattle.std.proofs.Common.{◌≡◌, ◌<◌, ◌≤◌, ◌+◌, ◌≢◌, ◌⊎◌, ◌∷◌, [], ◌++◌, ℕ, zero, suc, Bool, true, false, cond, not, ◌&&◌, ◌||◌, List, length, map, arith, refl, sym, ap, ◌∙◌, subst, inl, inr, ⊎_elim, nat_eq, nat_lt}
+use Rattle.std.proofs.Common.{◌≡◌, ◌<◌, ◌≤◌, ◌+◌, ◌≢◌, ◌⊎◌, ◌∷◌, [], ◌++◌, ℕ, true, false, not, ◌&&◌, List, arith, refl, sym, ap, ◌∙◌, subst, inl, inr, ⊎_elim, nat_eq, nat_lt}
 use Rattle.std.specs.Prelude.{filter}
 use Rattle.std.specs.List.{flat_map, AllByRecursion as Each}
-use Rattle.std.proofs.lemmas.List.{append-nil, append_assoc}
+use Rattle.std.proofs.lemmas.List.{append-nil}
 use Rattle.std.proofs.lemmas.List.Elements.{filter-append}
 use Rattle.std.proofs.lemmas.Bool.Decides.{nat_tests}
 use Rattle.std.proofs.lemmas.Bool.{cases_eq, cases_lt}
-use Rattle.rule_book.specs.History.{Holding, Deed, Event, last_of, chip_said, chip_at, is_free_hit, counts_in, kept, is_touched, in_gameweek}
-use Rattle.rule_book.specs.HistoryRules.{first_gw, is_started, is_first, FitsKept, ChipFits, NoneAfter, Fits, GoesOn, IsHistory}
-use Rattle.fpl_base.specs.declared.kinds.Chip.{Chip}
+use Rattle.rule_book.specs.History.{Deed, Event, last_of, chip_said, chip_at, is_free_hit, counts_in, kept, is_touched, in_gameweek}
+use Rattle.rule_book.specs.HistoryRules.{first_gw, FitsKept, ChipFits, NoneAfter, Fits, GoesOn, IsHistory}
 use Rattle.fpl_base.specs.declared.kinds.Chip.TheVariants.{None as NoChip, Wildcard, FreeHit, BenchBoost, TripleCaptain}
-use Rattle.rule_book.specs.declared.transfers.Sale.{Sale}
 use Rattle.rule_book.specs.History.Deed.{First, Swap, Lineup, Play, Cancel}
 use Rattle.season_ledger.proofs.Lists.{filter_agree_on, each_weaker}
-use Rattle.season_ledger.proofs.Kept.{chip_other, chip_here, touched_other, touched-append, kept_more, kept_before}
+use Rattle.season_ledger.proofs.Kept.{chip_other, chip_here, touched_other, kept_more, kept_before}
 use Rattle.season_ledger.proofs.Swaps.{push_more}
 use Rattle.season_ledger.proofs.Counted.{KeptFrom, kept_from-push, Sound, sound_all}
 

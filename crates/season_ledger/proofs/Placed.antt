@@ -1,21 +1,18 @@
 -- Positions: rows whose picks have the positions of their players, and the team of a history with positions.
-use Rattle.std.proofs.Common.{◌≡◌, ◌≢◌, ◌≤◌, ◌∷◌, [], ◌++◌, ℕ, Bool, true, false, cond, ◌&&◌, not, List, Option, Some, None, map, arith, refl, sym, ap, ◌∙◌, subst, inl, inr, ⊎_elim, nat_eq}
-use Rattle.std.proofs.lemmas.Bool.Decides.{nat_tests}
-use Rattle.std.proofs.lemmas.Bool.{cases_eq}
+use Rattle.std.proofs.Common.{◌≡◌, ◌∷◌, [], ℕ, Bool, true, false, cond, List, Option, Some, None, map, refl, sym, ap, ◌∙◌, subst, nat_eq}
 use Rattle.fpl_base.specs.declared.kinds.Position.{Position}
 use Rattle.fpl_base.specs.declared.kinds.Chip.TheVariants.{None as NoChip}
 use Rattle.rule_book.specs.declared.team.Pick.{Pick}
-use Rattle.rule_book.specs.declared.team.Team.{Team}
-use Rattle.rule_book.specs.History.{Holding, Event, kept, is_touched}
+use Rattle.rule_book.specs.History.{Holding, Event, kept}
 use Rattle.rule_book.specs.HistorySquad.{order_of, bought_at, holdings_of, picks_of}
 use Rattle.rule_book.specs.HistoryTransfers.{swaps_in}
-use Rattle.rule_book.specs.HistoryTeam.{IsTeam, TeamTold, holding_of, holdings, is_begun}
+use Rattle.rule_book.specs.HistoryTeam.{IsTeam, TeamTold, holding_of, holdings}
 use Rattle.season_ledger.specs.declared.row.Standing.{Standing}
 use Rattle.season_ledger.specs.declared.row.Row.{Row}
-use Rattle.season_ledger.specs.Rows.{row_at, base_at, or_else, is_base, put_row, carried, standing_at, team_in, Rise}
+use Rattle.season_ledger.specs.Rows.{row_at, base_at, or_else, put_row, carried, standing_at, team_in, Rise}
 use Rattle.season_ledger.specs.Stands.{IsPlaced, Tells, StandsFor}
-use Rattle.season_ledger.proofs.Held.{IsHeld, Holds, RowsHold, Stands, StandingHeld}
-use Rattle.season_ledger.proofs.Carry.{IsLastBase, base_some}
+use Rattle.season_ledger.proofs.Held.{IsHeld, Holds, Stands, StandingHeld}
+use Rattle.season_ledger.proofs.Carry.{base_some}
 use Rattle.season_ledger.proofs.Steps.{row_at-put}
 
 -- holdings with positions put on

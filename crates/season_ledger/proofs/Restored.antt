@@ -1,5 +1,5 @@
 -- Rows made of records: they are in order, fit, and stand for every history whose records these are.
-use Rattle.std.proofs.Common.{◌≡◌, ◌<◌, ◌≤◌, ◌+◌, ◌*◌, ◌≢◌, ◌⊎◌, ◌∷◌, [], ◌++◌, ℕ, zero, suc, Bool, true, false, cond, not, ◌&&◌, List, Option, Some, None, length, map, arith, refl, sym, ap, ◌∙◌, subst, inl, inr, ⊎_elim, nat_eq, nat_lt, length-append}
+use Rattle.std.proofs.Common.{◌≡◌, ◌<◌, ◌≤◌, ◌+◌, ◌*◌, ◌≢◌, ◌⊎◌, ◌∷◌, [], ◌++◌, ℕ, zero, suc, Bool, true, false, cond, not, ◌&&◌, List, Option, Some, None, length, arith, refl, sym, ap, ◌∙◌, subst, ⊎_elim, nat_eq, nat_lt}
 use Rattle.std.specs.List.{AllByRecursion as Each}
 use Rattle.std.proofs.lemmas.Bool.Decides.{nat_tests}
 use Rattle.std.proofs.lemmas.Bool.{cases_eq, cases_lt}
@@ -7,15 +7,14 @@ use Rattle.fpl_base.specs.declared.kinds.Position.{Position}
 use Rattle.rule_book.specs.declared.team.Pick.{Pick}
 use Rattle.rule_book.specs.declared.team.Team.{Team}
 use Rattle.rule_book.specs.declared.transfers.Sale.{Sale}
-use Rattle.rule_book.specs.History.{Holding, Deed, Event, is_free_hit, is_touched}
+use Rattle.rule_book.specs.History.{Deed, Event, is_free_hit}
 use Rattle.rule_book.specs.History.Deed.{First, Swap, Lineup, Play, Cancel}
 use Rattle.rule_book.specs.HistoryRules.{IsHistory}
 use Rattle.rule_book.specs.HistoryTransfers.{is_swap, swaps_in}
-use Rattle.rule_book.specs.HistoryTeam.{holdings, holding_of}
+use Rattle.rule_book.specs.HistoryTeam.{holdings}
 use Rattle.rule_book.specs.EntryRecords.{team_recorded, sales_in, sold_by, sold_in, TeamRecorded, HasRecords, AllLater, TeamsRise, IsPriced, IsPricedSale, IsFifteen, earned_for, paid_for, team_before, later_of, FollowsOn, RecordFollows, FirstIsBare, AreEntryRecords}
 use Rattle.season_ledger.specs.declared.row.Standing.{Standing}
-use Rattle.season_ledger.specs.declared.row.Row.{Row}
-use Rattle.season_ledger.specs.Rows.{row_at, AllAbove, Rise, IsBare, IsFit, IsFitTeam, IsKept, row_of_record, rows_of_records}
+use Rattle.season_ledger.specs.Rows.{row_at, AllAbove, Rise, IsBare, IsFit, IsFitTeam, IsKept, rows_of_records}
 use Rattle.season_ledger.specs.Stands.{Tells, StandsFor}
 
 -- what a row has by the records

@@ -1,5 +1,5 @@
 -- The calls on an entry's rows: they stay in order, and stand for the history that goes on.
-use Rattle.std.proofs.Common.{◌≡◌, ◌<◌, ◌≤◌, ◌+◌, ◌-◌, ◌*◌, ◌≢◌, ◌⊎◌, ◌∷◌, [], ◌++◌, ℕ, zero, suc, Bool, true, false, cond, not, ◌&&◌, List, Option, Some, None, Result, Ok, Err, OnOk, length, map, arith, refl, sym, ap, ◌∙◌, subst, inl, inr, ⊎_elim, nat_eq, nat_lt, nat_le}
+use Rattle.std.proofs.Common.{◌≡◌, ◌<◌, ◌≤◌, ◌+◌, ◌-◌, ◌*◌, ◌≢◌, ◌⊎◌, ◌∷◌, [], ◌++◌, ℕ, Bool, true, false, cond, not, ◌&&◌, List, Option, Some, None, Result, Ok, Err, OnOk, length, map, arith, refl, sym, ap, ◌∙◌, subst, ⊎_elim, nat_eq, nat_lt, nat_le}
 use Rattle.std.specs.List.{AllByRecursion as Each}
 use Rattle.std.proofs.lemmas.Bool.Decides.{nat_tests}
 use Rattle.std.proofs.lemmas.Bool.{cases_eq, cases_lt}
@@ -12,17 +12,17 @@ use Rattle.rule_book.specs.EntryRecords.{paid_for, earned_for}
 use Rattle.rule_book.specs.HistorySquad.{sum_bought}
 use Rattle.rule_book.specs.History.{Event, chip_at, is_free_hit, is_touched, in_gameweek}
 use Rattle.rule_book.specs.History.Deed.{First, Swap, Lineup, Play, Cancel}
-use Rattle.rule_book.specs.HistoryRules.{can_cancel, first_gw, is_started, FirstTold, IsHistory, NoneAfter}
+use Rattle.rule_book.specs.HistoryRules.{first_gw, is_started, FirstTold, NoneAfter}
 use Rattle.fpl_base.specs.declared.kinds.Profile.{Profile}
 use Rattle.rule_book.specs.HistoryTransfers.{is_past_first, half_of, FreeTold, cost_at, counted_through}
-use Rattle.rule_book.specs.HistoryTeam.{IsTeam, TeamTold, TeamBalances, holdings}
+use Rattle.rule_book.specs.HistoryTeam.{TeamTold, TeamBalances, holdings}
 use Rattle.season_ledger.specs.declared.row.Standing.{Standing}
 use Rattle.season_ledger.specs.declared.row.Row.{Row}
-use Rattle.season_ledger.specs.Rows.{is_up_to, row_at, or_else, is_base, base_at, AllAbove, Rise, AllUpTo, put_row, carried, standing_at, team_in, chip_in, made_in, used_by, chip_by, first_in, is_past, IsBare, IsKept, IsFit, IsFitTeam, FitsIn, is_begun_by, chipped, put_chip_on, put_chip, begun, place_at, free_in, cost_by, counted_by}
-use Rattle.season_ledger.specs.Batches.{AfterBatch, AfterLineup, IsFirstTeam, BatchOn, LineupOn, CanPlay, CanCancel, players_of}
+use Rattle.season_ledger.specs.Rows.{is_up_to, row_at, or_else, base_at, AllAbove, Rise, AllUpTo, put_row, carried, standing_at, team_in, made_in, used_by, chip_by, first_in, is_past, IsBare, IsKept, IsFit, IsFitTeam, FitsIn, is_begun_by, chipped, put_chip_on, put_chip, begun, place_at, free_in, cost_by, counted_by}
+use Rattle.season_ledger.specs.Batches.{IsFirstTeam, BatchOn, LineupOn, CanPlay, CanCancel, players_of}
 use Rattle.season_ledger.specs.Stands.{IsPlaced, StandsFor, RowsAlwaysTell}
 use Rattle.season_ledger.proofs.Held.{Holds, RowsHold, Stands}
-use Rattle.season_ledger.proofs.Carry.{IsLastBase, base_some, standing_told}
+use Rattle.season_ledger.proofs.Carry.{base_some, standing_told}
 use Rattle.season_ledger.proofs.Frees.{chip_is, used_is, past_told, first_is, free_in_told, cost_told, counted_told}
 use Rattle.season_ledger.proofs.Chips.{among_agree}
 use Rattle.season_ledger.proofs.Places.{place_there}

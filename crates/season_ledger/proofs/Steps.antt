@@ -1,18 +1,17 @@
 -- A row written for a gameweek tells what was done there.
-use Rattle.std.proofs.Common.{◌≡◌, ◌<◌, ◌≤◌, ◌+◌, ◌≢◌, ◌⊎◌, ◌∷◌, [], ◌++◌, ℕ, zero, suc, Bool, true, false, cond, not, ◌&&◌, ◌||◌, List, Option, Some, None, Result, Ok, Err, OnOk, OnErr, length, map, arith, refl, sym, ap, ◌∙◌, subst, inl, inr, ⊎_elim, nat_eq, nat_lt}
+use Rattle.std.proofs.Common.{◌≡◌, ◌<◌, ◌≤◌, ◌+◌, ◌≢◌, ◌⊎◌, ◌∷◌, [], ◌++◌, ℕ, zero, suc, Bool, true, false, cond, not, List, Option, Some, None, length, map, arith, refl, sym, ap, ◌∙◌, subst, inl, inr, ⊎_elim, nat_eq}
 use Rattle.std.specs.List.{flat_map, AllByRecursion as Each}
 use Rattle.std.proofs.lemmas.List.{append-nil, append_assoc}
-use Rattle.std.proofs.lemmas.List.Concat.{flat_map-append}
 use Rattle.std.proofs.lemmas.Bool.Decides.{nat_tests}
-use Rattle.std.proofs.lemmas.Bool.{cases_eq, cases_lt}
-use Rattle.rule_book.specs.History.{Holding, Deed, Event, last_of, chip_said, chip_said_in, chip_at, is_free_hit, counts_in, kept, is_touched, in_gameweek}
+use Rattle.std.proofs.lemmas.Bool.{cases_eq}
+use Rattle.rule_book.specs.History.{Deed, Event, last_of, chip_said, chip_at, is_free_hit, kept, is_touched, in_gameweek}
 use Rattle.rule_book.specs.HistorySquad.{ins, outs, bought_at, order_of, sum_bought, holdings_of, armbands_of, armbands_by, spent, earned, paid_by, earned_by, in_squad, given_up}
 use Rattle.rule_book.specs.EntryRecords.{swapped, after_sales, paid_for, earned_for}
-use Rattle.season_ledger.specs.Batches.{GoHeld, ComeFresh, rearranged, AfterBatch, IsFirstTeam, CanCancel, AfterLineup}
+use Rattle.season_ledger.specs.Batches.{GoHeld, ComeFresh, rearranged, AfterBatch, IsFirstTeam, AfterLineup}
 use Rattle.rule_book.specs.HistoryTeam.{holdings, is_held, is_begun, Balances, TeamBalances}
 use Rattle.season_ledger.proofs.Held.{IsHeld, Holds, RowsHold, Stands, StandingHeld}
 use Rattle.season_ledger.specs.Rows.{row_at, AllAbove, Rise, put_row, AllUpTo, standing_at, team_in}
-use Rattle.rule_book.specs.HistoryRules.{IsHistory, GoesOn, Fits, FitsKept, ChipFits, NoneAfter, times, can_cancel, is_started, is_first, first_gw}
+use Rattle.rule_book.specs.HistoryRules.{IsHistory, FitsKept, ChipFits, NoneAfter, times, can_cancel, is_started, is_first, first_gw}
 use Rattle.fpl_base.specs.declared.kinds.Chip.{Chip}
 use Rattle.fpl_base.specs.declared.kinds.Chip.TheVariants.{None as NoChip}
 use Rattle.rule_book.specs.declared.transfers.Sale.{Sale}
@@ -25,7 +24,7 @@ use Rattle.season_ledger.proofs.Kept.{kept_more, kept_before, chip_other, chip_h
 use Rattle.season_ledger.proofs.Carry.{standing_told, touched_each, row_there}
 use Rattle.season_ledger.proofs.Counted.{Sound}
 use Rattle.season_ledger.proofs.Ledger.{priced, holdings-first, ledger_all}
-use Rattle.season_ledger.proofs.Legality.{headed, all_fit, sound_at, goes_on-push}
+use Rattle.season_ledger.proofs.Legality.{all_fit, sound_at, goes_on-push}
 use Rattle.season_ledger.proofs.Swaps.{holdings-swap, push_more, holdings-batch, armbands-batch, spent-append, earned-append, batch_paid, batch_earned, holdings-rearranged, holdings-play, holdings-cancel, armbands-push}
 
 pub row_at-put : (rows : List Row) (g w : ℕ) (t : Standing) → row_at (put_row rows g t) w ≡ cond (nat_eq g w) (Some t) (row_at rows w)

@@ -1,19 +1,19 @@
 -- The squad as swaps, lineups and chips come.
-use Rattle.std.proofs.Common.{◌≡◌, ◌<◌, ◌≤◌, ◌+◌, ◌≢◌, ◌∷◌, [], ◌++◌, ℕ, zero, suc, Bool, true, false, cond, not, ◌&&◌, ◌||◌, List, length, map, sum, arith, refl, sym, ap, ◌∙◌, subst, inl, inr, ⊎_elim, nat_eq, nat_lt}
+use Rattle.std.proofs.Common.{◌≡◌, ◌+◌, ◌≢◌, ◌∷◌, [], ◌++◌, ℕ, Bool, true, false, cond, ◌||◌, List, map, arith, refl, sym, ap, ◌∙◌, subst, ⊎_elim, nat_eq}
 use Rattle.std.specs.List.{flat_map, AllByRecursion as Each}
 use Rattle.std.proofs.lemmas.List.{append-nil, append_assoc}
 use Rattle.std.proofs.lemmas.List.Concat.{flat_map-append}
 use Rattle.std.proofs.lemmas.Bool.Decides.{nat_tests}
 use Rattle.std.proofs.lemmas.Bool.{cases_eq}
 use Rattle.rule_book.specs.History.{Holding, Deed, Event, last_of, in_gameweek}
-use Rattle.rule_book.specs.HistorySquad.{prices_among, brought_by, taken_by, ins, outs, bought_at, named_by, names_order, has_order, after_order, follow_one, follow, order_of, armbands_by, armbands_of, paid_by, earned_by, spent, earned, holdings_of}
+use Rattle.rule_book.specs.HistorySquad.{brought_by, bought_at, named_by, names_order, has_order, after_order, follow_one, follow, order_of, armbands_by, armbands_of, spent, earned, holdings_of}
 use Rattle.rule_book.specs.EntryRecords.{swapped, after_sales, price_among, paid_for, earned_for}
-use Rattle.season_ledger.specs.Batches.{ComeFresh, GoHeld, rearranged}
+use Rattle.season_ledger.specs.Batches.{ComeFresh, rearranged}
 use Rattle.rule_book.specs.HistoryTeam.{is_held}
 use Rattle.fpl_base.specs.declared.kinds.Chip.{Chip}
 use Rattle.rule_book.specs.declared.transfers.Sale.{Sale}
-use Rattle.rule_book.specs.History.Deed.{First, Swap, Lineup, Play, Cancel}
-use Rattle.season_ledger.proofs.Lists.{map_agree_on, map_map, last_of-append, last_of-push}
+use Rattle.rule_book.specs.History.Deed.{Swap, Lineup, Play, Cancel}
+use Rattle.season_ledger.proofs.Lists.{last_of-append, last_of-push}
 
 one : ℕ → Deed → List Event
 one g d = record { gw = g; deed = d } ∷ []

@@ -1,12 +1,10 @@
 -- The definitions at a small season: a swap, a free hit with a swap and a lineup, and the gameweek after it.
-use Rattle.std.proofs.Common.{◌≡◌, ◌≤◌, ◌+◌, ◌∷◌, [], ◌++◌, ℕ, Bool, true, false, List, map, refl}
-use Rattle.rule_book.specs.History.{Holding, Deed, Event, chip_at, kept}
-use Rattle.rule_book.specs.HistorySquad.{holdings_of, order_of, bought_at, armbands_of, spent, earned, in_squad, given_up}
-use Rattle.fpl_base.specs.declared.kinds.Chip.{Chip}
-use Rattle.fpl_base.specs.declared.kinds.Chip.TheVariants.{None as NoChip, Wildcard, FreeHit, BenchBoost, TripleCaptain}
-use Rattle.rule_book.specs.declared.transfers.Sale.{Sale}
+use Rattle.std.proofs.Common.{◌≡◌, ◌+◌, ◌∷◌, [], ℕ, true, false, List, map, refl}
+use Rattle.rule_book.specs.History.{Event, chip_at, kept}
+use Rattle.rule_book.specs.HistorySquad.{holdings_of, order_of, armbands_of, spent, earned, in_squad, given_up}
+use Rattle.fpl_base.specs.declared.kinds.Chip.TheVariants.{None as NoChip, Wildcard, FreeHit, BenchBoost}
 use Rattle.fpl_base.specs.declared.kinds.Profile.TheVariants as profile
-use Rattle.rule_book.specs.HistoryTransfers.{free_at, cost_at, counted_through, used_before, swaps_in}
+use Rattle.rule_book.specs.HistoryTransfers.{free_at, cost_at, counted_through, used_before}
 use Rattle.std.proofs.Common.{Some, None}
 use Rattle.rule_book.specs.History.Deed.{First, Swap, Lineup, Play, Cancel}
 

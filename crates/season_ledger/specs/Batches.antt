@@ -1,6 +1,5 @@
 -- What a batch of sales, a lineup and a first squad make of a team, and when they fit the team before.
 use Rattle.std.specs.Prelude.{◌≡◌, ◌≤◌, ◌+◌, ℕ, Bool, true, false, List, [], ◌∷◌, map, Option, Some, None, ◌==◌, ◌||◌, if◌then◌else◌, ⊤}
-use Rattle.fpl_base.specs.declared.kinds.Chip.{Chip}
 use Rattle.fpl_base.specs.declared.kinds.Chip.TheVariants.{None as NoChip}
 use Rattle.rule_book.specs.declared.team.Team.{Team}
 use Rattle.rule_book.specs.declared.transfers.Sale.{Sale}

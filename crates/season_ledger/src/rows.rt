@@ -1,5 +1,5 @@
 // Rows by gameweek.
-ghost use Rattle.std.specs.Prelude.{◌≡◌, ◌<◌, ◌≤◌, ◌+◌, ℕ, List, [], length, OnOk, OnErr, IfOk, IfSome, option_copied};
+ghost use Rattle.std.specs.Prelude.{◌≡◌, ◌<◌, ◌≤◌, ◌+◌, ℕ, [], length, OnOk, OnErr, IfOk, IfSome, option_copied};
 ghost use Rattle.std.specs.Option.{option_map};
 ghost use Rattle.rule_book.specs.EntryRecords.{sales_in};
 ghost use Rattle.rule_book.specs.History.{is_free_hit};

@@ -1,5 +1,5 @@
 // The substitutions of an ended gameweek, starter by starter.
-ghost use Rattle.std.specs.Prelude.{◌≡◌, ◌≤◌, ◌+◌, ◌-◌, ◌++◌, ◌∷◌, [], true, false, find, take, drop, slice_set, slice_index_or, All, IfSome};
+ghost use Rattle.std.specs.Prelude.{◌≡◌, ◌≤◌, ◌+◌, ◌-◌, ◌++◌, ◌∷◌, true, false, find, take, drop, slice_set, slice_index_or, All, IfSome};
 ghost use Rattle.rule_book.specs.Teams.{InTeam, starters, bench};
 ghost use Rattle.rule_book.specs.Elevens.{IsSubstituted, can_stand, is_legal_eleven, keeper_for};
 ghost use Rattle.team_scoring.specs.Counts.{AreCountsAfter, HasCounted};

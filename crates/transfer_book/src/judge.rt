@@ -1,7 +1,7 @@
 // What refuses a batch: each look-up finds the first swap that breaks a rule.
 ghost use Rattle.std.specs.Prelude.{◌≡◌, ◌==◌, not, ◌||◌};
 ghost use Rattle.std.specs.List.{list_any};
-ghost use Rattle.rule_book.specs.Batch.{is_same_position, is_held, pick_of, first_not_held, first_held, is_gone, first_gone, plays_at, moves_position, first_moved, AreIncomersThere, is_club_full, first_full_club, club_of};
+ghost use Rattle.rule_book.specs.Batch.{is_same_position, is_held, pick_of, first_not_held, first_held, is_gone, first_gone, plays_at, moves_position, first_moved};
 
 use fpl_base::{ClubId, PlayerId, Position};
 use player_prices::Players;

@@ -1,6 +1,5 @@
-use Rattle.std.proofs.Common.{◌≡◌, ◌∙◌, sym, ap, ◌-◌, ◌+◌, Bool, arith, get_or}
-use Rattle.std.specs.Ordering.{is_lt}
-use Rattle.classic_leagues.specs.Standing.{by_standing, rank_placed}
+use Rattle.std.proofs.Common.{◌≡◌, ◌∙◌, sym, ap, ◌-◌, ◌+◌, arith, get_or}
+use Rattle.classic_leagues.specs.Standing.{rank_placed}
 use Rattle.classic_leagues.specs.declared.classic_table.Placed.{Placed}
 use Rattle.classic_leagues.proofs.RunningRanks.{first, apart, tied, as_read}
 use Rattle.classic_leagues.proofs.classic_table.next_rank.Goals as goal

@@ -1,4 +1,4 @@
-use Rattle.std.proofs.Common.{◌≡◌, ◌∙◌, sym, ap, ◌<◌, ◌-◌, ◌+◌, ℕ, arith, get_or}
+use Rattle.std.proofs.Common.{◌≡◌, ◌∙◌, sym, ap, ◌-◌, ◌+◌, arith, get_or}
 use Rattle.rule_book.proofs.RankLemmas.{mapped_more}
 use Rattle.classic_leagues.specs.Standing.{rank_placed, with_rank, ranked_placed}
 use Rattle.classic_leagues.specs.declared.classic_table.Placed.{Placed}

@@ -1,8 +1,7 @@
-use Rattle.std.proofs.Common.{◌≡◌, ◌∙◌, sym, ap, subst, List, map, IsPermutation, IsSorted}
+use Rattle.std.proofs.Common.{◌≡◌, ◌∙◌, sym, ap, subst, List, map, IsPermutation}
 use Rattle.std.proofs.lemmas.Result.{IfOk-weaker}
 use Rattle.rule_book.specs.ClassicTable.{IsClassicTable}
-use Rattle.rule_book.specs.declared.tables.Ranked.{Ranked}
-use Rattle.classic_leagues.specs.Standing.{placed_of_row, by_place, ranked_placed}
+use Rattle.classic_leagues.specs.Standing.{placed_of_row, ranked_placed}
 use Rattle.classic_leagues.specs.declared.classic_table.Placed.{Placed}
 use Rattle.classic_leagues.proofs.StandingLemmas.{is_table}
 use Rattle.classic_leagues.proofs.classic_table.table.Goals as goal

@@ -1,6 +1,6 @@
-use Rattle.std.proofs.Common.{◌≡◌, ◌≤◌, ◌+◌, Some, length, ap, sym, subst, ◌∙◌, rules}
+use Rattle.std.proofs.Common.{◌≡◌, Some, sym, subst, ◌∙◌, rules}
 use Rattle.rule_book.specs.HistoryTeam.{TeamTold}
-use Rattle.season_ledger.specs.Rows.{FitsIn, standing_at, team_in, used_by}
+use Rattle.season_ledger.specs.Rows.{FitsIn, team_in}
 use Rattle.manager_book.proofs.Batched.{batch_of}
 use Rattle.manager_book.proofs.batch.judge_batch.Goals as goal
 

@@ -1,4 +1,4 @@
-use Rattle.std.proofs.Common.{◌≡◌, ℕ, Some, IfOk, length, sym, subst, ◌∙◌, rules}
+use Rattle.std.proofs.Common.{◌≡◌, ℕ, Some, IfOk, sym, subst, ◌∙◌, rules}
 use Rattle.rule_book.specs.EntryCalls.{slot_of}
 use Rattle.rule_book.specs.HistoryTeam.{TeamTold}
 use Rattle.season_ledger.specs.Rows.{FitsIn, team_in}

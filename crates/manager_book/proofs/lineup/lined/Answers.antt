@@ -1,7 +1,6 @@
-use Rattle.std.proofs.Common.{◌≡◌, ◌<◌, ◌≤◌, ◌+◌, ◌∷◌, List, ℕ, Some, None, length, get_or, take, set, arith, rules, sym, ap, ◌∙◌}
+use Rattle.std.proofs.Common.{◌≡◌, ◌<◌, Some, None, length, get_or, arith, rules, sym, ap, ◌∙◌}
 use Rattle.std.proofs.lemmas.List.{length-set, get_or_default}
 use Rattle.rule_book.specs.Batch.{pick_of}
-use Rattle.rule_book.specs.EntryCalls.{first_stranger, lined_picks}
 use Rattle.manager_book.proofs.Lined.{lined_more, not_held_here, not_held_more}
 use Rattle.manager_book.proofs.lineup.lined.Goals as goal
 

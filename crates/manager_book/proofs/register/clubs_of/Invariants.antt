@@ -1,4 +1,4 @@
-use Rattle.std.proofs.Common.{◌≡◌, ◌+◌, ◌*◌, ◌≤◌, length, take, drop}
+use Rattle.std.proofs.Common.{◌≡◌, length, take}
 use Rattle.rule_book.specs.EntryCalls.{clubs_of}
 use Rattle.manager_book.proofs.register.clubs_of.Given as goal
 

@@ -1,4 +1,4 @@
-use Rattle.std.proofs.Common.{◌≡◌, ◌+◌, ◌*◌, ◌≤◌, length, take, drop}
+use Rattle.std.proofs.Common.{◌≡◌, length, take}
 use Rattle.rule_book.specs.EntryCalls.{picks_from}
 use Rattle.manager_book.proofs.register.picks_of.Given as goal
 

@@ -1,8 +1,7 @@
-use Rattle.std.proofs.Common.{◌≡◌, ◌++◌, ◌∷◌, List, [], ℕ, rules, sym, subst, ap, ◌∙◌}
-use Rattle.rule_book.specs.History.{Holding, Event, in_gameweek}
+use Rattle.std.proofs.Common.{◌≡◌, ◌++◌, ◌∷◌, List, [], rules, subst, ap, ◌∙◌}
+use Rattle.rule_book.specs.History.{Holding, in_gameweek}
 use Rattle.rule_book.specs.History.Deed.{First}
 use Rattle.rule_book.specs.HistoryTeam.{holdings}
-use Rattle.rule_book.specs.Players.{ArePlayers}
 use Rattle.season_ledger.specs.Stands.{StandsFor}
 use Rattle.rule_book.specs.EntryCalls.{slot_of, picks_from}
 use Rattle.manager_book.specs.Calls.{IsFirstOf}

@@ -1,4 +1,4 @@
-use Rattle.std.proofs.Common.{◌≡◌, ℕ, length, take}
+use Rattle.std.proofs.Common.{◌≡◌, length, take}
 use Rattle.season_books.proofs.entry_told.numbers_of.Given as goal
 
 abbrev pub invariant-loop-place : goal.invariant-loop-place

@@ -1,4 +1,4 @@
-use Rattle.std.proofs.Common.{◌≡◌, ◌∙◌, ap, arith, false, not, refl, sym, true, get_or, Some}
+use Rattle.std.proofs.Common.{◌≡◌, ◌∙◌, ap, false, not, sym, true, get_or, Some}
 use Rattle.std.specs.Option.{option_map}
 use Rattle.season_books.specs.Lawful.{is_spelled}
 use Rattle.season_books.proofs.Loops.{fail_more, found_first, none_found}

@@ -1,6 +1,6 @@
 use Rattle.std.proofs.Common.{◌≡◌, ◌∙◌, ap, find, get_or, sym, Some, true}
 use Rattle.std.specs.Option.{option_map}
-use Rattle.season_books.specs.Lawful.{first_wrong, is_wrong}
+use Rattle.season_books.specs.Lawful.{is_wrong}
 use Rattle.season_books.proofs.Loops.{fail_more, found_first, none_found}
 use Rattle.season_books.proofs.judging.first_wrong.Goals as goal
 

@@ -1,4 +1,4 @@
-use Rattle.std.proofs.Common.{◌≡◌, ◌≤◌, ◌-◌}
+use Rattle.std.proofs.Common.{◌≡◌, ◌-◌}
 use Rattle.fpl_base.specs.Keeping.{map_of}
 use Rattle.season_books.specs.Sequels.{base_told}
 use Rattle.season_books.proofs.sequels.base_of.Given as goal

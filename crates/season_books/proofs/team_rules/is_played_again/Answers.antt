@@ -1,4 +1,4 @@
-use Rattle.std.proofs.Common.{◌≡◌, ◌&&◌, ◌-◌, ◌<◌, ◌≤◌, true, false, not, arith, rules, ap₂, sym, subst, ◌∙◌}
+use Rattle.std.proofs.Common.{◌≡◌, ◌&&◌, ◌-◌, ◌<◌, ◌≤◌, true, not, arith, rules, ap₂, sym, subst}
 use Rattle.std.specs.Option.{is_some}
 use Rattle.fpl_base.specs.Keeping.{map_of}
 use Rattle.fpl_base.specs.declared.kinds.Chip.TheVariants.{None as NoChip}

@@ -1,6 +1,5 @@
-use Rattle.std.proofs.Common.{◌≡◌, ◌<◌, ◌≤◌, length, arith, sym, rules}
+use Rattle.std.proofs.Common.{arith}
 use Rattle.std.proofs.lemmas.Grind.{common_steps}
-use Rattle.season_ledger.specs.Rows.{place_at}
 use Rattle.season_ledger.proofs.Places.{put_set, put_push}
 use Rattle.season_ledger.proofs.rows.put.Goals as goal
 

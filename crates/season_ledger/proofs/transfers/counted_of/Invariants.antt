@@ -1,4 +1,4 @@
-use Rattle.std.proofs.Common.{◌≡◌, ◌+◌, ◌*◌, ◌≤◌}
+use Rattle.std.proofs.Common.{◌≡◌, ◌*◌, ◌≤◌}
 use Rattle.rule_book.specs.HistoryTransfers.{counted_from}
 use Rattle.season_ledger.specs.Rows.{used_by, chip_by}
 use Rattle.season_ledger.proofs.transfers.counted_of.Given as goal

@@ -1,11 +1,9 @@
-use Rattle.std.proofs.Common.{◌≡◌, ◌<◌, ◌≤◌, ◌+◌, ◌-◌, List, [], ℕ, Option, Some, None, length, get_or, arith, rules, sym, subst, ap, ◌∙◌, refl}
-use Rattle.fpl_base.specs.declared.kinds.Position.{Position}
+use Rattle.std.proofs.Common.{◌≡◌, ◌-◌, List, [], rules, sym, subst, ap, ◌∙◌}
 use Rattle.season_ledger.specs.declared.row.Row.{Row}
-use Rattle.season_ledger.specs.Rows.{first_in, free_in, cost_by, counted_by}
 use Rattle.season_ledger.specs.Stands.{StandsFor}
 use Rattle.manager_book.specs.Calls.{team_at}
 use Rattle.manager_book.specs.Managers.{season_of}
-use Rattle.manager_book.proofs.Absent.{none_team, none_first, none_free, none_cost, none_counted, counted_nil}
+use Rattle.manager_book.proofs.Absent.{none_team}
 use Rattle.manager_book.proofs.book.ManagerBook.team_in.Goals as goal
 
 pub returns-in-Some-clause-rows : goal.returns-in-Some-clause-rows

@@ -1,5 +1,4 @@
-use Rattle.std.proofs.Common.{◌≡◌, ◌<◌, ◌∙◌, ◌-◌, ◌&&◌, ◌||◌, ◌==◌, ap, arith, drop, false, refl, rules, subst, take, true, not, nat_lt, List, ℕ, Bool, filter}
-use Rattle.std.specs.List.Sorted.{IsPartitionPoint}
+use Rattle.std.proofs.Common.{◌∙◌, ◌-◌, ◌&&◌, ◌||◌, ◌==◌, ap, rules, List, ℕ, Bool, filter}
 use Rattle.std.proofs.lemmas.Fn.{always_returns_same}
 use Rattle.fpl_base.specs.declared.records.RecordKey.{RecordKey}
 use Rattle.season_books.specs.LeagueRules.{is_member_of, stands_before}

@@ -1,6 +1,5 @@
-use Rattle.std.proofs.Common.{◌≡◌, ◌<◌, ◌≤◌, ◌+◌, ℕ, List, [], Option, Some, None, true, length, map, arith, rules, sym, subst, ap, ◌∙◌, refl}
+use Rattle.std.proofs.Common.{◌≡◌, rules, ◌∙◌}
 use Rattle.fpl_base.specs.declared.kinds.Chip.TheVariants.{None as NoChip}
-use Rattle.rule_book.specs.History.{chip_at}
 use Rattle.season_ledger.specs.Rows.{chip_by}
 use Rattle.season_ledger.proofs.Frees.{chip_is}
 use Rattle.season_ledger.proofs.Placed.{stands}

@@ -1,4 +1,4 @@
-use Rattle.std.proofs.Common.{◌≡◌, ◌<◌, ◌≤◌, ◌+◌, ◌-◌, ℕ, List, [], Option, Some, None, true, length, map, arith, rules, sym, subst, ap, ◌∙◌, refl}
+use Rattle.std.proofs.Common.{◌≡◌, ◌-◌, rules, ◌∙◌}
 use Rattle.rule_book.specs.History.{chip_at}
 use Rattle.rule_book.specs.HistoryTransfers.{used_before, half_of}
 use Rattle.season_ledger.specs.Rows.{chip_by}

@@ -1,4 +1,4 @@
-use Rattle.std.proofs.Common.{◌≡◌, true, rules, sym, ◌∙◌}
+use Rattle.std.proofs.Common.{◌≡◌, rules, sym, ◌∙◌}
 use Rattle.season_ledger.specs.Rows.{is_up_to}
 use Rattle.season_ledger.proofs.Season.{up_to_true, true_up_to}
 use Rattle.season_ledger.proofs.entry.Entry.is_up_to.Goals as goal

@@ -1,14 +1,11 @@
-use Rattle.std.proofs.Common.{◌≡◌, ◌<◌, ◌≤◌, ◌+◌, ◌-◌, ◌++◌, ◌∷◌, ℕ, List, [], Option, Some, None, true, length, map, arith, rules, sym, subst, ap, ◌∙◌, refl}
-use Rattle.fpl_base.specs.declared.kinds.Chip.TheVariants.{None as NoChip}
-use Rattle.rule_book.specs.History.{Event, in_gameweek, is_free_hit}
-use Rattle.rule_book.specs.History.Deed.{First, Swap, Lineup, Play, Cancel}
-use Rattle.rule_book.specs.HistoryTeam.{holdings}
-use Rattle.season_ledger.specs.declared.row.Standing.{Standing}
+use Rattle.std.proofs.Common.{◌+◌, ◌-◌, ◌++◌, ◌∷◌, List, [], rules, sym, subst}
+use Rattle.rule_book.specs.History.{in_gameweek}
+use Rattle.rule_book.specs.History.Deed.{Lineup}
 use Rattle.season_ledger.specs.declared.row.Row.{Row}
-use Rattle.season_ledger.specs.Rows.{IsKept, IsFit, standing_at, put_row, put_chip, put_chip_on, used_by, is_past, chipped, place_at}
-use Rattle.season_ledger.specs.Batches.{players_of, BatchOn, LineupOn}
+use Rattle.season_ledger.specs.Rows.{IsKept, IsFit}
+use Rattle.season_ledger.specs.Batches.{players_of}
 use Rattle.season_ledger.specs.Stands.{StandsFor}
-use Rattle.season_ledger.proofs.Season.{on_ok_to, kept_put, standing_early, standing_fit, fit_chip, batch_fit, lineup_fit, first_fit, first_early, batch_early, lineup_early, registered_for, transferred_for, lined_up_for, played_for, cancelled_for, cancel_there}
+use Rattle.season_ledger.proofs.Season.{on_ok_to, kept_put, lineup_fit, lineup_early, lined_up_for}
 use Rattle.season_ledger.proofs.entry.Entry.lineup.Goals as goal
 
 pub write-requires : goal.write-requires

@@ -1,4 +1,4 @@
-use Rattle.std.proofs.Common.{◌≡◌, ◌≤◌, Some, rules, subst, sym, ap, ◌∙◌}
+use Rattle.std.proofs.Common.{◌≡◌, ◌≤◌, Some, rules, subst, ap, ◌∙◌}
 use Rattle.season_ledger.specs.Rows.{IsKept, used_by, made_in, row_at}
 use Rattle.season_ledger.proofs.Season.{used_few}
 use Rattle.season_ledger.proofs.Frees.{used_is}
