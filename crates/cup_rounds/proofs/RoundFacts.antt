@@ -5,7 +5,7 @@ use Rattle.std.proofs.Math.Nat.{div-eq_of_lt, div-one, pow-le-pow_right}
 use Rattle.std.proofs.Math.Pow.{pow-lt}
 use Rattle.std.proofs.lemmas.Bool.{cases_lt}
 use Rattle.std.proofs.lemmas.List.FromFn.{fill_by_all, get_or-map-range_with_len, length-map-range_with_len}
-use Rattle.std.proofs.lemmas.Nat.{shl-shr, shr-shr, shr_le}
+use Rattle.std.proofs.lemmas.Nat.{shl-shr, shr-shr}
 use Rattle.rule_book.specs.declared.cup.Bracket.{Bracket}
 use Rattle.rule_book.specs.declared.cup.Side.{Side}
 use Rattle.rule_book.specs.CupRounds.{rounds_of, winners_of}
@@ -77,8 +77,3 @@ few_rounds b round tie ((r, lo, hi, e), coins) lt =
           absurd (omega (arith, none))
       | inr le ↦ le
     ]
-
--- the coin of a tie is there
-pub coin_there : (b : Bracket) (round tie : ℕ) → HasShape b → IsTieAfter b round tie → length b.slots - length b.slots / 2 ^ round + tie < length b.coins
-coin_there b round tie (rounds, coins) lt =
-    let all : length b.slots / 2 ^ round ≤ length b.slots = shr_le (length b.slots) round in omega arith

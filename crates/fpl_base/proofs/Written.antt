@@ -1,5 +1,5 @@
 -- Bytes that were written up to some place.
-use Rattle.std.proofs.Common.{◌≡◌, ◌≤◌, ℕ, List, [], ◌∷◌, ◌++◌, take, drop, length, Option, Some, None, refl, sym, ap, ◌∙◌, arith, subst, append_assoc, append-nil, length-append, take-append-drop}
+use Rattle.std.proofs.Common.{◌≡◌, ◌≤◌, ℕ, List, [], ◌∷◌, ◌++◌, take, drop, length, Option, Some, None, sym, ap, ◌∙◌, arith, subst, append_assoc, append-nil, length-append, take-append-drop}
 use Rattle.std.proofs.Math.Seq.{take-append_seam}
 use Rattle.std.proofs.lemmas.List.{take_all}
 use Rattle.std.specs.Prelude.{Result, Ok, Err, OnOk, OnErr}
@@ -9,13 +9,6 @@ use Rattle.fpl_base.specs.Causes.{AppendsFront}
 -- a front of the bytes was written, and the rest is still to come
 abbrev pub HasWritten : Option (List ℕ) → Option (List ℕ) → List ℕ → List ℕ → Type 0
 HasWritten old new bytes rest = (front : List ℕ) × (bytes ≡ front ++ rest) × Appends old new front
-
-appends_none : (old : Option (List ℕ)) → Appends old old []
-appends_none None = tt
-appends_none (Some xs) = sym (append-nil xs)
-
-pub written_none : (old : Option (List ℕ)) (bytes : List ℕ) → HasWritten old old bytes bytes
-written_none old bytes = ([], refl, appends_none old)
 
 appends_more : (old mid new : Option (List ℕ)) (xs ys : List ℕ) → Appends old mid xs → Appends mid new ys → Appends old new (xs ++ ys)
 appends_more None mid new xs ys p q = tt

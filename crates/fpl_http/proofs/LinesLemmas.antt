@@ -3,7 +3,7 @@ use Rattle.std.proofs.Common.{◌≡◌, ◌∙◌, ap, sym, subst, refl, ℕ, z
 use Rattle.std.proofs.lemmas.Bool.{cases_Bool, cases_lt}
 use Rattle.std.proofs.lemmas.Bool.Decides.{nat_tests}
 use Rattle.std.proofs.lemmas.List.Sums.{sum_by-cons}
-use Rattle.std.proofs.lemmas.List.{take-append-le, length-append, length-take, take_all, drop_more}
+use Rattle.std.proofs.lemmas.List.{take-append-le, length-append, length-take, take_all}
 use Rattle.std.specs.Prelude.{Option, Some, None, option_map, ◌==◌, ◌&&◌, if◌then◌else◌, nat_le, nat_lt, min}
 use Rattle.fpl_http.specs.Lines.{empty_line, strip, head_len, head_len_behind, or_else, line_count, head_end_of, head_end_in}
 use Rattle.fpl_http.specs.declared.lines.HeadEnd.TheVariants.{Missing, TooLarge, At}
@@ -315,14 +315,6 @@ shifted : (i : ℕ) (o : Option ℕ) → option_map (λ n. i + n) (option_map (�
 shifted i None = refl
 shifted i (Some n) = ap Some (omega arith)
 
-pub head_from : (bytes : List ℕ) (i : ℕ) (whole : Option ℕ) → i < length bytes → ((get_or bytes i 0 == 10) ≡ true → empty_line (drop (i + 1) bytes) ≡ None)
-    → option_map (λ n. i + n) (head_len (drop i bytes)) ≡ whole
-    → option_map (λ n. i + 1 + n) (head_len (drop (i + 1) bytes)) ≡ whole
-head_from bytes i whole lt h inv =
-    sym (shifted i (head_len (drop (i + 1) bytes)))
-    ∙ ap (option_map (λ n. i + n)) (sym (head_past (get_or bytes i 0) (drop (i + 1) bytes) h) ∙ ap head_len (sym (drop_more bytes i 0 lt)))
-    ∙ inv
-
 -- ---- a search that goes on
 
 none_parts : (b : ℕ) (rest : List ℕ) → head_len (b ∷ rest) ≡ None → ((b == 10) ≡ true → empty_line rest ≡ None) × (head_len rest ≡ None)
@@ -414,7 +406,3 @@ line_counted (b ∷ rest) zero none lt feed = counted_feed b rest feed
 line_counted (b ∷ rest) (suc k) none lt feed =
     let next : suc k + 1 ≡ suc (k + 1) = omega arith in
     rw next (counted_past b rest (none 0 (omega arith)) ∙ line_counted rest k (later b rest k none) (omega arith) feed)
-
-pub shifted_by : (a n : ℕ) (o : Option ℕ) → option_map (λ k. a + k) (option_map (λ k. n + k) o) ≡ option_map (λ k. a + n + k) o
-shifted_by a n None = refl
-shifted_by a n (Some k) = ap Some (omega arith)

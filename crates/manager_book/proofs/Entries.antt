@@ -1,5 +1,5 @@
 -- What an entry's rows say of a gameweek that is not before any of them.
-use Rattle.std.proofs.Common.{◌≡◌, ◌≤◌, ◌∷◌, [], ℕ, true, false, List, Option, Some, None, arith, refl, sym, ap, ◌∙◌, is_some}
+use Rattle.std.proofs.Common.{◌≡◌, ◌≤◌, ◌∷◌, [], ℕ, true, List, Option, Some, None, arith, refl, sym, ap, ◌∙◌, is_some}
 use Rattle.std.specs.List.{AllByRecursion as Each}
 use Rattle.std.specs.Prelude.{All}
 use Rattle.std.proofs.lemmas.Bool.Decides.{nat_tests}
@@ -16,12 +16,6 @@ use Rattle.season_ledger.specs.Batches.{CanPlay}
 pub begun_registered : (rows : List Row) (g : ℕ) → AllUpTo g rows → is_begun_by rows g ≡ is_some (first_in rows)
 begun_registered [] g up = refl
 begun_registered (r ∷ rows) g up = let l : r.gw ≤ g = up.0 in grind (arith, nat_tests)
-
-pub registered_none : (rows : List Row) (g : ℕ) → AllUpTo g rows → (o : Option Standing) → standing_at rows g ≡ None → begun (standing_at rows g) ≡ is_begun_by rows g → is_some (first_in rows) ≡ false
-registered_none rows g up o e b = sym (begun_registered rows g up) ∙ sym b ∙ ap begun e
-
-pub registered_some : (rows : List Row) (g : ℕ) (s : Standing) → AllUpTo g rows → standing_at rows g ≡ Some s → begun (standing_at rows g) ≡ is_begun_by rows g → is_some (first_in rows) ≡ true
-registered_some rows g s up e b = sym (begun_registered rows g up) ∙ sym b ∙ ap begun e
 
 -- the chip that stands is the gameweek's
 pub chip_standing : (rows : List Row) (g : ℕ) (s : Standing) → standing_at rows g ≡ Some s → s.team.chip ≡ chip_by rows g

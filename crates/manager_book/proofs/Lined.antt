@@ -5,7 +5,7 @@ use Rattle.std.specs.Prelude.{find, All, AllPairs}
 use Rattle.std.specs.Option.{option_to_list}
 use Rattle.std.proofs.lemmas.Bool.Decides.{nat_tests}
 use Rattle.std.proofs.lemmas.Bool.{cases_eq}
-use Rattle.std.proofs.lemmas.List.{take_more, take_more_set, take_all, drop_more, drop_all}
+use Rattle.std.proofs.lemmas.List.{take_more, take_more_set, drop_more}
 use Rattle.std.proofs.lemmas.List.Elements.{All-head, All-tail}
 use Rattle.std.proofs.lemmas.List.{append-nil}
 use Rattle.std.proofs.lemmas.List.Concat.{flat_map-append}
@@ -41,15 +41,9 @@ found_more f lined order i k lk lo h e = take_more_set lined i k lk ∙ ap (λ l
     ∙ sym (flat_map-append (λ p. option_to_list (f p)) (take i order) (get_or order i 0 ∷ []))
     ∙ ap (found_of f) (sym (take_more order i 0 lo))
 
-pub found_whole : (f : ℕ → Option Pick) (lined : List Pick) (order : List ℕ) (i : ℕ) → length lined ≡ 15 → length order ≡ 15 → 15 ≤ i → take i lined ≡ found_of f (take i order) → lined ≡ found_of f order
-found_whole f lined order i lk lo le h = sym (take_all i lined (omega arith)) ∙ h ∙ ap (found_of f) (take_all i order (omega arith))
-
 pub lined_more : (picks lined : List Pick) (order : List ℕ) (i : ℕ) (k : Pick) → i < length lined → i < length order → take i lined ≡ lined_picks picks (take i order) → pick_of picks (get_or order i 0) ≡ Some k
     → take (i + 1) (set lined i k) ≡ lined_picks picks (take (i + 1) order)
 lined_more picks lined order i k lk lo h e = found_more (pick_of picks) lined order i k lk lo h e
-
-pub lined_whole : (picks lined : List Pick) (order : List ℕ) (i : ℕ) → length lined ≡ 15 → length order ≡ 15 → 15 ≤ i → take i lined ≡ lined_picks picks (take i order) → lined ≡ lined_picks picks order
-lined_whole picks lined order i lk lo le h = sym (take_all i lined (omega arith)) ∙ h ∙ ap (lined_picks picks) (take_all i order (omega arith))
 
 -- who is found is held
 pub found_held : (picks : List Pick) (p : ℕ) (k : Pick) → pick_of picks p ≡ Some k → is_held picks p ≡ true
@@ -74,9 +68,6 @@ not_held_here picks order i lt e = let h : is_held picks (get_or order i 0) ≡ 
 
 pub not_held_more : (picks : List Pick) (order : List ℕ) (i : ℕ) (k : Pick) → i < length order → pick_of picks (get_or order i 0) ≡ Some k → first_stranger picks (drop (i + 1) order) ≡ first_stranger picks (drop i order)
 not_held_more picks order i k lt e = let h : is_held picks (get_or order i 0) ≡ true = found_held picks (get_or order i 0) k e in sym (ap (first_stranger picks) (drop_more order i 0 lt) ∙ (rw h refl))
-
-pub not_held_end : (picks : List Pick) (order : List ℕ) (i : ℕ) → length order ≤ i → first_stranger picks (drop i order) ≡ None
-not_held_end picks order i le = ap (first_stranger picks) (drop_all i order le)
 
 -- all are held where none is not
 all_held : (picks : List Pick) (order : List ℕ) → first_stranger picks order ≡ None → Each (λ p. is_held picks p ≡ true) order
@@ -237,9 +228,6 @@ team_placed position h g t i = subst (IsPlaced position) (sym i.picks) (walk (ke
 -- the team that stands, lined up
 pub lineup_on : (o : Option Standing) (order : List ℕ) (c v : ℕ) (s : Standing) (u : Team) → o ≡ Some s → length order ≡ 15 → length s.team.picks ≡ 15 → IsFitTeam s.team → IsLined order c v s.team u → LineupOn o u
 lineup_on o order c v s u e lo lk f l = subst (λ x. LineupOn x u) (sym e) (after_lined order c v s.team u lo lk f l)
-
-pub fit_of : (g : ℕ) (o : Option Standing) (s : Standing) → o ≡ Some s → FitsIn g o → IsFitTeam s.team
-fit_of g o s e f = let i : FitsIn g (Some s) = subst (FitsIn g) e f in i.team
 
 -- what a history says of the team that stands
 pub placed_of : (position : ℕ → Position) (h : List Event) (g : ℕ) (o : Option Standing) (s : Standing) → o ≡ Some s → TeamTold position h g (team_in o) → IsPlaced position s.team.picks

@@ -4,7 +4,7 @@ use Rattle.std.specs.Prelude.{nat_le}
 use Rattle.std.proofs.lemmas.Bool.Decides.{nat_tests}
 use Rattle.fpl_base.specs.declared.rule.Rule.TheVariants as rule
 use Rattle.rule_book.specs.declared.player.Player.{Player}
-use Rattle.rule_book.specs.Players.{IsPrice, player_of, player_refusal, price_refusal, most_players}
+use Rattle.rule_book.specs.Players.{player_of, player_refusal, price_refusal, most_players}
 
 pub refused_there : (players : List Player) (new old : Player) → Some old ≡ player_of players new.id → player_refusal players new ≡ Some (rule.PlayerThere new.id)
 refused_there players new old e = rw (← e) refl
@@ -14,12 +14,6 @@ refused_full players new e full = let t : nat_le most_players (length players) �
 
 pub refused_by_price : (players : List Player) (new : Player) → None ≡ player_of players new.id → length players < most_players → player_refusal players new ≡ price_refusal new.price
 refused_by_price players new e room = let f : nat_le most_players (length players) ≡ false = grind (arith, nat_tests) in rw (← e, f) refl
-
-pub no_price : (price : ℕ) → (IsPrice price → ⊥) → price_refusal price ≡ Some rule.PriceRange
-no_price price none = grind (arith, nat_tests, none)
-
-pub a_price : (price : ℕ) → IsPrice price → price_refusal price ≡ None
-a_price price is = grind (arith, nat_tests)
 
 -- so of a player who has this id and price
 

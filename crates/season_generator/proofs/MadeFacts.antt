@@ -1,7 +1,6 @@
 -- Lists of clubs, players and lines, one more at a time.
-use Rattle.std.proofs.Common.{◌≡◌, ◌<◌, ◌≤◌, ◌+◌, ◌-◌, ◌*◌, ◌∷◌, [], ◌++◌, ℕ, zero, suc, List, length, map, drop, get_or, arith, refl, sym, ap, ◌∙◌}
+use Rattle.std.proofs.Common.{◌≡◌, ◌<◌, ◌≤◌, ◌+◌, ◌-◌, ◌*◌, ◌∷◌, [], ◌++◌, ℕ, zero, suc, List, length, map, get_or, arith, refl, sym, ap, ◌∙◌}
 use Rattle.std.specs.List.{range_with_len}
-use Rattle.std.proofs.Math.ListN.{set}
 use Rattle.std.proofs.lemmas.List.FromFn.{get_or-range_with_len, length-map-range_with_len, length-range_with_len, map-range_with_len_more}
 use Rattle.rule_book.specs.Ranks.{AllDiffer}
 use Rattle.season_book.specs.Commands.{IsCommand, club_ids}
@@ -48,12 +47,6 @@ bands_within k =
     within bands
     (omega arith, (omega arith, (omega arith, (omega arith, (omega arith, (omega arith, (omega arith, (omega arith, (omega arith, (omega arith, (omega arith, (omega arith, (omega arith, (omega arith, (omega arith, (omega arith, tt))))))))))))))))
     k
-
--- the first two of a list are others
-pub first_two : (xs : List ℕ) (a b : ℕ) → 2 ≤ length xs → set (set xs 0 a) 1 b ≡ a ∷ b ∷ drop 2 xs
-first_two [] a b h = absurd (omega arith)
-first_two (x ∷ []) a b h = absurd (omega arith)
-first_two (x ∷ y ∷ xs) a b h = refl
 
 -- What is ordered can be ordered.
 

@@ -1,5 +1,5 @@
 -- A loop over a list: what is so of each thing before the present one, and of that one, is so of one thing more.
-use Rattle.std.proofs.Common.{◌≡◌, ◌+◌, ◌<◌, ◌≤◌, ℕ, List, [], ◌∷◌, get_or, length, subst, take}
+use Rattle.std.proofs.Common.{◌≡◌, ◌+◌, ◌<◌, ◌≤◌, ℕ, List, get_or, length, subst, take}
 use Rattle.std.specs.List.{All, AllByRecursion}
 use Rattle.std.proofs.lemmas.List.{take_all}
 use Rattle.std.proofs.lemmas.List.Elements.{All-more, at_read, recursion_from_All}
@@ -9,7 +9,3 @@ one_more P xs i x within is so_far here = All-more P xs i x within so_far (at_re
 
 pub all_of_them : {X : Type 0} (P : X → Type 0) (xs : List X) (i : ℕ) → length xs ≤ i → All P (take i xs) → AllByRecursion P xs
 all_of_them P xs i end each = recursion_from_All P xs (subst (All P) (take_all i xs end) each)
-
-pub so_of_each : {X : Type 0} (P Q : X → Type 0) → ((x : X) → P x → Q x) → (xs : List X) → AllByRecursion P xs → AllByRecursion Q xs
-so_of_each P Q so [] each = tt
-so_of_each P Q so (x ∷ xs) each = (so x each.0, so_of_each P Q so xs each.1)

@@ -61,11 +61,6 @@ pub inside_then : (old mid new : State) (one two both : Database → Type 0) →
 inside_then old mid new one two both p q join =
     record { was_open = λ open_. p.was_open (q.was_open open_); mode = q.mode; committed = q.committed ∙ p.committed; makes = join p.makes q.makes }
 
--- a statement that failed has changed nothing, or its transaction is undone
-pub run_failed : (mid new : State) (sql : List ℕ) (params : Row) (e : Error) → ExecutesInside 0 sql params mid new (Err e) → IsUnchanged mid new ⊎ IsRolledBack mid new
-run_failed mid new sql params e (inl ran) = ran.1
-run_failed mid new sql params e (inr escaped) = inl escaped.2
-
 -- so it has committed nothing
 pub still_kept : (mid new : State) → IsUnchanged mid new ⊎ IsRolledBack mid new → KeepsCommit mid new
 still_kept mid new (inl same) = record { was_open = λ _. same.0.was_open; committed = λ _. same.0.committed_is }

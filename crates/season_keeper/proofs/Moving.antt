@@ -5,7 +5,6 @@ use Rattle.std.proofs.lemmas.Bool.{and_parts, and_from, not-true, cases_Bool}
 use Rattle.std.proofs.lemmas.Cmp.{tied_itself}
 use Rattle.std.proofs.lemmas.Bool.Decides.{Decides-int_eq}
 use Rattle.sqlite_value.specs.declared.value.Value.TheVariants.{Null, Int, Blob}
-use Rattle.sqlite_value.specs.declared.keys.Collation.{Collation}
 use Rattle.sqlite_value.specs.declared.keys.Collation.TheVariants.{Binary}
 use Rattle.sqlite_value.specs.Order.{Row, column, value_cmp}
 use Rattle.sqlite_value.proofs.OrderLemmas.{value_cmp_total}
@@ -82,9 +81,6 @@ has_numbered (t ∷ news) rows s (inl same) = (rows, inl (ap (with_rowid Chosen 
 has_numbered (t ∷ news) rows s (inr later) = let it = has_numbered news (put_row (with_rowid Chosen rows t) rows) s later in (it.0, inr it.1)
 
 -- ---- the records of kind 5
-
-abbrev lines_asked : Bool → List Collation
-lines_asked first = Binary ∷ Binary ∷ Binary ∷ Binary ∷ Binary ∷ []
 
 abbrev is_line : Row → Bool
 is_line = hits (is_kind Eq) []

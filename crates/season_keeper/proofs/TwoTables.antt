@@ -79,9 +79,6 @@ has_record line_alone = false
 has_record record_first = true
 has_record line_first = true
 
-no_rows : {K : Type 0} (values : K → List ℕ → Row) → AreRows values []
-no_rows values = record { each = λ r h. absurd h; ids = λ r s h g e. absurd h }
-
 module _ (before after : Database) (is_sound : IsDatabase before) where
   abbrev Grows_to : (Tables → Bool) → Tables → Type 0
   Grows_to has t = (schema : before.schema ≡ schema_of t) (records : AreRows record_values (records_in t before.trees)) (lines : AreRows line_values (lines_in t before.trees))

@@ -4,7 +4,7 @@ use Rattle.std.proofs.lemmas.Bool.Decides.{nat_tests}
 use Rattle.std.proofs.lemmas.Bool.{cases_eq}
 use Rattle.rule_book.specs.History.{Holding}
 use Rattle.rule_book.specs.EntryRecords.{swapped}
-use Rattle.season_ledger.specs.Batches.{GoHeld, ComeFresh, is_among, OutsFit, IntosFit}
+use Rattle.season_ledger.specs.Batches.{is_among}
 use Rattle.rule_book.specs.HistoryTeam.{is_held}
 use Rattle.rule_book.specs.declared.transfers.Sale.{Sale}
 
@@ -77,17 +77,3 @@ step gone come before now s b ho go hi ci = (out_now, (into_now, record { held =
     came : (p : ℕ) → (s.into ≡ p) ⊎ (s.into ≢ p) → (nat_eq s.into p || is_among p come) ≡ true → is_held p before ≡ false
     came p (inl e) a = ap (λ q. is_held q before) (sym e) ∙ hi
     came p (inr n) a = let t : nat_eq s.into p ≡ false = eq_false s.into p n in b.fresh p (rw t at a)
-
-fits_between : (gone come : List ℕ) (before now : List Holding) (ss : List Sale) → Between gone come before now → OutsFit gone before ss → IntosFit come before ss → GoHeld ss now × ComeFresh ss now
-fits_between gone come before now [] b o i = (tt, tt)
-fits_between gone come before now (s ∷ ss) b o i =
-    let x = step gone come before now s b o.0 o.1 i.0 i.1 in
-    let r = fits_between (s.out ∷ gone) (s.into ∷ come) before (map (swapped s) now) ss x.1.1 o.2 i.2 in
-    ((x.0, r.0), (x.1.0, r.1))
-
-pub batch_fits : (picks : List Holding) (ss : List Sale) → OutsFit [] picks ss → IntosFit [] picks ss → GoHeld ss picks × ComeFresh ss picks
-batch_fits picks ss o i = fits_between [] [] picks picks ss (record { held = λ p. whole (is_held p picks); fresh = λ p e. cc }) o i
-  where
-    whole : (a : Bool) → a ≡ ((a && true) || false)
-    whole true = refl
-    whole false = refl

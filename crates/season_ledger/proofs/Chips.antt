@@ -23,12 +23,6 @@ among_found chips chip from w g le lt n t =
     let all : g - from ≡ suc (w - from) + (g - suc w) = omega arith in
     rw all (among_stays chips chip from (suc (w - from)) w (g - suc w) here)
 
-pub among_next : (chips : ℕ → Chip) (chip : Chip) (from w : ℕ) → from ≤ w → chip_among chips chip from (w - from) ≡ None → is_same_chip chip (chips w) ≡ false → chip_among chips chip from ((w + 1) - from) ≡ None
-among_next chips chip from w le n f =
-    let at : from + (w - from) ≡ w = omega arith in
-    let next : (w + 1) - from ≡ suc (w - from) = omega arith in
-    rw next (among_none chips chip from (w - from) n (rw at f))
-
 -- chips that agree are found alike
 pub among_agree : (c d : ℕ → Chip) (chip : Chip) (from k : ℕ) → ((g : ℕ) → c g ≡ d g) → chip_among c chip from k ≡ chip_among d chip from k
 among_agree c d chip from zero e = refl

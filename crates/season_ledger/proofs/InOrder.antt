@@ -1,14 +1,12 @@
 -- What counts in g: what counts of the gameweeks before it, and then all of g.
-use Rattle.std.proofs.Common.{◌≡◌, ◌<◌, ◌≤◌, ◌+◌, ◌≢◌, ◌⊎◌, ◌∷◌, [], ◌++◌, ℕ, true, false, List, arith, refl, sym, ap, ◌∙◌, subst, inl, inr, ⊎_elim, nat_eq, nat_lt, nat_le}
+use Rattle.std.proofs.Common.{◌≡◌, ◌<◌, ◌≤◌, ◌+◌, ◌≢◌, ◌⊎◌, ◌∷◌, [], ◌++◌, ℕ, true, false, List, arith, refl, sym, ap, ◌∙◌, subst, inl, inr, nat_eq, nat_le}
 use Rattle.std.specs.Prelude.{filter}
-use Rattle.std.specs.List.{flat_map}
 use Rattle.std.proofs.lemmas.List.{append-nil, append_assoc}
 use Rattle.std.proofs.lemmas.List.Elements.{filter-append}
 use Rattle.std.proofs.lemmas.Bool.Decides.{nat_tests}
 use Rattle.std.proofs.lemmas.Bool.{cases_eq, cases_lt}
-use Rattle.rule_book.specs.History.{Deed, Event, last_of, chip_said_in, chip_at, counts_in, kept, in_gameweek}
+use Rattle.rule_book.specs.History.{Deed, Event, kept, in_gameweek}
 use Rattle.rule_book.specs.HistoryRules.{NoneAfter, GoesOn, IsHistory}
-use Rattle.fpl_base.specs.declared.kinds.Chip.TheVariants.{None as NoChip}
 use Rattle.season_ledger.proofs.Lists.{filter_none, each_weaker}
 use Rattle.season_ledger.proofs.Kept.{kept_more, kept_before}
 use Rattle.season_ledger.proofs.Swaps.{push_more}
@@ -51,23 +49,3 @@ kept_in_order h g k = (parted_from [] h (record { parts = λ w. refl }) k).parts
 -- later gameweeks tell nothing of this one
 abbrev pub upto : List Event → ℕ → List Event
 upto h g = filter (λ e. nat_le e.gw g) h
-
-chip_upto : (h : List Event) (g w : ℕ) → w ≤ g → chip_at (upto h g) w ≡ chip_at h w
-chip_upto h g w le = ap (last_of NoChip) (said h)
-  where
-    said : (k : List Event) → flat_map (chip_said_in w) (upto k g) ≡ flat_map (chip_said_in w) k
-    said [] = refl
-    said (e ∷ k) = let i : flat_map (chip_said_in w) (upto k g) ≡ flat_map (chip_said_in w) k = said k in ⊎_elim
-        (λ (l : g < e.gw). let t : nat_le e.gw g ≡ false = grind (arith, nat_tests) in let u : nat_eq e.gw w ≡ false = grind (arith, nat_tests) in rw (t, u) i)
-        (λ (l : e.gw ≤ g). let t : nat_le e.gw g ≡ true = grind (arith, nat_tests) in rw t (ap (λ r. chip_said_in w e ++ r) i))
-        (cases_lt g e.gw)
-
-pub kept_upto : (h : List Event) (g : ℕ) → kept (upto h g) g ≡ kept h g
-kept_upto h g = walk h
-  where
-    walk : (k : List Event) → filter (λ e. counts_in (upto h g) g e.gw) (upto k g) ≡ filter (λ e. counts_in h g e.gw) k
-    walk [] = refl
-    walk (e ∷ k) = let i : filter (λ v. counts_in (upto h g) g v.gw) (upto k g) ≡ filter (λ v. counts_in h g v.gw) k = walk k in ⊎_elim
-        (λ (l : g < e.gw). let t : nat_le e.gw g ≡ false = grind (arith, nat_tests) in let u : nat_eq e.gw g ≡ false = grind (arith, nat_tests) in let v : nat_lt e.gw g ≡ false = grind (arith, nat_tests) in rw (t, u, v) i)
-        (λ (l : e.gw ≤ g). let t : nat_le e.gw g ≡ true = grind (arith, nat_tests) in rw t (rw (chip_upto h g e.gw l, i) refl))
-        (cases_lt g e.gw)

@@ -1,7 +1,7 @@
 -- Lists, and the last of one.
-use Rattle.std.proofs.Common.{◌≡◌, ◌+◌, ◌∷◌, [], ◌++◌, Bool, true, false, cond, List, map, refl, ap}
+use Rattle.std.proofs.Common.{◌≡◌, ◌+◌, ◌∷◌, [], ◌++◌, Bool, true, false, List, map, refl, ap}
 use Rattle.std.specs.Prelude.{filter}
-use Rattle.std.specs.List.{flat_map, AllByRecursion as Each}
+use Rattle.std.specs.List.{AllByRecursion as Each}
 use Rattle.rule_book.specs.History.{last_of}
 
 pub last_of-push : {A : Type 0} (d : A) (xs : List A) (x : A) → last_of d (xs ++ x ∷ []) ≡ x
@@ -12,17 +12,10 @@ pub last_of-append : {A : Type 0} (d : A) (xs ys : List A) → last_of d (xs ++ 
 last_of-append d [] ys = refl
 last_of-append d (x ∷ xs) ys = last_of-append x xs ys
 
-cond_same : {A : Type 0} (b c : Bool) (x y z : A) → b ≡ c → y ≡ z → cond b (x) y ≡ cond c x z
-cond_same b c x y z e f = cc
-
 -- two tests that agree at each element of xs keep the same
 pub filter_agree_on : {A : Type 0} (p q : A → Bool) (xs : List A) → Each (λ x. p x ≡ q x) xs → filter p xs ≡ filter q xs
 filter_agree_on p q [] h = refl
 filter_agree_on p q (x ∷ xs) h = let e : filter p xs ≡ filter q xs = filter_agree_on p q xs h.1 in let f : p x ≡ q x = h.0 in cc
-
-pub map_agree_on : {A B : Type 0} (f g : A → B) (xs : List A) → Each (λ x. f x ≡ g x) xs → map f xs ≡ map g xs
-map_agree_on f g [] h = refl
-map_agree_on f g (x ∷ xs) h = let e : map f xs ≡ map g xs = map_agree_on f g xs h.1 in let k : f x ≡ g x = h.0 in cc
 
 pub map_map : {A B C : Type 0} (f : B → C) (g : A → B) (xs : List A) → map f (map g xs) ≡ map (λ x. f (g x)) xs
 map_map f g [] = refl
@@ -35,10 +28,6 @@ filter_all p (x ∷ xs) h = let e : filter p xs ≡ xs = filter_all p xs h.1 in 
 pub filter_none : {A : Type 0} (p : A → Bool) (xs : List A) → Each (λ x. p x ≡ false) xs → filter p xs ≡ []
 filter_none p [] h = refl
 filter_none p (x ∷ xs) h = let e : filter p xs ≡ [] = filter_none p xs h.1 in let f : p x ≡ false = h.0 in rw (f, e)
-
-pub flat_map_none : {A B : Type 0} (f : A → List B) (xs : List A) → Each (λ x. f x ≡ []) xs → flat_map f xs ≡ []
-flat_map_none f [] h = refl
-flat_map_none f (x ∷ xs) h = let e : flat_map f xs ≡ [] = flat_map_none f xs h.1 in let k : f x ≡ [] = h.0 in rw (k, e)
 
 pub each_every : {A : Type 0} (P : A → Type 0) (every : (x : A) → P x) (xs : List A) → Each P xs
 each_every P every [] = tt

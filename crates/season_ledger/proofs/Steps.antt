@@ -56,11 +56,6 @@ rise-put (r ∷ rows) g t h u = ⊎_elim
     (λ (n : r.gw ≢ g). let e : nat_eq r.gw g ≡ false = grind (arith, nat_tests) in let lt : r.gw < g = omega (arith, u.0) in rw e (above-put rows g r.gw t h.0 lt, rise-put rows g t h.1 u.1))
     (cases_eq r.gw g)
 
-pub up_to-put : (rows : List Row) (g : ℕ) (t : Standing) → AllUpTo g rows → AllUpTo g (put_row rows g t)
-up_to-put [] g t u = ((omega arith), tt)
-up_to-put (r ∷ rows) g t u = elim (nat_eq r.gw g) as (λ b. AllUpTo g (cond b (record { gw = g; standing = t } ∷ rows) (r ∷ put_row rows g t)))
-    [ true ↦ ((omega arith), u.1) | false ↦ (u.0, up_to-put rows g t u.1) ]
-
 pub row_below : (rows : List Row) (g w : ℕ) (t : Standing) → AllUpTo g rows → row_at rows w ≡ Some t → w ≤ g
 row_below [] g w t u e = cc
 row_below (r ∷ rows) g w t u e = ⊎_elim

@@ -61,9 +61,6 @@ follow-push : (es : List Event) (g : ℕ) (d : Deed) (p : ℕ) → follow (es ++
 follow-push [] g d p = refl
 follow-push (e ∷ es) g d p = follow-push es g d (follow_one e.deed p)
 
-last_order : List Event → List ℕ
-last_order es = last_of [] (flat_map (λ e. named_by e.deed) es)
-
 -- the order after a deed that names none
 pub order-none : (es : List Event) (g : ℕ) (d : Deed) → names_order d ≡ false → named_by d ≡ [] → order_of (es ++ record { gw = g; deed = d } ∷ []) ≡ map (follow_one d) (order_of es)
 order-none es g d n m =
@@ -91,10 +88,6 @@ order-some es g d ps n m =
 -- prices after a deed
 pub bought-push : (es : List Event) (g : ℕ) (d : Deed) (p : ℕ) → bought_at (es ++ record { gw = g; deed = d } ∷ []) p ≡ last_of (bought_at es p) (brought_by p d)
 bought-push es g d p = ap (last_of 0) (flat_map-append (λ e. brought_by p e.deed) es (record { gw = g; deed = d } ∷ []) ∙ ap (λ r. flat_map (λ e. brought_by p e.deed) es ++ r) (append-nil (brought_by p d))) ∙ last_of-append 0 (flat_map (λ e. brought_by p e.deed) es) (brought_by p d)
-
--- the picks of players by prices
-pub with_prices : (ℕ → ℕ) → List ℕ → List Holding
-with_prices f ps = map (λ p. record { player = p; bought = f p }) ps
 
 no_one : (p : ℕ) (f : ℕ → ℕ) (ps : List ℕ) → is_held p (map (λ q. record { player = q; bought = f q }) ps) ≡ false → Each (λ q. q ≢ p) ps
 no_one p f [] h = tt
