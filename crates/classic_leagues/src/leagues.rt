@@ -51,7 +51,7 @@ impl Leagues {
     /// How many leagues there are.
     pub fn count(&self) -> u32
         ensures value { result ≡ length self.now }
-        ensures most { result ≤ 512 }
+        ensures most { result ≤ most_leagues }
     {
         self.leagues.len() as u32
     }

@@ -43,7 +43,7 @@ impl Cups {
     /// How many cups there are.
     pub fn count(&self) -> u32
         ensures count { result ≡ length self.now }
-        ensures most { result ≤ 32 }
+        ensures most { result ≤ most_cups }
     {
         self.cups.len() as u32
     }

@@ -3,6 +3,7 @@ ghost use Rattle.std.specs.Prelude.{◌≡◌, ◌≢◌, ◌<◌, ◌≤◌, �
 ghost use Rattle.fpl_base.specs.declared.kinds.Chip.TheVariants.{None as NoChip};
 ghost use Rattle.fpl_base.specs.declared.kinds.Position.{Position};
 ghost use Rattle.rule_book.specs.Batch.{HavePositions, AreIncomersThere};
+ghost use Rattle.rule_book.specs.Entries.{most_entries};
 ghost use Rattle.rule_book.specs.Players.{player_of};
 ghost use Rattle.rule_book.specs.EntryRecords.{AreEntryRecords, HasRecords};
 ghost use Rattle.rule_book.specs.History.{Event, in_gameweek};
@@ -80,7 +81,7 @@ impl ManagerBook {
     /// How many entries there are.
     pub fn entries(&self) -> u32
         ensures count { result ≡ length self.now.managers }
-        ensures most { result ≤ 2048 }
+        ensures most { result ≤ most_entries }
     {
         self.managers.len() as u32
     }
@@ -498,7 +499,7 @@ impl ManagerBook {
 
     // Adds an entry behind the others.
     fn add(&mut self, key: Key, name: Name, season: Entry, sales: EntrySales) -> Result<(), Memory>
-        requires room { length self.old.managers < 2048 }
+        requires room { length self.old.managers < most_entries }
         requires fresh { entry_with self.old key ≡ None }
         ensures ok { OnOk result
             (self.new
@@ -564,7 +565,7 @@ impl ManagerBook {
         teams: &[(Gw, Team)],
         sales: &[(Gw, Sale)],
     ) -> Result<(), Memory>
-        requires room { length self.old.managers < 2048 }
+        requires room { length self.old.managers < most_entries }
         requires fresh { entry_with self.old key ≡ None }
         requires records { AreEntryRecords first teams.now sales.now }
         ensures ok { OnOk result

@@ -1,6 +1,7 @@
 // What refuses a call on an entry, before anything is done. No judge takes memory.
 ghost use Rattle.std.specs.Prelude.{◌≡◌, ◌<◌, ◌≤◌, None, length, All, IfSome, IsSome, OnOk};
 ghost use Rattle.rule_book.specs.Batch.{AreIncomersThere};
+ghost use Rattle.rule_book.specs.Entries.{most_entries};
 ghost use Rattle.rule_book.specs.EntryCalls.{in_next};
 ghost use Rattle.rule_book.specs.Players.{player_of};
 ghost use Rattle.rule_book.specs.Refusals.{IsJudged};
@@ -128,7 +129,7 @@ impl ManagerBook {
     /// Whether an entry with this key may be issued: what `issue` refuses for.
     pub fn judge_issue(&self, key: &Key) -> Result<(), Rule>
         ensures judged { IsJudged (issue_refusal self.now key.now) result }
-        ensures room { OnOk result (length self.now.managers < 2048) }
+        ensures room { OnOk result (length self.now.managers < most_entries) }
         ensures fresh { OnOk result (entry_with self.now key.now ≡ None) }
     {
         if self.entries() >= MOST_ENTRIES {
