@@ -1,5 +1,5 @@
 -- What a batch of sales, a lineup and a first squad make of a team, and when they fit the team before.
-use Rattle.std.specs.Prelude.{◌≡◌, ◌≤◌, ◌+◌, ℕ, Bool, true, false, List, [], ◌∷◌, map, Option, Some, None, ◌==◌, ◌||◌, if◌then◌else◌, ⊤}
+use Rattle.std.specs.Prelude.{◌≡◌, ◌≤◌, ◌+◌, ℕ, true, false, List, [], ◌∷◌, map, Option, Some, None, if◌then◌else◌, ⊤}
 use Rattle.fpl_base.specs.declared.kinds.Chip.TheVariants.{None as NoChip}
 use Rattle.rule_book.specs.declared.team.Team.{Team}
 use Rattle.rule_book.specs.declared.transfers.Sale.{Sale}
@@ -23,20 +23,6 @@ GoHeld (s ∷ sales) squad = (is_held s.out squad ≡ true) × GoHeld sales (map
 -- the players in another order, with the prices that they have
 abbrev pub rearranged : List ℕ → List Holding → List Holding
 rearranged players squad = map (λ p. record { player = p; bought = price_among p squad }) players
-
--- who goes is held before the batch, and no earlier swap of it names him as out
-abbrev pub is_among : ℕ → List ℕ → Bool
-is_among p [] = false
-is_among p (q ∷ ps) = (q == p) || is_among p ps
-
-abbrev pub OutsFit : List ℕ → List Holding → List Sale → Type 0
-OutsFit gone squad [] = ⊤
-OutsFit gone squad (s ∷ sales) = (is_held s.out squad ≡ true) × (is_among s.out gone ≡ false) × OutsFit (s.out ∷ gone) squad sales
-
--- who comes is not held before it, and no earlier swap brings him in
-abbrev pub IntosFit : List ℕ → List Holding → List Sale → Type 0
-IntosFit come squad [] = ⊤
-IntosFit come squad (s ∷ sales) = (is_held s.into squad ≡ false) × (is_among s.into come ≡ false) × IntosFit (s.into ∷ come) squad sales
 
 -- a team after a batch
 pub record AfterBatch (sales : List Sale) (t u : Team) : Type 0 where
