@@ -311,10 +311,6 @@ head_past b rest h = elim (cases_Bool (b == 10)) [
   | inr other ↦ rw other refl
 ]
 
-shifted : (i : ℕ) (o : Option ℕ) → option_map (λ n. i + n) (option_map (λ n. 1 + n) o) ≡ option_map (λ n. i + 1 + n) o
-shifted i None = refl
-shifted i (Some n) = ap Some (omega arith)
-
 -- ---- a search that goes on
 
 none_parts : (b : ℕ) (rest : List ℕ) → head_len (b ∷ rest) ≡ None → ((b == 10) ≡ true → empty_line rest ≡ None) × (head_len rest ≡ None)

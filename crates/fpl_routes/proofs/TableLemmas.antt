@@ -1,25 +1,15 @@
 -- One more row of a table.
 use Rattle.std.proofs.Common.{◌≡◌, ◌∙◌, ap, sym, refl, ℕ, List, ◌∷◌, ◌+◌, ◌<◌, length, map, drop, get_or, Bool, true, false, Bor}
 use Rattle.std.proofs.lemmas.List.{at_drop_more}
-use Rattle.std.specs.Prelude.{Result, Ok, Err}
-use Rattle.matchit.specs.Route.{Scan}
-use Rattle.matchit.specs.Router.{InsertsRead}
-use Rattle.matchit.specs.declared.error.InsertError.{InsertError}
 use Rattle.fpl_routes.specs.declared.route.Asks.{Asks}
 use Rattle.fpl_routes.specs.declared.route.Callers.{Callers}
 use Rattle.fpl_routes.specs.declared.route.Method.{Method}
-use Rattle.fpl_routes.specs.declared.routes.Place.{Place}
-use Rattle.fpl_routes.specs.Tables.{Table, added_read, all_added, row_of, with_row}
+use Rattle.fpl_routes.specs.Tables.{Table, all_added, row_of, with_row}
 use Rattle.fpl_routes.specs.Targets.{Row, is_method, rows_at}
 
 -- a row as the code has it
 abbrev pub CodeRow : Type 0
 CodeRow = Method × Bor (List ℕ) × Callers × Asks
-
--- a row that went in makes the table that `added_read` says
-pub inserted : (x : Result Scan InsertError) (value : Place) (old new : Table) → InsertsRead x value old new (Ok tt) → new ≡ added_read x value old
-inserted (Ok s) value old new h = h.1
-inserted (Err e) value old new h = h.0
 
 first_added : (method : Method) (row : Row) (rest : List Row) (rows : Table) (v : Bool) → is_method row.0 method ≡ v
     → all_added rows (rows_at method (row ∷ rest)) ≡ all_added (with_row method row rows) (rows_at method rest)

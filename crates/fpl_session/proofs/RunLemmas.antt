@@ -14,15 +14,3 @@ run_then step a b c [] ns [] us p q = subst (λ (d : _). Run step d ns us c) p q
 run_then step a b c [] ns (t ∷ ts) us p q = absurd p
 run_then step a b c (m ∷ ms) ns [] us p q = absurd p
 run_then step a b c (m ∷ ms) ns (t ∷ ts) us (d, s, p) q = (d, s, run_then step d b c ms ns ts us p q)
-
--- a run of one machine is a run of another that stands for it
-pub run_of : {A B : Type 0} (R : A → B → Type 0) (step : A → Request → List ℕ → A → Type 0) (other : B → Request → List ℕ → B → Type 0)
-    → ((a c : A) (m : Request) (t : List ℕ) (b : B) → R a b → step a m t c → (d : B) × other b m t d × R c d)
-    → (a c : A) (ms : List Request) (ts : List (List ℕ)) (b : B) → R a b → Run step a ms ts c → (d : B) × Run other b ms ts d × R c d
-run_of R step other each a c [] [] b r e = (b, refl, subst (λ (x : _). R x b) (sym e) r)
-run_of R step other each a c [] (t ∷ ts) b r e = absurd e
-run_of R step other each a c (m ∷ ms) [] b r e = absurd e
-run_of R step other each a c (m ∷ ms) (t ∷ ts) b r (x, s, rest) =
-    let (y, o, q) = each a x m t b r s in
-    let (d, run, last) = run_of R step other each x c ms ts y q rest in
-    (d, (y, o, run), last)

@@ -109,3 +109,6 @@ lawful = record {
   priced = ((omega arith, omega arith, omega arith, omega arith), tt);
   few = few_sales;
 }
+
+pub lawful_as : (one two : ℕ) (t u : Team) (s : Sale) → one ≡ 1 → two ≡ 2 → t ≡ before → u ≡ after → s ≡ sale → AreEntryRecords (Some one) ((one, t) ∷ (two, u) ∷ []) ((two, s) ∷ [])
+lawful_as one two t u s p q i j k = rw p (rw q (rw i (rw j (rw k lawful))))

@@ -102,11 +102,6 @@ rise_by_none ds e =
     let fails : leb (get_or pairs k (0, 0)).1 (get_or pairs k (0, 0)).0 ≡ false = fails_before_first p pairs k (0, 0) (omega (arith, length-pairs ds)) in
     leb-false (get_or ds (k + 1) 0) (get_or ds k 0) (rw (pair_at ds k lt) at fails))
 
--- what a map of an option shows
-pub map_none : (o : Option Fixture) → option_map (λ (x : Fixture). x.id) o ≡ None → o ≡ None
-map_none None e = refl
-map_none (Some x) e = cc
-
 pub made_number : (r : Option ℕ) (n : ℕ) → is_some r ≡ true → IfSome r (λ g. g ≡ n) → r ≡ Some n
 made_number None n some is = cc
 made_number (Some g) n some is = ap (λ k. Some k) is

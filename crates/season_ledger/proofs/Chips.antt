@@ -1,11 +1,7 @@
 -- Where a chip was played.
-use Rattle.std.proofs.Common.{◌≡◌, ◌<◌, ◌≤◌, ◌+◌, ◌-◌, ℕ, zero, suc, true, false, Some, None, arith, refl, ap, ◌∙◌}
+use Rattle.std.proofs.Common.{◌≡◌, ◌<◌, ◌≤◌, ◌+◌, ◌-◌, ℕ, zero, suc, true, Some, None, arith, refl, ap, ◌∙◌}
 use Rattle.fpl_base.specs.declared.kinds.Chip.{Chip}
 use Rattle.rule_book.specs.HistoryTransfers.{is_same_chip, chip_among}
-
--- one gameweek more without the chip
-pub among_none : (chips : ℕ → Chip) (chip : Chip) (from k : ℕ) → chip_among chips chip from k ≡ None → is_same_chip chip (chips (from + k)) ≡ false → chip_among chips chip from (suc k) ≡ None
-among_none chips chip from k n f = rw (n, f) refl
 
 -- the first that has it
 pub among_here : (chips : ℕ → Chip) (chip : Chip) (from k : ℕ) → chip_among chips chip from k ≡ None → is_same_chip chip (chips (from + k)) ≡ true → chip_among chips chip from (suc k) ≡ Some (from + k)

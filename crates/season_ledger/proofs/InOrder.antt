@@ -1,5 +1,5 @@
 -- What counts in g: what counts of the gameweeks before it, and then all of g.
-use Rattle.std.proofs.Common.{◌≡◌, ◌<◌, ◌≤◌, ◌+◌, ◌≢◌, ◌⊎◌, ◌∷◌, [], ◌++◌, ℕ, true, false, List, arith, refl, sym, ap, ◌∙◌, subst, inl, inr, nat_eq, nat_le}
+use Rattle.std.proofs.Common.{◌≡◌, ◌<◌, ◌≤◌, ◌+◌, ◌≢◌, ◌⊎◌, ◌∷◌, [], ◌++◌, ℕ, true, false, List, arith, refl, sym, ap, ◌∙◌, subst, inl, inr, nat_eq}
 use Rattle.std.specs.Prelude.{filter}
 use Rattle.std.proofs.lemmas.List.{append-nil, append_assoc}
 use Rattle.std.proofs.lemmas.List.Elements.{filter-append}
@@ -45,7 +45,3 @@ parted_from h (e ∷ es) a k = subst Parted (push_more h e es) (parted_from (h +
 -- in a history the kept events are those of earlier gameweeks that count, then those of the gameweek
 pub kept_in_order : (h : List Event) (g : ℕ) → IsHistory h → kept h g ≡ earlier h g ++ events_of h g
 kept_in_order h g k = (parted_from [] h (record { parts = λ w. refl }) k).parts g
-
--- later gameweeks tell nothing of this one
-abbrev pub upto : List Event → ℕ → List Event
-upto h g = filter (λ e. nat_le e.gw g) h

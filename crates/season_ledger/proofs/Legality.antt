@@ -23,10 +23,6 @@ pub none_each : (g : ℕ) (h : List Event) → NoneAfter g h → Each (λ e. e.g
 none_each g [] n = tt
 none_each g (e ∷ h) n = (n.0, none_each g h n.1)
 
--- one event of gameweek g0 more
-one_more : List Event → ℕ → Deed → List Event
-one_more h g d = h ++ in_gameweek g (d ∷ [])
-
 lt_true : (a b : ℕ) → a < b → nat_lt a b ≡ true
 lt_true a b l = grind (arith, nat_tests)
 

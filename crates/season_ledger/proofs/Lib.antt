@@ -14,7 +14,6 @@ pub mod Frees
 pub mod Placed
 pub mod Season
 pub mod Restored
-pub mod Batches
 pub mod InOrder
 pub mod Pigeons
 pub mod Worked

@@ -15,9 +15,6 @@ use Rattle.rule_book.specs.declared.transfers.Sale.{Sale}
 use Rattle.rule_book.specs.History.Deed.{Swap, Lineup, Play, Cancel}
 use Rattle.season_ledger.proofs.Lists.{last_of-append, last_of-push}
 
-one : ℕ → Deed → List Event
-one g d = record { gw = g; deed = d } ∷ []
-
 has_order-push : (es : List Event) (g : ℕ) (d : Deed) → has_order (es ++ record { gw = g; deed = d } ∷ []) ≡ (has_order es || names_order d)
 has_order-push [] g d = or_false (names_order d)
   where

@@ -14,9 +14,6 @@ use Rattle.rule_book.specs.Elevens.{slot_of, is_used, is_legal_eleven, can_stand
 abbrev pub Stands : Team → List Figures → List ℕ → ℕ → ℕ → Type 0
 Stands team figures before n x = (x ≡ n) ⊎ ((13 ≤ x) × (x ≤ 15) × (can_stand team figures before n x ≡ true))
 
-IsFound : (ℕ → Bool) → ℕ → Type 0
-IsFound p x = (13 ≤ x) × (x ≤ 15) × (p x ≡ true)
-
 found_by : (p : ℕ → Bool) (s : ℕ) (a b c : Bool) → p 13 ≡ a → p 14 ≡ b → p 15 ≡ c → cond a (Some 13) (cond b (Some 14) (cond c (Some 15) None)) ≡ Some s → (13 ≤ s) × (s ≤ 15) × (p s ≡ true)
 found_by p s true b c ea eb ec e =
     let same : 13 ≡ s = cc in (omega arith, omega arith, sym (ap p same) ∙ ea)
