@@ -42,6 +42,9 @@ sum_swap s f (q ∷ ps) t = ⊎_elim
     (λ (n : q ≢ s.out). let u : nat_eq q s.out ≡ false = grind (arith, nat_tests) in let k : 0 + times s.out ps ≡ 1 = rw u at t in
     let i : sum_bought (map (swapped s) (priced f ps)) + f s.out ≡ sum_bought (priced f ps) + s.bought = sum_swap s f ps (omega arith) in rw u (omega arith))
     (cases_eq q s.out)
+
+-- one of a player taken away
+unfoldable pub without : ℕ → List ℕ → List ℕ
 without p [] = []
 without p (q ∷ ps) = cond (nat_eq q p) ps (q ∷ without p ps)
 
