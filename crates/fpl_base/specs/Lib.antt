@@ -3,7 +3,6 @@ pub mod Doors
 pub mod Keeping
 pub mod Letters
 pub mod Moments
-pub mod Plans
 pub mod Rows
 pub mod RuleNumbers
 pub mod Texts

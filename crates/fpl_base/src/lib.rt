@@ -2,9 +2,7 @@
 #![tactic(auto)]
 
 mod amounts;
-mod forms;
 mod ids;
-mod kept;
 mod kinds;
 mod list;
 mod memory;
@@ -12,15 +10,12 @@ mod number;
 mod outside;
 mod real;
 mod records;
-mod rows;
 mod rule;
 mod steps;
 mod text;
 
 pub use amounts::{Gw, Moment, Tenths};
-pub use forms::{FaultySink, FaultySource, MemoryClock, MemorySource, Plan, Quiet, QuietSink};
 pub use ids::{ClubId, CupId, EntryId, FixtureId, LeagueId, PlayerId};
-pub use kept::{FaultyKeeper, MemoryKeeper};
 pub use kinds::{Caller, Chip, Position, Profile};
 pub use list::ListOf;
 pub use memory::{Memory, Refused};

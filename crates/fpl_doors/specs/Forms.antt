@@ -1,7 +1,7 @@
 -- What doors over memory tell.
 use Rattle.std.specs.Prelude.{ℕ, List, [], ◌∷◌, ◌++◌, Some}
 use Rattle.fpl_base.specs.Doors.{Ended}
-use Rattle.fpl_base.specs.Plans.{Pieces, Planned, PlannedSink}
+use Rattle.outside_forms.specs.Plans.{Pieces, Planned, PlannedSink}
 use Rattle.fpl_doors.specs.declared.memory.Past.{Past, Empty, Last'}
 
 -- the connections still to come and those given back, and how many bytes a source gives at a time

@@ -2,10 +2,11 @@
 ghost use Rattle.std.specs.Prelude.{◌≡◌, ◌++◌, ◌∷◌, ◌↔◌, ◌<◌, [], Some, IfOk, IsErr, IsOk, IsTrue, MatchOption, OnErr, map, length};
 ghost use Rattle.fpl_base.specs.Causes.{HasCause};
 ghost use Rattle.fpl_base.specs.Doors.{Opens};
-ghost use Rattle.fpl_base.specs.Plans.{after_call, fails_next};
+ghost use Rattle.outside_forms.specs.Plans.{after_call, fails_next};
 ghost use Rattle.fpl_doors.specs.Forms.{ended_in, ended_with};
 
-use fpl_base::{Doors, Failed, FaultySink, FaultySource, Memory, MemorySource, Plan, Sink, Source};
+use fpl_base::{Doors, Failed, Memory, Sink, Source};
+use outside_forms::{FaultySink, FaultySource, MemorySource, Plan};
 use std::alloc::Global;
 use std::collections::VecDeque;
 use std::marker::Model;
@@ -20,7 +21,7 @@ pub struct MemorySink<'a> {
 }
 
 impl<'a> Model for MemorySink<'a> {
-    ghost use Rattle.fpl_base.specs.Plans.{PlannedSink};
+    ghost use Rattle.outside_forms.specs.Plans.{PlannedSink};
 
     ghost Value = { PlannedSink };
 

@@ -1,5 +1,6 @@
 use crate::{FaultyDoors, MemoryDoors};
-use fpl_base::{Doors, Plan, Sink, Source};
+use fpl_base::{Doors, Sink, Source};
+use outside_forms::Plan;
 use std::alloc::Global;
 
 // Opens the one connection of doors whose call of this number fails, answers what it sends and a mark, and gives it back: how

@@ -14,10 +14,11 @@ mod talk;
 ghost use Rattle.std.specs.Prelude.{◌≡◌, ◌<◌, None};
 
 use fpl_asking::status::MEMORY;
-use fpl_base::{Doors, Keeper, Memory, Quiet, Reading, Shelf, Steps, SystemClock, Text, Writing};
+use fpl_base::{Doors, Keeper, Memory, Reading, Shelf, Steps, SystemClock, Text, Writing};
 use fpl_doors::Listening;
 use fpl_shelves::Disk;
 use fpl_words::{WordFault, Words, words_of};
+use outside_forms::Quiet;
 use season_keeper::FileKeeper;
 use std::alloc::Global;
 use std::io;

@@ -2,9 +2,9 @@
 ghost use Rattle.std.specs.Prelude.{◌≡◌, ◌<◌};
 
 use crate::run::run;
-use fpl_base::{
-    FaultyKeeper, FaultySink, Keeper, Memory, MemoryClock, MemoryKeeper, MemorySource, Moment,
-    Plan, Quiet, Sink, Source, Steps, Text,
+use fpl_base::{Keeper, Memory, Moment, Sink, Source, Steps, Text};
+use outside_forms::{
+    FaultyKeeper, FaultySink, MemoryClock, MemoryKeeper, MemorySource, Plan, Quiet,
 };
 use std::alloc::Global;
 use std::marker::Brand;

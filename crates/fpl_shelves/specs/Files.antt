@@ -2,7 +2,7 @@
 use Rattle.std.specs.Prelude.{ℕ, ◌+◌, Bool, false, true, not, ◌||◌, if◌then◌else◌, List, [], ◌∷◌}
 use Rattle.std.specs.Str.{bytes_eq}
 use Rattle.fpl_base.specs.Causes.{one_more}
-use Rattle.fpl_base.specs.Plans.{Planned, fails_next}
+use Rattle.outside_forms.specs.Plans.{Planned, fails_next}
 
 -- a file has this name
 abbrev pub has_file : List (List ℕ × List ℕ) → List ℕ → Bool

@@ -1,12 +1,13 @@
 // Shelves over memory: a form that never fails, and one that fails at calls that are listed.
 ghost use Rattle.std.specs.Prelude.{◌≡◌, ◌≢◌, ◌≤◌, ◌<◌, ◌↔◌, [], Err, IfOk, IsTrue, MatchOption, Some, false, length, map, true};
-ghost use Rattle.fpl_base.specs.Plans.{after_call};
+ghost use Rattle.outside_forms.specs.Plans.{after_call};
 ghost use Rattle.fpl_base.specs.Shelves.{HasShelfCause};
 ghost use Rattle.fpl_base.specs.declared.outside.ShelfFault.TheVariants as fault;
 ghost use Rattle.fpl_shelves.specs.Files.{bytes_of, faults_of, has_file, missed_after, read_fails};
 
 use crate::LONGEST;
-use fpl_base::{Bytes, FaultySource, Plan, Shelf, ShelfFault, Source};
+use fpl_base::{Bytes, Shelf, ShelfFault, Source};
+use outside_forms::{FaultySource, Plan};
 use std::alloc::Global;
 use std::marker::Model;
 

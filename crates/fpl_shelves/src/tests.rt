@@ -1,5 +1,6 @@
 use crate::{FaultyShelf, MemoryShelf};
-use fpl_base::{Plan, Shelf};
+use fpl_base::Shelf;
+use outside_forms::Plan;
 use std::alloc::Global;
 
 // How many bytes a shelf of two files gives of a name: none at a fault.

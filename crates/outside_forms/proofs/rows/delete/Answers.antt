@@ -1,7 +1,7 @@
 use Rattle.std.proofs.Common.{◌∙◌, ap, sym, subst, refl}
 use Rattle.fpl_base.specs.Keeping.{map_of, KeysRise}
 use Rattle.fpl_base.proofs.RowLemmas.{removed_is, removed_rises, absent_is}
-use Rattle.fpl_base.proofs.rows.delete.Goals as goal
+use Rattle.outside_forms.proofs.rows.delete.Goals as goal
 
 pub returns-then-stands_at-clause-map : goal.returns-then-stands_at-clause-map
 returns-then-stands_at-clause-map c =

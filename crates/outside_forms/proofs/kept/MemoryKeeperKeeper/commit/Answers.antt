@@ -1,7 +1,7 @@
 use Rattle.std.proofs.Common.{◌∙◌, ap, sym, inr}
 use Rattle.fpl_base.specs.Keeping.{applied, map_of}
 use Rattle.fpl_base.proofs.RowLemmas.{stored_is}
-use Rattle.fpl_base.proofs.kept.MemoryKeeperKeeper.commit.Goals as goal
+use Rattle.outside_forms.proofs.kept.MemoryKeeperKeeper.commit.Goals as goal
 
 pub returns-clause-done : goal.returns-clause-done
 returns-clause-done c = λ tells m is.

@@ -1,7 +1,7 @@
 use Rattle.std.proofs.Common.{rules, arith, ◌∙◌, ap, sym}
 use Rattle.fpl_base.specs.Keeping.{applied_one, map_of}
 use Rattle.fpl_base.proofs.RowLemmas.{next_is}
-use Rattle.fpl_base.proofs.kept.apply_backwards.Goals as goal
+use Rattle.outside_forms.proofs.kept.apply_backwards.Goals as goal
 
 pub loop-change-preserved-in-Put : goal.loop-change-preserved-in-Put
 loop-change-preserved-in-Put c =

@@ -3,8 +3,9 @@ ghost use Rattle.std.specs.Prelude.{◌≡◌, ◌≤◌, ◌<◌, ◌+◌, [], 
 ghost use Rattle.fpl_base.specs.Keeping.{KeysRise, applied, map_of};
 ghost use Rattle.fpl_base.specs.declared.records.Op.TheVariants as op;
 
+use crate::Plan;
 use crate::rows::{delete, put};
-use crate::{Bytes, Keeper, KeeperFault, Memory, Op, Plan, RecordKey};
+use fpl_base::{Bytes, Keeper, KeeperFault, Memory, Op, RecordKey};
 use std::alloc::Global;
 use std::marker::Model;
 
@@ -118,7 +119,7 @@ pub struct FaultyKeeper {
 }
 
 impl Model for FaultyKeeper {
-    ghost use Rattle.fpl_base.specs.Plans.{PlannedKeeper};
+    ghost use Rattle.outside_forms.specs.Plans.{PlannedKeeper};
 
     ghost Value = { PlannedKeeper };
 
@@ -142,7 +143,7 @@ impl Keeper for FaultyKeeper {
     ghost use Rattle.std.specs.Prelude.{⊤, ◌≡◌, ◌⊎◌, ◌↔◌, IsTrue, OnOk, OnErr, Err, false};
     ghost use Rattle.std.proofs.Common.{sym, ◌∙◌};
     ghost use Rattle.fpl_base.specs.Keeping.{Map, map_of, KeysRise, HasKeeperCause, applied};
-    ghost use Rattle.fpl_base.specs.Plans.{after_call, fails_next};
+    ghost use Rattle.outside_forms.specs.Plans.{after_call, fails_next};
     ghost use Rattle.fpl_base.specs.declared.outside.KeeperFault.TheVariants as fault;
 
     ghost tells = { λ _. ⊤ };

@@ -3,7 +3,7 @@ use Rattle.std.specs.Prelude.{IsOk}
 use Rattle.std.specs.List.{insert}
 use Rattle.fpl_base.specs.Keeping.{map_of, KeysRise}
 use Rattle.fpl_base.proofs.RowLemmas.{replaced_is, replaced_rises, inserted_is, inserted_rises}
-use Rattle.fpl_base.proofs.rows.put.Goals as goal
+use Rattle.outside_forms.proofs.rows.put.Goals as goal
 
 pub returns-then-stands_at-clause-map : goal.returns-then-stands_at-clause-map
 returns-then-stands_at-clause-map c =

@@ -1,7 +1,7 @@
 use Rattle.std.proofs.Common.{◌≡◌, ◌≤◌, ◌+◌, reverse}
 use Rattle.std.specs.Prelude.{vec_len, vec_capacity}
 use Rattle.fpl_base.specs.Keeping.{KeysRise, applied, map_of}
-use Rattle.fpl_base.proofs.kept.apply_backwards.Given as goal
+use Rattle.outside_forms.proofs.kept.apply_backwards.Given as goal
 
 abbrev pub invariant-loop-change : goal.invariant-loop-change
 invariant-loop-change l =

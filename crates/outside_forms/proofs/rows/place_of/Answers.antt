@@ -2,7 +2,7 @@ use Rattle.std.proofs.Common.{rules}
 use Rattle.std.proofs.lemmas.Fn.{always_returns_same}
 use Rattle.fpl_base.specs.Keeping.{precedes}
 use Rattle.fpl_base.proofs.RowLemmas.{parted}
-use Rattle.fpl_base.proofs.rows.place_of.Goals as goal
+use Rattle.outside_forms.proofs.rows.place_of.Goals as goal
 
 pub returns : goal.returns
 returns c =

@@ -1,7 +1,7 @@
 use Rattle.std.proofs.Common.{◌≡◌, ap, subst}
 use Rattle.std.specs.Prelude.{⊤, IfOk, OnOk, OnErr}
 use Rattle.fpl_base.specs.Keeping.{Map, map_of}
-use Rattle.fpl_base.proofs.kept.FaultyKeeperKeeper.load.Goals as goal
+use Rattle.outside_forms.proofs.kept.FaultyKeeperKeeper.load.Goals as goal
 
 pub returns-clause-gave : goal.returns-clause-gave
 returns-clause-gave c = subst (λ rows. IfOk c.load.result (λ pairs. ⊤ → (m : Map) → m ≡ map_of rows → m ≡ map_of pairs.items)) (ap (λ k. k.records) c.self.view_is) c.load.ensures.gave

@@ -5,7 +5,7 @@ ghost use Rattle.fpl_base.specs.Keeping.{KeysRise, applied_one, is_same_key, map
 ghost use Rattle.fpl_base.specs.Rows.{IsPlace};
 ghost use Rattle.fpl_base.specs.declared.records.Op.TheVariants as op;
 
-use crate::{Bytes, RecordKey};
+use fpl_base::{Bytes, RecordKey};
 
 // Where the record of this key stands, or would stand.
 fn place_of(rows: &[(RecordKey, Bytes)], key: RecordKey) -> usize
