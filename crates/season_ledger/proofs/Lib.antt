@@ -4,6 +4,7 @@ pub mod Counts
 pub mod Kept
 pub mod Swaps
 pub mod Counted
+pub mod Counting
 pub mod Ledger
 pub mod Legality
 pub mod Carry

@@ -1,8 +1,8 @@
 // Free transfers, what the others cost, and the transfers that a table counts.
-ghost use Rattle.std.specs.Prelude.{◌≡◌, ◌<◌, ◌≤◌, ◌+◌, ◌-◌, ◌*◌, ◌==◌, ◌||◌, if◌then◌else◌};
+ghost use Rattle.std.specs.Prelude.{◌≡◌, ◌<◌, ◌≤◌, ◌+◌, ◌-◌, ◌*◌, ◌==◌, ◌&&◌, ◌||◌, nat_le, not, if◌then◌else◌};
 ghost use Rattle.rule_book.specs.FreeTransfers.{free_next, transfer_cost};
 ghost use Rattle.rule_book.specs.HistoryTransfers.{makes_free, free_from, counted_from, is_same_chip, half_of, used_before};
-ghost use Rattle.season_ledger.specs.Rows.{chip_by, used_by};
+ghost use Rattle.season_ledger.specs.Rows.{Rise, chip_by, used_by};
 
 use crate::Row;
 use crate::rows::row_of;
@@ -91,26 +91,34 @@ pub fn cost_of(profile: Profile, rows: &[Row], first: u8, g: u8) -> u32
     }
 }
 
-// The transfers of a gameweek that a table counts.
-fn counted_in(rows: &[Row], first: u8, g: u8) -> u16
+// What a row adds to the transfers of gameweeks 1 to g that a table counts.
+fn counted_row(row: &Row, first: u8, g: u8) -> u16
     ensures { result
-        ≡ (if (g == first) || makes_free (chip_by rows.now g) then 0 else used_by rows.now g) }
+        ≡ (if nat_le row.now.gw g && (nat_le 1 row.now.gw
+        && not ((row.now.gw == first) || makes_free row.now.standing.team.chip))
+        then row.now.standing.made else 0) }
 {
-    let (chip, used) = doings(rows, g);
-    if g == first {
-        return 0;
+    let w = row.gw.get();
+    if w > g || w == first || waives(row.standing.team.chip) {
+        0
+    } else {
+        row.standing.made
     }
-    if waives(chip) { 0 } else { used }
 }
 
 // The transfers of gameweeks 1 to g that a table counts.
 pub fn counted_of(rows: &[Row], first: u8, g: u8) -> u32
+    requires rise { Rise rows.now }
     ensures { result ≡ counted_from (used_by rows.now) (chip_by rows.now) first g }
 {
     let mut sum = 0;
-    for w in 0..g {
-        sum += u32::from(counted_in(rows, first, w + 1));
+    // The gameweek of the last row, which bounds the sum, for the prover.
+    let mut last = 0;
+    for row in rows {
+        sum += u32::from(counted_row(row, first, g));
+        last = row.gw.get();
     }
+    let _ = last;
     sum
 }
 

@@ -1,7 +1,14 @@
-use Rattle.std.proofs.Common.{◌≡◌, ◌*◌, ◌≤◌}
-use Rattle.rule_book.specs.HistoryTransfers.{counted_from}
-use Rattle.season_ledger.specs.Rows.{used_by, chip_by}
+use Rattle.std.proofs.Common.{◌≡◌, ◌<◌, ◌≤◌, ◌*◌, take, drop}
+use Rattle.std.specs.List.{sum_by}
+use Rattle.season_ledger.specs.Rows.{AllAbove, Rise}
+use Rattle.season_ledger.proofs.Counting.{counted_row}
 use Rattle.season_ledger.proofs.transfers.counted_of.Given as goal
 
-abbrev pub invariant-loop-w : goal.invariant-loop-w
-invariant-loop-w l = (l.sum ≤ 65535 * l.w) × (l.sum ≡ counted_from (used_by l.rows) (chip_by l.rows) l.first l.w)
+abbrev pub invariant-loop-row : goal.invariant-loop-row
+invariant-loop-row l = record {
+  value : l.sum ≡ sum_by (counted_row l.first l.g) (take l.row-index l.rows);
+  low : l.last ≤ 38;
+  bound : l.sum ≤ 65535 * l.last;
+  above : 0 < l.last → AllAbove l.last (drop l.row-index l.rows);
+  rise : Rise (drop l.row-index l.rows);
+}
