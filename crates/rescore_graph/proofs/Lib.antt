@@ -6,5 +6,4 @@ pub mod LevelFacts
 pub mod MaxFacts
 pub mod ChangeFacts
 pub mod RemainsFacts
-pub mod KeyFacts
 pub mod HashFacts

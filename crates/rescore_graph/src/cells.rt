@@ -98,12 +98,12 @@ impl<N: Copy + Ord + Hash, V: Drop> Cells<N, V> {
         ensures err { OnErr result (self.new ≡ self.old) }
         ensures keys { keys_of self.new ≡ keys_of self.old }
     {
-        if self.is_dirty(n) {
-            return Ok(false);
-        }
         self.pending.push(n)?;
-        raise_slot(&mut self.slots, n);
-        Ok(true)
+        if raise_slot(&mut self.slots, n) {
+            return Ok(true);
+        }
+        let _ = self.pending.pop();
+        Ok(false)
     }
 
     /// How often a node was evaluated since it was planted; `None` where it is not live.
@@ -183,14 +183,21 @@ fn uproot_slot<N: Copy + Ord + Hash, V: Drop>(slots: &mut HashMap<N, Slot<V>>, n
     let _ = slots.remove(&n);
 }
 
-fn raise_slot<N: Copy + Ord + Hash, V: Drop>(slots: &mut HashMap<N, Slot<V>>, n: N)
+// Makes a live node dirty, and tells whether it was clean.
+fn raise_slot<N: Copy + Ord + Hash, V: Drop>(slots: &mut HashMap<N, Slot<V>>, n: N) -> bool
     requires { IsSome (look N.cmp slots.old.entries n) }
     ensures puts { Puts N.cmp (look N.cmp slots.old.entries) (look N.cmp slots.new.entries) n
         (raise (look N.cmp slots.old.entries n)) }
+    ensures clean { result ≡ not (is_dirty (look N.cmp slots.old.entries n)) }
     ensures keys { keys_of slots.new.entries ≡ keys_of slots.old.entries }
 {
-    if let Some(slot) = slots.get_mut(&n) {
-        slot.dirty = true;
+    match slots.get_mut(&n) {
+        Some(slot) => {
+            let clean = !slot.dirty;
+            slot.dirty = true;
+            clean
+        }
+        None => true,
     }
 }
 

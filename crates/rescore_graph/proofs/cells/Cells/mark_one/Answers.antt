@@ -1,4 +1,3 @@
-use Rattle.std.proofs.Common.{false}
 use Rattle.rescore_graph.specs.States.{look, is_dirty}
 use Rattle.rescore_graph.proofs.WorkFacts.{puts_raised, all_pushed, all_kept, was_dirty}
 use Rattle.rescore_graph.proofs.cells.Cells.mark_one.Goals as goal
