@@ -3,3 +3,4 @@ pub mod CupTests
 pub mod RoundCases
 pub mod RoundFacts
 pub mod WinnerLemmas
+pub mod PlaceFacts

@@ -1,5 +1,5 @@
 -- The winners of each round, and how many rounds there are.
-use Rattle.std.proofs.Common.{ℕ, ◌≡◌, ◌∙◌, refl, sym, ap, subst, ◌≤◌, ◌<◌, ◌+◌, ◌*◌, ◌-◌, ◌/◌, ◌^◌, arith, add-one, length, get_or, slice_index, count_by, nat_le, inl, inr}
+use Rattle.std.proofs.Common.{ℕ, ◌≡◌, ◌∙◌, refl, sym, ap, subst, ◌≤◌, ◌<◌, ◌+◌, ◌*◌, ◌/◌, ◌^◌, arith, add-one, length, get_or, slice_index, count_by, nat_le, inl, inr}
 use Rattle.std.specs.List.{range_with_len}
 use Rattle.std.proofs.Math.Nat.{div-eq_of_lt, div-one, pow-le-pow_right}
 use Rattle.std.proofs.Math.Pow.{pow-lt}
@@ -77,3 +77,7 @@ few_rounds b round tie ((r, lo, hi, e), coins) lt =
           absurd (omega (arith, none))
       | inr le ↦ le
     ]
+
+-- a cup has few slots
+pub most_slots : (b : Bracket) → HasShape b → length b.slots ≤ 1024
+most_slots b ((r, lo, hi, e), coins) = let most : 2 ^ r ≤ 2 ^ 10 = pow-le-pow_right (omega arith) hi in omega (arith, e, most)

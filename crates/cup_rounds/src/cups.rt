@@ -1,11 +1,14 @@
 // The cups of a season.
 ghost use Rattle.std.specs.Prelude.{◌≡◌, ◌≤◌, ◌<◌, ◌+◌, ◌++◌, [], ◌∷◌, length, nat_lt, IfOk, IfSome, OnOk, OnErr, option_copied};
+ghost use Rattle.std.specs.Option.{option_map_or};
 ghost use Rattle.fpl_base.specs.declared.rule.Rule.TheVariants as rule;
 ghost use Rattle.rule_book.specs.CupCalls.{most_cups, is_entrant, cups_of};
 ghost use Rattle.rule_book.specs.Entries.{entry_in};
 ghost use Rattle.rule_book.specs.Refusals.{IsJudgedOrOut, unless};
+ghost use Rattle.cup_rounds.specs.Places.{places_of};
 ghost use Rattle.cup_rounds.specs.Shapes.{HasShape};
 
+use crate::drawn::Drawn;
 use fpl_base::{CupId, EntryId, ListOf, Memory, Refused, Rule};
 use rule_book::Bracket;
 use std::alloc::Global;
@@ -15,7 +18,7 @@ use std::marker::Model;
 /// need, and a coin for each tie. `docs/RULES.md` has this under "Cups".
 #[derive(Drop)]
 pub struct Cups {
-    cups: Vec<Bracket>,
+    cups: Vec<Drawn>,
 }
 
 impl Model for Cups {
@@ -53,7 +56,21 @@ impl Cups {
         ensures there { option_copied result ≡ entry_in self.now c }
         ensures shape { IfSome result (λ b. HasShape b.now) }
     {
-        self.cups.get(c.get() as usize - 1)
+        match self.cups.get(c.get() as usize - 1) {
+            Some(drawn) => Some(drawn.bracket()),
+            None => None,
+        }
+    }
+
+    /// The slots of a cup in which an entry stands, by their places: what stands there, and the place, counted from 0. It
+    /// is found by a search. None where there is no cup of this number.
+    pub fn places(&self, c: CupId, e: EntryId) -> &[(u32, u16)]
+        ensures { result.now ≡ option_map_or (λ b. places_of b.slots e) (entry_in self.now c) [] }
+    {
+        match self.cups.get(c.get() as usize - 1) {
+            Some(drawn) => drawn.places(e),
+            None => &[],
+        }
     }
 
     // Adds a cup behind the others.
@@ -63,7 +80,8 @@ impl Cups {
         ensures ok { OnOk result (self.new ≡ self.old ++ b ∷ []) }
         ensures err { OnErr result (self.new ≡ self.old) }
     {
-        self.cups.push(b)?;
+        let drawn = Drawn::of(*self.cups.allocator(), b)?;
+        self.cups.push(drawn)?;
         Ok(())
     }
 
@@ -110,8 +128,8 @@ fn numbered(number: u32) -> CupId
 }
 
 // Whether an entry stands in a slot of a cup.
-fn stands_in(b: &Bracket, e: EntryId) -> bool
+fn stands_in(b: &Drawn, e: EntryId) -> bool
     ensures { result ≡ is_entrant b.now e }
 {
-    b.slots.as_slice().contains(&e.get())
+    !b.places(e).is_empty()
 }

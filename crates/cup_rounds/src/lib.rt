@@ -3,6 +3,7 @@
 
 mod cups;
 mod draw;
+mod drawn;
 mod laws;
 mod shape;
 mod ties;

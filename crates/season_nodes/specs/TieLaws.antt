@@ -2,15 +2,16 @@
 use Rattle.std.proofs.Common.{◌≡◌, ℕ, zero, suc, ◌+◌, ◌-◌, ◌*◌, ◌/◌, ◌^◌, ◌<◌, ◌≤◌, ◌==◌, Bool, true, false, ◌||◌, cond, ◌⊎◌, inl, inr, ⊎_elim, List, [], ◌∷◌, Option, Some, None, length, refl, sym, ◌∙◌, ap, subst, arith}
 use Rattle.std.specs.List.{slice_get}
 use Rattle.std.specs.Option.{unwrap_or}
-use Rattle.std.proofs.Math.Nat.{div-eq_of_lt, mul-div-le, mul-le-mul_left, pow-le-pow_right}
+use Rattle.std.proofs.Math.Nat.{add-sub_of_le, div-eq_of_lt, mul-div-le, mul-div_cancel_left, mul-le-mul_left, pow-le-pow_right}
+use Rattle.std.proofs.Math.Pow.{pow-lt}
 use Rattle.std.proofs.lemmas.Bool.{cases_lt}
 use Rattle.std.proofs.lemmas.Bool.Decides.{nat_tests}
-use Rattle.std.proofs.lemmas.Nat.{shr-shr, shr_le}
+use Rattle.std.proofs.lemmas.Nat.{pow-add, pow_pos, shr-shr, shr_le}
 use Rattle.std.proofs.lemmas.Option.{slice_get_within}
 use Rattle.rule_book.specs.Entries.{entry_in}
 use Rattle.rule_book.specs.declared.cup.Bracket.{Bracket}
 use Rattle.rescore_graph.specs.Graph.{Among}
-use Rattle.cup_rounds.specs.Shapes.{HasShape, IsTieAfter}
+use Rattle.cup_rounds.specs.Shapes.{IsTieAfter}
 use Rattle.season_nodes.specs.Brackets.{bracket_in, is_in, no_bracket, ties_after}
 
 same_id : (n m : ℕ) → (n == m) ≡ true → n ≡ m
@@ -60,10 +61,19 @@ part_within n r i low =
     let all : w * (n / w) ≤ n = mul-div-le n w in
     omega (arith, part, all)
 
--- a cup has ten rounds at most
-pub most_slots : (bracket : Bracket) → HasShape bracket → length bracket.slots ≤ 1024
-most_slots bracket ((r, lo, hi, e), coins) = let most : 2 ^ r ≤ 2 ^ 10 = pow-le-pow_right (omega arith) hi in omega (arith, e, most)
+-- the slots of a cup are those of its ties in each round that has any
+pub whole_round : (n k s : ℕ) → n ≡ 2 ^ k → 0 < n / 2 ^ s → n ≡ 2 ^ s * (n / 2 ^ s)
+whole_round n k s is some =
+    elim (cases_lt k s) [
+      | inl less ↦ let none : n / 2 ^ s ≡ 0 = div-eq_of_lt (omega (arith, is, pow-lt less)) in absurd (omega (arith, some, none))
+      | inr more ↦
+          let up : s ≤ k = omega (arith, more) in
+          let parts : n ≡ 2 ^ s * 2 ^ (k - s) = is ∙ ap (λ j. 2 ^ j) (sym (add-sub_of_le up)) ∙ pow-add 2 s (k - s) in
+          let half : n / 2 ^ s ≡ 2 ^ (k - s) = ap (λ m. m / 2 ^ s) parts ∙ mul-div_cancel_left (2 ^ (k - s)) (pow_pos s) in
+          parts ∙ ap (λ m. 2 ^ s * m) (sym half)
+    ]
 
+-- a cup has ten rounds at most
 pub none_after : (n r : ℕ) → n ≤ 1024 → 10 ≤ r → n / 2 ^ (r + 1) ≡ 0
 none_after n r few up =
     let long : 11 ≤ r + 1 = omega (arith, up) in

@@ -1,5 +1,6 @@
 // The ties of the cups in the books.
-ghost use Rattle.std.specs.Prelude.{◌≡◌, ◌<◌, ◌≤◌, true, length};
+ghost use Rattle.std.specs.Prelude.{◌≡◌, ◌<◌, ◌≤◌, ◌+◌, ◌*◌, ◌^◌, ℕ, true, length};
+ghost use Rattle.cup_rounds.specs.Places.{places_of};
 ghost use Rattle.rule_book.specs.Cups.{coin_after};
 ghost use Rattle.season_nodes.specs.BookFacts.{facts_of};
 ghost use Rattle.season_nodes.specs.Brackets.{part_of, ties_after};
@@ -8,13 +9,14 @@ ghost use Rattle.season_nodes.specs.declared.nodes.Node.{Node};
 
 use crate::books::Books;
 use cup_rounds::coin;
-use fpl_base::{CupId, Gw};
+use fpl_base::{CupId, EntryId, Gw};
 
 impl Books<'_> {
     /// The slots of the cup of a number: of each the number of its entry, or 0. There are none where there is no such cup.
     pub fn slots(&self, cup: CupId) -> &[u32]
         ensures value { result.now ≡ (bracket_of (facts_of self.now) cup).slots }
         ensures few { length result.now ≤ 1024 }
+        ensures shape { 0 < length result.now → (k : ℕ) × (length result.now ≡ 2 ^ k) }
     {
         match self.cups.get(cup) {
             Some(bracket) => bracket.slots.as_slice(),
@@ -39,6 +41,8 @@ impl Books<'_> {
         ensures value { result ≡ ties_after (bracket_of (facts_of self.now) cup) round }
         ensures few { result ≤ 512 }
         ensures rounds { 0 < result → round < 10 }
+        ensures whole { 0 < result
+            → length (bracket_of (facts_of self.now) cup).slots ≡ 2 ^ (round + 1) * result }
     {
         let slots = self.slots(cup).len();
         if round >= 10 {
@@ -82,6 +86,13 @@ impl Books<'_> {
         let width = 1usize << (round + 1);
         let low = width * place;
         &self.slots(cup)[low..low + width]
+    }
+
+    /// The slots of a cup in which an entry stands, by their places: what stands there, and the place, counted from 0.
+    pub fn places(&self, cup: CupId, entry: EntryId) -> &[(u32, u16)]
+        ensures { result.now ≡ places_of (bracket_of (facts_of self.now) cup).slots entry }
+    {
+        self.cups.places(cup, entry)
     }
 
     /// The coin of a tie of a cup.

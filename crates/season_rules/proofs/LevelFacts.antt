@@ -7,7 +7,8 @@ use Rattle.season_nodes.specs.declared.nodes.Node.TheVariants as node
 use Rattle.season_nodes.specs.Brackets.{no_bracket}
 use Rattle.season_nodes.specs.Season.{IsSeason, SeasonFacts, bracket_of, is_live}
 use Rattle.season_nodes.specs.SeasonLaws.{tie_alive}
-use Rattle.season_nodes.specs.TieLaws.{few_rounds, most_slots}
+use Rattle.cup_rounds.proofs.RoundFacts.{most_slots}
+use Rattle.season_nodes.specs.TieLaws.{few_rounds}
 
 few_case : (b : SeasonFacts) (is : IsSeason b) (c : ℕ) (o : Option Bracket) → entry_in b.cups c ≡ o → length (unwrap_or o no_bracket).slots ≤ 1024
 few_case b is c None at = omega arith

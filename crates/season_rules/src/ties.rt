@@ -2,7 +2,7 @@
 ghost use Rattle.std.specs.Prelude.{◌≡◌, ◌<◌, true, IfOk};
 ghost use Rattle.std.specs.Option.{option_to_list};
 ghost use Rattle.season_nodes.specs.BookFacts.{facts_of};
-ghost use Rattle.season_nodes.specs.Brackets.{is_in, part_of, ties_after};
+ghost use Rattle.season_nodes.specs.Brackets.{ties_after};
 ghost use Rattle.season_nodes.specs.Dependents.{cup_dependents, reached, tie_dependents};
 ghost use Rattle.season_nodes.specs.Season.{bracket_of, inputs_of, is_played, team_if, ties_before};
 ghost use Rattle.season_nodes.specs.declared.nodes.Node.{Node};
@@ -85,42 +85,8 @@ pub(crate) fn tie_inputs(
     Ok(found)
 }
 
-// Whether an entry can reach a tie.
-fn can_reach(books: &Books, entry: EntryId, cup: CupId, round: u8, place: usize) -> bool
-    requires { place < ties_after (bracket_of (facts_of books.now) cup) round }
-    ensures { result ≡ is_in (part_of (bracket_of (facts_of books.now) cup) round place) entry }
-{
-    books.part(cup, round, place).contains(&entry.get())
-}
-
-// The ties of a round of a cup that an entry can reach, each asked for.
-fn reached_of_all(
-    books: &Books,
-    alloc: Global,
-    entry: EntryId,
-    cup: CupId,
-    round: u8,
-) -> Result<Vec<Node>, Memory>
-    ensures { IfOk result (λ ns. ns.items ≡ reached (facts_of books.now) entry cup round) }
-{
-    let mut found = Vec::new(alloc);
-    for place in 0..books.ties(cup, round) {
-        if can_reach(books, entry, cup, round, place) {
-            found.push(Node::Tie(cup, round, place as u16))?;
-        }
-    }
-    Ok(found)
-}
-
-// Whether an entry stands in a slot of a cup.
-fn is_drawn(books: &Books, entry: EntryId, cup: CupId) -> bool
-    ensures { result ≡ is_in (bracket_of (facts_of books.now) cup).slots entry }
-{
-    books.slots(cup).contains(&entry.get())
-}
-
-// The ties of a round of a cup that an entry can reach. Most rounds have none, and most entries stand in no slot, so that is
-// asked first.
+// The ties of a round of a cup that an entry can reach: those to which its slots lead. They come by their places, so a tie
+// that two of them lead to comes twice in a row.
 #[tactic(auto, using(crate::proofs::TieFacts::without_ties))]
 fn reached(
     books: &Books,
@@ -131,13 +97,18 @@ fn reached(
 ) -> Result<Vec<Node>, Memory>
     ensures { IfOk result (λ ns. ns.items ≡ reached (facts_of books.now) entry cup round) }
 {
+    let mut found = Vec::new(alloc);
     if books.ties(cup, round) == 0 {
-        return Ok(Vec::new(alloc));
+        return Ok(found);
     }
-    if !is_drawn(books, entry, cup) {
-        return Ok(Vec::new(alloc));
+    let mut next = 0;
+    for slot in books.places(cup, entry) {
+        let place = slot.1 >> (round + 1);
+        if place >= next {
+            found.push(Node::Tie(cup, round, place))?;
+            next = place + 1;
+        }
     }
-    let found = reached_of_all(books, alloc, entry, cup, round)?;
     Ok(found)
 }
 

@@ -1,6 +1,6 @@
 use Rattle.std.proofs.Common.{◌≤◌, length, sym, subst, rules}
 use Rattle.cup_rounds.specs.Shapes.{HasShape}
-use Rattle.season_nodes.specs.TieLaws.{most_slots}
+use Rattle.cup_rounds.proofs.RoundFacts.{most_slots}
 use Rattle.season_nodes.proofs.books.Books.slots.Goals as goal
 
 pub returns-in-Some-clause-few : goal.returns-in-Some-clause-few
