@@ -175,6 +175,44 @@ module _ (b : SeasonFacts) where
   rows_are : (table : List (ℕ × ℤ)) (match : List Appearance) → with_bonus_rows table match ≡ map (row_of table) (filter (λ a. takes_part a.line) match)
   rows_are table match = map_twice (λ (row : ℕ × ℤ). (row.0, bonus_of table row.1)) (λ a. (a.player, bps_of a.position a.line)) (filter (λ a. takes_part a.line) match)
 
+  -- a bonus of 0 is that of who has none
+  abbrev has_some : ℕ × ℕ → Bool
+  has_some row = nat_le 1 row.1
+
+  none_kept : (u v : Bool) (x : ℕ × ℕ) (rest : List (ℕ × ℕ)) (p : ℕ) → (x.0 == p) ≡ u → cond u (Some x.1) (at_id rest p) ≡ None → (at_id rest p ≡ None → at_id (filter has_some rest) p ≡ None)
+      → at_id (cond v (x ∷ filter has_some rest) (filter has_some rest)) p ≡ None
+  none_kept true v x rest p e none more = absurd (cc)
+  none_kept false true x rest p e none more = ap (λ u. cond u (Some x.1) (at_id (filter has_some rest) p)) e ∙ more none
+  none_kept false false x rest p e none more = more none
+
+  kept_none : (rows : List (ℕ × ℕ)) (p : ℕ) → at_id rows p ≡ None → at_id (filter has_some rows) p ≡ None
+  kept_none [] p none = refl
+  kept_none (x ∷ rest) p none = none_kept (x.0 == p) (has_some x) x rest p refl none (kept_none rest p)
+
+  no_bonus : (n : ℕ) → nat_le 1 n ≡ false → 0 ≡ n
+  no_bonus n e = grind (arith, nat_tests)
+
+  kept_one : (u v : Bool) (x : ℕ × ℕ) (rest : List (ℕ × ℕ)) (p : ℕ) → (x.0 == p) ≡ u → has_some x ≡ v → (u ≡ true → at_id rest p ≡ None)
+      → unwrap_or (at_id (filter has_some rest) p) 0 ≡ unwrap_or (at_id rest p) 0
+      → unwrap_or (at_id (cond v (x ∷ filter has_some rest) (filter has_some rest)) p) 0 ≡ unwrap_or (cond u (Some x.1) (at_id rest p)) 0
+  kept_one true true x rest p e k none more = ap (λ u. unwrap_or (cond u (Some x.1) (at_id (filter has_some rest) p)) 0) e
+  kept_one true false x rest p e k none more = ap (λ o. unwrap_or o 0) (kept_none rest p (none refl)) ∙ no_bonus x.1 k
+  kept_one false true x rest p e k none more = ap (λ u. unwrap_or (cond u (Some x.1) (at_id (filter has_some rest) p)) 0) e ∙ more
+  kept_one false false x rest p e k none more = more
+
+  kept_of : (t : Bool) (table : List (ℕ × ℤ)) (a : Appearance) (others : List Appearance) (p : ℕ) → (a.player ≡ p → at_id (map (row_of table) others) p ≡ None)
+      → unwrap_or (at_id (filter has_some (map (row_of table) others)) p) 0 ≡ unwrap_or (at_id (map (row_of table) others) p) 0
+      → unwrap_or (at_id (filter has_some (map (row_of table) (cond t (a ∷ others) others))) p) 0 ≡ unwrap_or (at_id (map (row_of table) (cond t (a ∷ others) others)) p) 0
+  kept_of true table a others p none more =
+      kept_one (a.player == p) (has_some (row_of table a)) (row_of table a) (map (row_of table) others) p refl refl (λ i. none (same_number a.player p i)) more
+  kept_of false table a others p none more = more
+
+  rows_kept : (table : List (ℕ × ℤ)) (lines : Lines) (p : ℕ) → Distinct lines → unwrap_or (at_id (filter has_some (rows_of table lines)) p) 0 ≡ unwrap_or (at_id (rows_of table lines) p) 0
+  rows_kept table [] p d = refl
+  rows_kept table (row ∷ lines) p d =
+      kept_of (takes_part row.1) table (appearance b.players row) (filter (λ a. takes_part a.line) (map (appearance b.players) lines)) p
+      (λ i. rows_none table lines p (subst (λ x. ¬ Among (players_in lines) x) i d.0)) (rows_kept table lines p d.1)
+
   unwrapped : (t : Bool) (n : ℕ) → unwrap_or (if t then Some n else None) 0 ≡ (if t then n else 0)
   unwrapped true n = refl
   unwrapped false n = refl
@@ -187,7 +225,8 @@ module _ (b : SeasonFacts) where
   finished_case true f p line d e =
       let match = map (appearance b.players) (lines_of b.matches f) in
       let table = standing match in
-      ap (λ rows. unwrap_or (at_id rows p) 0) (rows_are table match)
+      ap (λ rows. unwrap_or (at_id (filter has_some rows) p) 0) (rows_are table match)
+      ∙ rows_kept table (lines_of b.matches f) p d
       ∙ ap (λ o. unwrap_or o 0) (rows_some table (lines_of b.matches f) p line d e)
       ∙ unwrapped (takes_part line) (bonus_of table (bps_of (position_in b.players p) line))
 

@@ -27,7 +27,7 @@ module _ (b : SeasonFacts) where
   abbrev pub gameweek_figures : ℕ → ℕ → Figures
   gameweek_figures p g = figures_in b.profile b.calendar b.players b.matches p g
 
-  -- of a finished fixture those who took part, each with his bonus; of another nobody
+  -- of a finished fixture those who have a bonus, each with it; of another nobody
   abbrev pub bonuses_told : ℕ → List (ℕ × ℕ)
   bonuses_told f =
       if is_finished b.matches f then with_bonus (standing (map (appearance b.players) (lines_of b.matches f))) else []

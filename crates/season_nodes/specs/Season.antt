@@ -102,9 +102,9 @@ bonuses_in (Some (value.Tie winner)) = []
 abbrev pub took_part : (ℕ → LineWorth) → List ℕ → List (ℕ × ℤ)
 took_part worth players = map (λ p. (p, (worth p).bps)) (filter (λ p. nat_le 1 (worth p).minutes) players)
 
--- each of them with his bonus
+-- those of them who have a bonus, each with it
 abbrev pub with_bonus : List (ℕ × ℤ) → List (ℕ × ℕ)
-with_bonus table = map (λ row. (row.0, bonus_of table row.1)) table
+with_bonus table = filter (λ row. nat_le 1 row.1) (map (λ row. (row.0, bonus_of table row.1)) table)
 
 -- the figures of nothing
 abbrev pub no_figures : Figures

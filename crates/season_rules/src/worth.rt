@@ -76,7 +76,7 @@ fn bonus_in(value: Option<&Value>, player: PlayerId) -> u8
     }
 }
 
-/// A player's bonus among those who took part; 0 of one who did not.
+/// A player's bonus among those who have one; 0 of who has none.
 pub fn bonus_among(rows: &[(PlayerId, u8)], player: PlayerId) -> u8
     ensures { result ≡ unwrap_or (at_id rows.now player) 0 }
 {
@@ -88,14 +88,17 @@ pub fn bonus_among(rows: &[(PlayerId, u8)], player: PlayerId) -> u8
     0
 }
 
-// Those who took part, each with his bonus.
+// Those who have a bonus among those who took part, each with it.
 fn with_bonus(alloc: Global, table: &[(PlayerId, i32)]) -> Result<Bonuses, Memory>
     ensures { IfOk result (λ rows. rows ≡ with_bonus table.now) }
 {
     let levels = BonusLevels::of(table);
     let mut rows = Bonuses::new(alloc);
     for row in table {
-        rows.push(row.0, levels.bonus(row.1))?;
+        let bonus = levels.bonus(row.1);
+        if bonus >= 1 {
+            rows.push(row.0, bonus)?;
+        }
     }
     Ok(rows)
 }
