@@ -12,6 +12,9 @@ use std::alloc::{AllocError, AllocFailed, Global};
 
 const MAX_DEPTH: usize = 127;
 
+// So many items have room in a list from its first one on.
+const FIRST_ROOM: usize = 32;
+
 /// Why a text has no tree.
 #[derive(Clone, Copy, Debug, PartialEq, Eq)]
 pub enum ParseFault {
@@ -122,21 +125,33 @@ fn read_items<'a>(
     let mut found = Vec::new(alloc);
     'items: while !reader.take_end_array() {
         let item = read(alloc, reader, depth)?;
-        make_first_room(&mut found)?;
+        make_room(&mut found)?;
         found.push(item)?;
     }
+    give_back(&mut found);
     Ok(found)
 }
 
-// Room for the first item of a list, and for no more: else a list of one item takes the room of four.
+// Room for the first items of a list at once, so that they do not move while it grows.
 #[inline(always)]
-fn make_first_room(found: &mut Vec<Tree<'_>>) -> Result<(), AllocError>
+fn make_room(found: &mut Vec<Tree<'_>>) -> Result<(), AllocError>
     ensures { found.new.items ≡ found.old.items }
 {
     if found.is_empty() {
-        found.reserve_exact(1)
+        found.reserve_exact(FIRST_ROOM)
     } else {
         Ok(())
+    }
+}
+
+// Gives back what a short list leaves of its first room: else a list of one item, which may be three bytes long, keeps it
+// all.
+#[inline(always)]
+fn give_back(found: &mut Vec<Tree<'_>>)
+    ensures { found.new.items ≡ found.old.items }
+{
+    if found.len() < FIRST_ROOM / 2 {
+        found.shrink_to_fit();
     }
 }
 

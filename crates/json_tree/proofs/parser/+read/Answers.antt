@@ -7,7 +7,7 @@ use Rattle.serde_json.specs.Data.{null, boolean, number, string, array, object, 
 use Rattle.serde_json.specs.Read.{of_json, of_items, of_members, converted}
 use Rattle.json_tree.proofs.ReadingLemmas.{converted-array, converted-object, item_read, item_refused, items_over, member_read, member_refused, key_refused, members_over, unmapped}
 use Rattle.json_tree.specs.declared.tree.Tree.{Bool, Null, Number, Text, the_lemmas}
-use Rattle.json_tree.specs.Trees.{members_view, number_view, view}
+use Rattle.json_tree.specs.Trees.{items_view, members_view, number_view, view}
 use Rattle.json_tree.proofs.TreeLemmas.{view-List, view-Object, items_before, items_before-no_items, one_more_item, members_view-push}
 use Rattle.json_tree.proofs.parser.+read.Goals as goal
 
@@ -123,7 +123,7 @@ read_items-items-preserved t c =
       n - 1,
       omega (arith, l.invariant.1),
       l.invariant.2 ∙ ap (parse_map (items_before l.found.items)) turn ∙ one_more_item l.found.items v _
-          ∙ ap (λ vs. parse_map (items_before (vs ++ v ∷ [])) (converted of_items (items p (n - 1) r))) (sym c.make_first_room.ensures)
+          ∙ ap (λ vs. parse_map (items_before (vs ++ v ∷ [])) (converted of_items (items p (n - 1) r))) (sym c.make_room.ensures)
           ∙ ap (λ vs. parse_map (items_before vs) (converted of_items (items p (n - 1) r))) (sym c.in_ok-push.ensures.items),
       omega (arith, l.invariant.3),
     )
@@ -135,6 +135,7 @@ read_items-returns-clause-ok t c =
     let n = l.invariant.0 in
     let r = c.take_end_array.new.self in
     l.invariant.2 ∙ ap (parse_map (items_before l.found.items)) (items_over p n l.reader r l.invariant.1 (grind arith)) ∙ ap (λ ds. Some (ds, r)) (items_before-no_items l.found.items)
+    ∙ ap (λ items. Some (items_view items, r)) (sym c.give_back.ensures)
 
 pub read_members-members-init : goal.read_members-members-init
 read_members-members-init t c =
