@@ -1,6 +1,7 @@
 // The routes of targets.
-ghost use Rattle.std.specs.Prelude.{◌≡◌, ◌≢◌, ◌≤◌, ◌<◌, ℕ, List, [], IfOk, IfNone, IfSome, MatchOption, ◌||◌, OnOk, map, drop, length, slice_index};
+ghost use Rattle.std.specs.Prelude.{◌≡◌, ◌≢◌, ◌≤◌, ◌<◌, ℕ, List, [], IfOk, IfNone, IfSome, MatchOption, None, ◌||◌, OnOk, map, drop, length, slice_index};
 ghost use Rattle.std.specs.Str.{IsUtf8};
+ghost use Rattle.fpl_routes.specs.declared.route.Found.TheVariants as found;
 ghost use Rattle.fpl_routes.specs.Tables.{IsAt, IsNowhere, IsOne, all_added, row_of, table, told, with_row};
 ghost use Rattle.fpl_routes.specs.Targets.{AreIds, IsFound, IsId, IsShaped, after_segment, braces, ids_in, is_method, method_of, own_segment, place_of, rows_at};
 
@@ -116,34 +117,45 @@ impl Routes {
     pub fn find(&self, method: &[u8], target: &[u8]) -> Found
         ensures { IsFound method.now target.now result }
     {
-        let posted = found_at(&self.posted, Method::Post, target);
-        let got = found_at(&self.got, Method::Get, target);
-        let is_posted = posted.is_some();
-        let is_got = got.is_some();
         match method_of(method) {
-            Some(Method::Post) => told(posted, is_posted, is_got),
-            Some(Method::Get) => told(got, is_posted, is_got),
-            None => told(None, is_posted, is_got),
+            Some(Method::Post) => match found_at(&self.posted, Method::Post, target) {
+                Some(at) => served(at),
+                None => told(false, found_at(&self.got, Method::Get, target).is_some()),
+            },
+            Some(Method::Get) => match found_at(&self.got, Method::Get, target) {
+                Some(at) => served(at),
+                None => told(
+                    found_at(&self.posted, Method::Post, target).is_some(),
+                    false,
+                ),
+            },
+            None => {
+                let is_posted = found_at(&self.posted, Method::Post, target).is_some();
+                told(
+                    is_posted,
+                    found_at(&self.got, Method::Get, target).is_some(),
+                )
+            }
         }
     }
 }
 
-// What is told of a target at which a method finds this, and which is served to these two.
-fn told(own: Option<(Route, [u32; 2])>, is_posted: bool, is_got: bool) -> Found
-    ensures { result ≡ told own (is_posted || is_got) }
+// What is told of a target at which the method finds this.
+fn served(at: (Route, [u32; 2])) -> Found
+    ensures { result ≡ found.Route at.0 at.1 }
 {
-    match own {
-        Some(at) => {
-            let ids = at.1;
-            Found::Route { route: at.0, ids }
-        }
-        None => {
-            if is_posted || is_got {
-                Found::Method
-            } else {
-                Found::Unknown
-            }
-        }
+    let ids = at.1;
+    Found::Route { route: at.0, ids }
+}
+
+// What is told of a target at which the method finds nothing, and which is served to these two.
+fn told(is_posted: bool, is_got: bool) -> Found
+    ensures { result ≡ told None (is_posted || is_got) }
+{
+    if is_posted || is_got {
+        Found::Method
+    } else {
+        Found::Unknown
     }
 }
 
