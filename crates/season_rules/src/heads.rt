@@ -73,7 +73,7 @@ fn nets_of<L: Ledger>(
     ensures near { IfOk result (λ nets. All (IsWithin 18000000) nets.items) }
     ensures cost { steps.new ≤ steps.old + length order.now }
 {
-    let mut nets = Vec::new(alloc);
+    let mut nets = Vec::with_capacity(alloc, order.len())?;
     for entry in order {
         nets.push(net_of(books, *entry, gameweek, cells, steps))?;
     }
@@ -218,8 +218,9 @@ fn matches<L: Ledger>(
     ensures near { IfOk result (λ matches. All (λ m. IsWithin 18000000 m.0) matches.items) }
     ensures cost { steps.new ≤ steps.old + 38 }
 {
-    let mut matches = Vec::new(alloc);
-    for round in 0..rounds_of(books, league) {
+    let rounds = rounds_of(books, league);
+    let mut matches = Vec::with_capacity(alloc, usize::from(rounds))?;
+    for round in 0..rounds {
         let gameweek = round_gameweek(books, league, round);
         matches.push(seen(books, league, place, gameweek, cells, steps))?;
     }

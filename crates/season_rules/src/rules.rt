@@ -63,8 +63,9 @@ fn line_dependents(
 fn bonus_dependents(books: &Books, alloc: Global, fixture: FixtureId) -> Result<Vec<Node>, Memory>
     ensures { IfOk result (λ ns. ns.items ≡ bonus_dependents (facts_of books.now) fixture) }
 {
-    let mut found = Vec::new(alloc);
-    for player in books.matches.players_of(fixture) {
+    let players = books.matches.players_of(fixture);
+    let mut found = Vec::with_capacity(alloc, players.len())?;
+    for player in players {
         if let Some(gameweek) = live_gameweek(books, *player, fixture) {
             found.push(Node::PlayerGw(*player, gameweek))?;
         }
@@ -151,8 +152,9 @@ fn gameweek_dependents(
     ensures { IfOk result
         (λ ns. ns.items ≡ gameweek_dependents (holders_in index.now player gameweek) gameweek) }
 {
-    let mut found = Vec::new(alloc);
-    for entry in index.holders(player, gameweek) {
+    let holders = index.holders(player, gameweek);
+    let mut found = Vec::with_capacity(alloc, holders.len())?;
+    for entry in holders {
         found.push(Node::TeamGw(*entry, gameweek))?;
     }
     Ok(found)

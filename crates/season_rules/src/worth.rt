@@ -163,8 +163,9 @@ fn took_part<L: Ledger>(
         table.items ≡ took_part_by (facts_of books.now) (held_values cells.now) fixture) }
     ensures cost { steps.new ≤ steps.old + 64 }
 {
-    let mut table = Vec::new(alloc);
-    for player in books.matches.players_of(fixture) {
+    let players = books.matches.players_of(fixture);
+    let mut table = Vec::with_capacity(alloc, players.len())?;
+    for player in players {
         let worth = worth_in(cells.get(Node::Line(fixture, *player), steps));
         if worth.minutes >= 1 {
             table.push((*player, i32::from(worth.bps)))?;

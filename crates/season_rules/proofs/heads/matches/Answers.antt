@@ -25,14 +25,17 @@ loop-round-preserved g c =
 pub returns-in_err-push-clause-cost : goal.returns-in_err-push-clause-cost
 returns-in_err-push-clause-cost g c =
     let some : 0 < length (order_in c.args.books.now.leagues.now c.args.league) = omega (arith, c.requires) in
-    omega (arith, c.loop-round.invariant.cost, c.seen.ensures.cost, c.loop-round-test.true, c.rounds_of-round-end.ensures.few some)
+    omega (arith, c.loop-round.invariant.cost, c.seen.ensures.cost, c.loop-round-test.true, c.rounds_of-rounds.ensures.few some)
 
 pub returns-clause-few : goal.returns-clause-few
 returns-clause-few g c =
     let some : 0 < length (order_in c.args.books.now.leagues.now c.args.league) = omega (arith, c.requires) in
-    omega (arith, c.loop-round.invariant.long, c.loop-round.auto.round-end, c.rounds_of-round-end.ensures.few some)
+    omega (arith, c.loop-round.invariant.long, c.loop-round.auto.round-end, c.rounds_of-rounds.ensures.few some)
 
 pub returns-clause-cost : goal.returns-clause-cost
 returns-clause-cost g c =
     let some : 0 < length (order_in c.args.books.now.leagues.now c.args.league) = omega (arith, c.requires) in
-    omega (arith, c.loop-round.invariant.cost, c.loop-round.auto.round-end, c.rounds_of-round-end.ensures.few some)
+    omega (arith, c.loop-round.invariant.cost, c.loop-round.auto.round-end, c.rounds_of-rounds.ensures.few some)
+
+pub round_gameweek-gameweek-requires-clause-within : goal.round_gameweek-gameweek-requires-clause-within
+round_gameweek-gameweek-requires-clause-within g c = c.rounds_of-rounds.ensures.inside c.loop-round.round c.loop-round-test.true
