@@ -11,7 +11,7 @@ use Rattle.fpl_base.specs.Keeping.{map_of}
 use Rattle.fpl_base.specs.declared.kinds.Chip.{Chip}
 use Rattle.fpl_base.specs.declared.kinds.Position.{Position}
 use Rattle.fpl_base.specs.declared.kinds.Position.TheVariants.{Keeper}
-use Rattle.record_codec.specs.ItemReading.{is_gameweek}
+use Rattle.record_fields.specs.Ranges.{is_gameweek}
 use Rattle.record_codec.specs.declared.item.Item.{Item}
 use Rattle.record_codec.specs.declared.item.Item.TheVariants as item
 use Rattle.record_codec.specs.declared.slot.Slot.TheVariants as slot

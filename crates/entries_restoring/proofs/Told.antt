@@ -6,7 +6,8 @@ use Rattle.fpl_base.specs.Keeping.{Map, map_of}
 use Rattle.fpl_base.specs.declared.kinds.Position.{Position}
 use Rattle.fpl_base.specs.declared.kinds.Position.TheVariants.{Keeper}
 use Rattle.fpl_base.specs.declared.records.RecordKey.{RecordKey as Key}
-use Rattle.record_codec.specs.ItemReading.{is_gameweek, is_id, item_of, team_in as team_read, transfer_in}
+use Rattle.record_fields.specs.Ranges.{is_gameweek, is_id}
+use Rattle.record_codec.specs.ItemReading.{item_of, team_in as team_read, transfer_in}
 use Rattle.record_codec.specs.Keys.{key_of}
 use Rattle.record_codec.specs.declared.item.Item.{Item}
 use Rattle.record_codec.specs.declared.item.Item.TheVariants as item

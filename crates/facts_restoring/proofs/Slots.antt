@@ -10,11 +10,13 @@ use Rattle.fpl_base.specs.declared.kinds.Profile.{Profile}
 use Rattle.fpl_base.specs.declared.records.RecordKey.{RecordKey}
 use Rattle.rule_book.specs.declared.league.LeagueKind.{LeagueKind}
 use Rattle.season_book.specs.declared.command.Command.{Command}
-use Rattle.record_codec.specs.CommandReading.{command_at, kind_at, moment_at}
-use Rattle.record_codec.specs.ItemReading.{byte_in, long_in, profile_at, short_text_at, club_in, cup_in, entry_in, fixture_in, is_club, is_gameweek, is_id, is_player, item_in, item_of, last_in, league_in, line_in, member_in, player_in, season_in, team_in, transfer_in}
+use Rattle.record_fields.specs.FieldReading.{byte_in, kind_at, long_in, moment_at, profile_at, short_text_at}
+use Rattle.record_fields.specs.Ranges.{is_club, is_gameweek, is_id, is_player}
+use Rattle.record_fields.specs.Reading.{◌>>=◌, ◌then◌, both_at, byte_at, counted, kept, many_at, number_at, whole_of}
+use Rattle.record_codec.specs.CommandReading.{command_at}
+use Rattle.record_codec.specs.ItemReading.{club_in, cup_in, entry_in, fixture_in, item_in, item_of, last_in, league_in, line_in, member_in, player_in, season_in, team_in, transfer_in}
 use Rattle.record_codec.specs.Items.{is_item, key_of_item, slot_of_item}
 use Rattle.record_codec.specs.Keys.{key_of, slot_of}
-use Rattle.record_codec.specs.Reading.{◌>>=◌, ◌then◌, both_at, byte_at, counted, kept, many_at, number_at, whole_of}
 use Rattle.record_codec.specs.declared.item.Item.{Item}
 use Rattle.record_codec.specs.declared.item.Item.TheVariants as item
 use Rattle.record_codec.specs.declared.slot.Slot.{Slot}

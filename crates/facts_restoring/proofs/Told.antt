@@ -11,7 +11,7 @@ use Rattle.rule_book.specs.Calendar.{deadlines_order, first_out_of_order, fixtur
 use Rattle.rule_book.specs.Figures.{line_range}
 use Rattle.rule_book.specs.Players.{player_of}
 use Rattle.season_book.specs.Commands.{has_fixture, has_player}
-use Rattle.record_codec.specs.Commands.{is_between}
+use Rattle.record_fields.specs.Ranges.{is_between}
 use Rattle.record_codec.specs.ItemReading.{item_of}
 use Rattle.record_codec.specs.Items.{key_of_item, slot_of_item}
 use Rattle.record_codec.specs.Keys.{key_of}

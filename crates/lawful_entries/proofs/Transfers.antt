@@ -14,7 +14,7 @@ use Rattle.rule_book.specs.History.{Deed, Event, is_touched}
 use Rattle.rule_book.specs.History.Deed.{First, Swap, Lineup, Play, Cancel}
 use Rattle.rule_book.specs.HistoryTransfers.{is_swap, swaps_in}
 use Rattle.season_book.specs.Book.{Book, EntryFacts, Facts}
-use Rattle.record_codec.specs.Commands.{is_between}
+use Rattle.record_fields.specs.Ranges.{is_between}
 use Rattle.season_records.specs.Records.{transfer_item}
 use Rattle.season_records.proofs.Finds.{at_number}
 use Rattle.season_books.specs.EntryTold.{chip_told, is_first_of, sale_in, sale_told}

@@ -15,7 +15,7 @@ use Rattle.rule_book.specs.CalendarCalls.{fixture_refusal, move_refusal}
 use Rattle.rule_book.specs.MatchFacts.{Lines, MatchFacts, has_facts, is_finished, line_in, line_of, lines_of}
 use Rattle.season_book.specs.Book.{Facts}
 use Rattle.season_book.specs.Commands.{has_club, has_place}
-use Rattle.record_codec.specs.Ranges.{is_place}
+use Rattle.record_fields.specs.Ranges.{is_place}
 use Rattle.season_records.specs.Told.{AreInOrder}
 use Rattle.season_records.proofs.Determined.{found_id, rise_of}
 use Rattle.season_records.proofs.Finds.{found_beside}

@@ -18,7 +18,7 @@ use Rattle.rule_book.specs.MatchFacts.{is_finished, line_of, lines_of, players_i
 use Rattle.rule_book.specs.Players.{most_players, player_of}
 use Rattle.season_book.specs.Book.{Book, Facts}
 use Rattle.season_book.specs.Commands.{has_club, has_fixture, has_player}
-use Rattle.record_codec.specs.Commands.{is_between}
+use Rattle.record_fields.specs.Ranges.{is_between}
 use Rattle.record_codec.specs.ItemReading.{item_of}
 use Rattle.record_codec.specs.Keys.{key_of}
 use Rattle.record_codec.specs.declared.item.Item.{Item}

@@ -14,7 +14,7 @@ use Rattle.rule_book.specs.CalendarCalls.{deadline_refusal}
 use Rattle.season_book.specs.Book.{Facts}
 use Rattle.season_book.specs.Commands.{IsCommand, has_gameweek, new_season}
 use Rattle.season_book.specs.declared.command.Command.TheVariants as command
-use Rattle.record_codec.specs.Commands.{is_between}
+use Rattle.record_fields.specs.Ranges.{is_between}
 use Rattle.lawful_facts.specs.Facts.{AreLawful, IsPlace}
 use Rattle.lawful_facts.specs.Keeping.{MomentsAreLawful, NewSeasonsAreLawful}
 use Rattle.lawful_facts.proofs.Lines.{few_by_id, holds_unless, none_first, not_refused}

@@ -9,7 +9,7 @@ use Rattle.rule_book.specs.MatchFacts.{is_finished, line_of, lines_of}
 use Rattle.rule_book.specs.Players.{most_players, player_of, price_refusal}
 use Rattle.season_book.specs.Book.{Facts}
 use Rattle.season_book.specs.Commands.{has_club, has_fixture, has_player, is_in_locked}
-use Rattle.record_codec.specs.Commands.{is_between}
+use Rattle.record_fields.specs.Ranges.{is_between}
 use Rattle.season_books.specs.SeasonRules.{most_clubs, most_fixtures, most_in_gameweek, most_lines}
 
 -- 1 to 38 gameweeks, no more of them in the first half or locked, and deadlines that rise

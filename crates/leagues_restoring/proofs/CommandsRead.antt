@@ -5,8 +5,9 @@ use Rattle.std.proofs.lemmas.Bool.{and_parts, leb-true, not-true}
 use Rattle.std.proofs.lemmas.Bool.Decides.{nat_tests}
 use Rattle.std.proofs.lemmas.List.Elements.{All-cons}
 use Rattle.std.proofs.lemmas.List.Kept.{AllPairs-cons}
-use Rattle.record_codec.specs.Commands.{club_ids, differ, is_between, is_command}
-use Rattle.record_codec.specs.Fields.{chip_number}
+use Rattle.record_fields.specs.Fields.{chip_number}
+use Rattle.record_fields.specs.Ranges.{is_between}
+use Rattle.record_codec.specs.Commands.{club_ids, differ, is_command}
 use Rattle.rule_book.specs.Ranks.{AllDiffer}
 use Rattle.season_book.specs.Commands.{IsCommand}
 use Rattle.season_book.specs.declared.command.Command.{Command}

@@ -12,8 +12,10 @@ use Rattle.cup_rounds.proofs.RoundFacts.{shape_of_cup}
 use Rattle.fpl_base.specs.Keeping.{KeysRise, Map, applied_one, is_same_key, map_of, precedes}
 use Rattle.fpl_base.specs.declared.records.Op.TheVariants.{Put}
 use Rattle.fpl_base.specs.declared.records.RecordKey.{RecordKey as Key}
-use Rattle.record_codec.specs.Reading.{◌then◌, both_at, byte_at, counted, many_at, number_at, whole_of}
-use Rattle.record_codec.specs.ItemReading.{byte_in, cup_in, is_id, item_in, item_of}
+use Rattle.record_fields.specs.FieldReading.{byte_in}
+use Rattle.record_fields.specs.Ranges.{is_id}
+use Rattle.record_fields.specs.Reading.{◌then◌, both_at, byte_at, counted, many_at, number_at, whole_of}
+use Rattle.record_codec.specs.ItemReading.{cup_in, item_in, item_of}
 use Rattle.record_codec.specs.Keys.{key, key_of}
 use Rattle.record_codec.specs.declared.item.Item.{Item}
 use Rattle.record_codec.specs.declared.item.Item.TheVariants as item

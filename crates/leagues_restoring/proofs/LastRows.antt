@@ -7,9 +7,9 @@ use Rattle.std.proofs.lemmas.Bool.Decides.{nat_tests}
 use Rattle.fpl_base.specs.Keeping.{Map, applied_one, is_same_key, map_of}
 use Rattle.fpl_base.specs.declared.records.Op.TheVariants.{Put}
 use Rattle.fpl_base.specs.declared.records.RecordKey.{RecordKey as Key}
+use Rattle.record_fields.specs.Reading.{◌then◌, number_at, whole_of}
 use Rattle.record_codec.specs.CommandReading.{command_at}
 use Rattle.record_codec.specs.ItemReading.{item_in, item_of, last_in}
-use Rattle.record_codec.specs.Reading.{◌then◌, number_at, whole_of}
 use Rattle.record_codec.specs.Items.{is_item}
 use Rattle.record_codec.specs.Keys.{key_of}
 use Rattle.record_codec.specs.declared.item.Item.{Item}

@@ -6,11 +6,12 @@ use Rattle.std.proofs.lemmas.Bool.Decides.{nat_tests}
 use Rattle.fpl_base.proofs.KeyLemmas.{same_key}
 use Rattle.fpl_base.specs.Keeping.{is_same_key, map_of}
 use Rattle.fpl_base.specs.declared.records.RecordKey.{RecordKey as Key}
+use Rattle.record_fields.specs.Ranges.{is_id}
+use Rattle.record_fields.specs.Reading.{◌>>=◌, kept}
 use Rattle.record_codec.proofs.KeyLaws.{named}
-use Rattle.record_codec.specs.ItemReading.{is_id, item_in, item_of}
+use Rattle.record_codec.specs.ItemReading.{item_in, item_of}
 use Rattle.record_codec.specs.Items.{is_item}
 use Rattle.record_codec.specs.Keys.{key_of, slot_of}
-use Rattle.record_codec.specs.Reading.{◌>>=◌, kept}
 use Rattle.record_codec.specs.declared.item.Item.{Item}
 use Rattle.record_codec.specs.declared.slot.Slot.{Slot}
 use Rattle.record_codec.specs.declared.slot.Slot.TheVariants as slot

@@ -8,9 +8,10 @@ use Rattle.std.proofs.lemmas.List.{get_or-map, get_or_default, length-map}
 use Rattle.std.proofs.lemmas.List.Folds.{list_any_at}
 use Rattle.fpl_base.specs.Keeping.{KeysRise, map_of, precedes}
 use Rattle.fpl_base.specs.declared.records.RecordKey.{RecordKey as Key}
-use Rattle.record_codec.specs.ItemReading.{is_id, item_in, item_of, member_in}
+use Rattle.record_fields.specs.Ranges.{is_id}
+use Rattle.record_fields.specs.Reading.{nothing_at, whole_of}
+use Rattle.record_codec.specs.ItemReading.{item_in, item_of, member_in}
 use Rattle.record_codec.specs.Keys.{key_of}
-use Rattle.record_codec.specs.Reading.{nothing_at, whole_of}
 use Rattle.record_codec.specs.declared.item.Item.{Item}
 use Rattle.record_codec.specs.declared.item.Item.TheVariants as item
 use Rattle.record_codec.specs.declared.slot.Slot.{Slot}

@@ -12,9 +12,10 @@ use Rattle.fpl_base.specs.Keeping.{KeysRise, Map, map_of, precedes}
 use Rattle.fpl_base.specs.declared.records.RecordKey.{RecordKey as Key}
 use Rattle.classic_leagues.specs.Books.{IsLeague, league_of}
 use Rattle.head_to_head.proofs.DrawLemmas.{order_of_all}
-use Rattle.record_codec.specs.ItemReading.{byte_in, is_id, item_of, league_in, long_in, short_text_at}
-use Rattle.record_codec.specs.CommandReading.{kind_at}
-use Rattle.record_codec.specs.Reading.{◌then◌, byte_at, counted, whole_of}
+use Rattle.record_fields.specs.FieldReading.{byte_in, kind_at, long_in, short_text_at}
+use Rattle.record_fields.specs.Ranges.{is_id}
+use Rattle.record_fields.specs.Reading.{◌then◌, byte_at, counted, whole_of}
+use Rattle.record_codec.specs.ItemReading.{item_of, league_in}
 use Rattle.fpl_base.specs.Texts.{is_code, is_name}
 use Rattle.record_codec.specs.Keys.{key_of}
 use Rattle.record_codec.specs.declared.item.Item.{Item}

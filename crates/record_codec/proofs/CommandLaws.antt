@@ -17,12 +17,16 @@ use Rattle.rule_book.specs.declared.line.Line.{Line}
 use Rattle.rule_book.specs.declared.transfers.Swap.{Swap}
 use Rattle.season_book.specs.declared.command.Command.{Command}
 use Rattle.season_book.specs.declared.command.Command.TheVariants as command
-use Rattle.record_codec.specs.Commands.{whole, club_bytes, line_bytes, row_bytes, swap_bytes, bytes_of_command, is_between, is_command}
-use Rattle.record_codec.specs.CommandReading.{whole_in, place_at, flag_at, profile_end_at, position_at, chip_at, kind_at, long_text_at, list_at, player_at, club_at, gameweek_at, moment_at, id_at, line_of, line_at, row_at, swap_of, swap_at, club_row_at, fifteen_at, made, season_at, deadline_at, new_player_at, price_at, new_club_at, gone_at, new_fixture_at, move_at, sheet_at, one_line_at, drop_at, finished_at, new_key_at, squad_at, transfers_at, lineup_at, new_chip_at, cancel_at, new_league_at, join_at, draw_at, new_cup_at, command_at, command_of}
-use Rattle.record_codec.specs.Fields.{byte, or_zero, long_text, listed, flag, profile_end, position_number, chip_number, kind_number}
-use Rattle.record_codec.specs.Ranges.{IsClub, IsPlayer, IsId, IsGameweek, is_place, IsMoment, IsFigure, IsWide, HasRanges, IsCommand}
-use Rattle.record_codec.specs.Reading.{Reader, ◌>>=◌, ◌then◌, kept, numbered}
-use Rattle.record_codec.proofs.FieldLaws.{IsBytes, Taken, Takes, Reads, ReadsLast, at_last, got, byte_reads, u16_reads, u32_reads, u64_reads, both_reads, both_last, meant_reads, kept_reads, numbered_reads, within_reads, gameweek_reads, counted_reads, text_reads, whole_again, whole_takes, refit}
+use Rattle.record_fields.specs.FieldReading.{whole_in, place_at, flag_at, profile_end_at, position_at, chip_at, kind_at, long_text_at, player_at, club_at, gameweek_at, moment_at, id_at}
+use Rattle.record_fields.specs.Fields.{whole, byte, or_zero, long_text, listed, flag, profile_end, position_number, chip_number, kind_number}
+use Rattle.record_fields.specs.ListReading.{list_at, line_of, line_at, row_at, swap_of, swap_at, club_row_at, fifteen_at}
+use Rattle.record_fields.specs.Lists.{club_bytes, line_bytes, row_bytes, swap_bytes}
+use Rattle.record_fields.specs.Ranges.{is_between, IsClub, IsPlayer, IsId, IsGameweek, is_place, IsMoment, IsFigure, IsWide}
+use Rattle.record_fields.specs.Reading.{Reader, ◌>>=◌, ◌then◌, kept, numbered}
+use Rattle.record_fields.proofs.FieldLaws.{IsBytes, Taken, Takes, Reads, ReadsLast, at_last, got, byte_reads, u16_reads, u32_reads, u64_reads, both_reads, both_last, meant_reads, kept_reads, numbered_reads, within_reads, gameweek_reads, counted_reads, text_reads, whole_again, whole_takes, refit}
+use Rattle.record_codec.specs.Commands.{bytes_of_command, is_command}
+use Rattle.record_codec.specs.CommandReading.{made, season_at, deadline_at, new_player_at, price_at, new_club_at, gone_at, new_fixture_at, move_at, sheet_at, one_line_at, drop_at, finished_at, new_key_at, squad_at, transfers_at, lineup_at, new_chip_at, cancel_at, new_league_at, join_at, draw_at, new_cup_at, command_at, command_of}
+use Rattle.record_codec.specs.Ranges.{HasRanges, IsCommand}
 
 -- Members.
 

@@ -12,19 +12,22 @@ use Rattle.fpl_base.specs.declared.kinds.Profile.TheVariants as profile
 use Rattle.fpl_base.specs.declared.records.RecordKey.{RecordKey}
 use Rattle.rule_book.specs.declared.league.LeagueKind.{LeagueKind}
 use Rattle.season_book.specs.declared.command.Command.{Command}
-use Rattle.record_codec.specs.Commands.{is_between}
-use Rattle.record_codec.specs.Fields.{byte, number, or_zero, short_text, profile_number, kind_number}
-use Rattle.record_codec.specs.ItemReading.{byte_in, long_in, short_text_at, byte_place_at, profile_at, pick_at, made_item, season_in, club_in, player_in, fixture_in, line_in, entry_in, team_in, transfer_in, league_in, member_in, cup_in, last_in, item_in, item_of}
-use Rattle.record_codec.specs.Items.{slot_of_item, key_of_item, pick_bytes, league_body, body_of, is_item}
+use Rattle.record_fields.specs.FieldReading.{byte_in, long_in, short_text_at, byte_place_at, profile_at}
+use Rattle.record_fields.specs.Fields.{byte, number, or_zero, short_text, profile_number, kind_number}
+use Rattle.record_fields.specs.ListReading.{pick_at}
+use Rattle.record_fields.specs.Lists.{pick_bytes}
+use Rattle.record_fields.specs.Ranges.{is_between, IsClub, IsPlayer, IsId, IsGameweek, is_place}
+use Rattle.record_fields.specs.Reading.{Reader, ◌>>=◌, kept, numbered, whole_of}
+use Rattle.record_fields.proofs.FieldLaws.{IsBytes, Reads, ReadsLast, at_last, got, byte_reads, u16_reads, u32_reads, u64_reads, both_reads, both_last, within_reads, gameweek_reads, numbered_reads, many_reads, counted_reads, text_reads, nothing_reads, whole_again, whole_takes, refit}
+use Rattle.record_codec.specs.ItemReading.{made_item, season_in, club_in, player_in, fixture_in, line_in, entry_in, team_in, transfer_in, league_in, member_in, cup_in, last_in, item_in, item_of}
+use Rattle.record_codec.specs.Items.{slot_of_item, key_of_item, league_body, body_of, is_item}
 use Rattle.record_codec.specs.Keys.{key_of, slot_of}
-use Rattle.record_codec.specs.Ranges.{IsClub, IsPlayer, IsId, IsGameweek, is_place, HasFieldRanges, IsItem}
-use Rattle.record_codec.specs.Reading.{Reader, ◌>>=◌, kept, numbered, whole_of}
+use Rattle.record_codec.specs.Ranges.{HasFieldRanges, IsItem}
 use Rattle.record_codec.specs.declared.item.Item.{Item}
 use Rattle.record_codec.specs.declared.item.Item.TheVariants as item
 use Rattle.record_codec.specs.declared.slot.Slot.{Slot}
 use Rattle.record_codec.specs.declared.slot.Slot.TheVariants as slot
 use Rattle.record_codec.proofs.CommandLaws.{flag_reads, position_reads, chip_reads, kind_reads, moment_reads, name_len, key_len, code_len, command_reads}
-use Rattle.record_codec.proofs.FieldLaws.{IsBytes, Reads, ReadsLast, at_last, got, byte_reads, u16_reads, u32_reads, u64_reads, both_reads, both_last, within_reads, gameweek_reads, numbered_reads, many_reads, counted_reads, text_reads, nothing_reads, whole_again, whole_takes, refit}
 use Rattle.record_codec.proofs.KeyLaws.{named}
 
 -- Fields.

@@ -5,8 +5,8 @@ use Rattle.fpl_base.specs.declared.kinds.Profile.{Profile}
 use Rattle.fpl_base.specs.declared.kinds.Profile.TheVariants as profile
 use Rattle.season_book.specs.declared.command.Command.{Command}
 use Rattle.season_book.specs.declared.command.Command.TheVariants as command
+use Rattle.record_fields.specs.Fields.{number}
 use Rattle.record_codec.specs.Commands.{bytes_of_command}
-use Rattle.record_codec.specs.Fields.{number}
 use Rattle.record_codec.specs.Items.{body_of}
 use Rattle.record_codec.specs.declared.item.Item.TheVariants as item
 

@@ -1,94 +1,16 @@
 -- Commands of bytes.
-use Rattle.std.specs.Prelude.{ℕ, Bool, true, false, ◌==◌, if◌then◌else◌, List, [], ◌∷◌, length, Option, Some, None}
-use Rattle.std.specs.Int.{w16, w32, w64}
+use Rattle.std.specs.Prelude.{ℕ, ◌==◌, if◌then◌else◌, List, Option, Some, None}
+use Rattle.std.specs.Int.{w32}
 use Rattle.fpl_base.specs.Texts.{is_name, is_key, is_code}
-use Rattle.fpl_base.specs.declared.kinds.Chip.{Chip}
-use Rattle.fpl_base.specs.declared.kinds.Chip.TheVariants as chip
-use Rattle.fpl_base.specs.declared.kinds.Position.{Position}
-use Rattle.fpl_base.specs.declared.kinds.Position.TheVariants as position
-use Rattle.fpl_base.specs.declared.kinds.Profile.{Profile}
-use Rattle.fpl_base.specs.declared.kinds.Profile.TheVariants as profile
-use Rattle.rule_book.specs.declared.league.LeagueKind.{LeagueKind}
-use Rattle.rule_book.specs.declared.league.LeagueKind.TheVariants as kind
-use Rattle.rule_book.specs.declared.line.Line.{Line}
-use Rattle.rule_book.specs.declared.transfers.Swap.{Swap}
 use Rattle.season_book.specs.declared.command.Command.{Command}
 use Rattle.season_book.specs.declared.command.Command.TheVariants as command
+use Rattle.record_fields.specs.FieldReading.{whole_in, place_at, player_at, club_at, gameweek_at, moment_at, id_at, long_text_at, flag_at, profile_end_at, position_at, chip_at, kind_at}
+use Rattle.record_fields.specs.ListReading.{list_at, line_at, row_at, swap_at, club_row_at, fifteen_at}
+use Rattle.record_fields.specs.Reading.{Reader, ◌>>=◌, byte_at, number_at, meant, ◌then◌, kept, whole_of}
 use Rattle.record_codec.specs.Commands.{is_command}
-use Rattle.record_codec.specs.Fields.{flag, profile_number, position_number, chip_number, kind_number}
-use Rattle.record_codec.specs.Reading.{Reader, ◌>>=◌, byte_at, number_at, meant, ◌then◌, counted, kept, within, text_at, numbered, gameweek_of, whole_of}
-
--- Members.
-
-unfoldable pub whole_in : ℕ → ℕ → Reader ℕ
-whole_in least most = within least most (number_at w64)
-
-unfoldable pub place_at : Reader (Option ℕ)
-place_at = meant gameweek_of (number_at w64)
-
-unfoldable pub flag_at : Reader Bool
-flag_at = meant (numbered flag (false ∷ true ∷ [])) byte_at
-
--- what a season command ends with
-unfoldable pub profile_end_at : Reader Profile
-profile_end_at [] = Some (profile.A, [])
-profile_end_at (n ∷ rest) = if n == profile_number profile.B then Some (profile.B, rest) else None
-
-unfoldable pub position_at : Reader Position
-position_at = meant (numbered position_number (position.Keeper ∷ position.Defender ∷ position.Midfielder ∷ position.Forward ∷ [])) byte_at
-
-unfoldable pub chip_at : Reader Chip
-chip_at = meant (numbered chip_number (chip.None ∷ chip.Wildcard ∷ chip.FreeHit ∷ chip.BenchBoost ∷ chip.TripleCaptain ∷ [])) byte_at
-
-unfoldable pub kind_at : Reader LeagueKind
-kind_at = meant (numbered kind_number (kind.Classic ∷ kind.Head ∷ [])) byte_at
-
-unfoldable pub long_text_at : (List ℕ → Bool) → Reader (List ℕ)
-long_text_at test = text_at (number_at w16) test
-
-unfoldable pub list_at : {A : Type 0} → Reader A → Reader (List A)
-list_at each = counted (number_at w16) each
-
-abbrev pub player_at : Reader ℕ
-player_at = whole_in 1 999999
-
-abbrev pub club_at : Reader ℕ
-club_at = whole_in 1 255
-
-abbrev pub gameweek_at : Reader ℕ
-gameweek_at = whole_in 1 38
-
-abbrev pub moment_at : Reader ℕ
-moment_at = whole_in 0 253402300799
-
-abbrev pub id_at : Reader ℕ
-id_at = whole_in 1 4294967295
 
 abbrev pub target_at : Reader ℕ
 target_at = number_at w32
-
--- a line has 28 figures
-abbrev pub line_of : List ℕ → Option Line
-line_of figures = if length figures == 28 then Some (record { figures = figures }) else None
-
-unfoldable pub line_at : Reader Line
-line_at = meant line_of (list_at (whole_in 0 65535))
-
-abbrev pub row_at : Reader (ℕ × Line)
-row_at = player_at then line_at
-
-abbrev pub swap_of : ℕ × ℕ → Option Swap
-swap_of pair = Some (record { out = pair.0; into = pair.1 })
-
-unfoldable pub swap_at : Reader Swap
-swap_at = meant swap_of (player_at then player_at)
-
-abbrev pub club_row_at : Reader (ℕ × List ℕ)
-club_row_at = club_at then long_text_at is_name
-
--- a squad has fifteen players
-unfoldable pub fifteen_at : Reader (List ℕ)
-fifteen_at = meant (kept (λ players. length players == 15)) (list_at player_at)
 
 -- Commands, behind their numbers.
 

@@ -1,33 +1,16 @@
 -- The commands as bytes: the number of a command, the ids of its target, and its members in order.
 use Rattle.std.specs.Prelude.{ℕ, Bool, true, not, ◌&&◌, ◌==◌, nat_le, List, [], ◌∷◌, ◌++◌, length, map}
 use Rattle.std.specs.List.{list_all, list_any}
-use Rattle.std.specs.Int.{w32, w64}
-use Rattle.rule_book.specs.declared.line.Line.{Line}
-use Rattle.rule_book.specs.declared.transfers.Swap.{Swap}
+use Rattle.std.specs.Int.{w32}
 use Rattle.season_book.specs.declared.command.Command.{Command}
 use Rattle.season_book.specs.declared.command.Command.TheVariants as command
-use Rattle.record_codec.specs.Fields.{byte, number, or_zero, long_text, listed, flag, profile_end, position_number, chip_number, kind_number}
-
--- a whole number of a command
-abbrev pub whole : ℕ → List ℕ
-whole n = number w64 n
+use Rattle.record_fields.specs.Fields.{byte, number, whole, or_zero, long_text, listed, flag, profile_end, position_number, chip_number, kind_number}
+use Rattle.record_fields.specs.Lists.{club_bytes, line_bytes, row_bytes, swap_bytes}
+use Rattle.record_fields.specs.Ranges.{is_between}
 
 -- an id of a target
 abbrev pub target : ℕ → List ℕ
 target id = number w32 id
-
--- a club with its name, a line, a player with his line, a transfer
-abbrev pub club_bytes : ℕ × List ℕ → List ℕ
-club_bytes club = whole club.0 ++ long_text club.1
-
-abbrev pub line_bytes : Line → List ℕ
-line_bytes line = listed whole line.figures
-
-abbrev pub row_bytes : ℕ × Line → List ℕ
-row_bytes row = whole row.0 ++ line_bytes row.1
-
-abbrev pub swap_bytes : Swap → List ℕ
-swap_bytes swap = whole swap.out ++ whole swap.into
 
 abbrev pub bytes_of_command : Command → List ℕ
 bytes_of_command (command.Season profile deadlines split clubs) =
@@ -58,10 +41,6 @@ bytes_of_command (command.Draw league order) = byte 21 ++ target league ++ liste
 bytes_of_command (command.Cup start slots coins) = byte 22 ++ whole start ++ listed whole slots ++ listed whole coins
 
 -- Which commands can be ordered. What a member's type says of it is not said again.
-
--- at least this and at most that
-abbrev pub is_between : ℕ → ℕ → ℕ → Bool
-is_between least most n = nat_le least n && nat_le n most
 
 -- no id stands twice
 abbrev pub differ : List ℕ → Bool

@@ -1,40 +1,19 @@
 -- Records of keys and bodies.
-use Rattle.std.specs.Prelude.{ℕ, ◌-◌, Bool, ◌&&◌, if◌then◌else◌, List, [], ◌∷◌, length, Option, None}
+use Rattle.std.specs.Prelude.{ℕ, ◌-◌, ◌&&◌, if◌then◌else◌, List, length, Option, None}
 use Rattle.std.specs.Int.{w16, w32, w64}
 use Rattle.fpl_base.specs.Texts.{is_name, is_key, is_code}
-use Rattle.fpl_base.specs.declared.kinds.Profile.{Profile}
-use Rattle.fpl_base.specs.declared.kinds.Profile.TheVariants as profile
 use Rattle.fpl_base.specs.declared.records.RecordKey.{RecordKey}
-use Rattle.record_codec.specs.Commands.{is_between}
-use Rattle.record_codec.specs.CommandReading.{flag_at, position_at, chip_at, kind_at, moment_at, command_at}
-use Rattle.record_codec.specs.Fields.{profile_number}
+use Rattle.record_fields.specs.FieldReading.{flag_at, position_at, chip_at, kind_at, moment_at, byte_in, long_in, byte_place_at, short_text_at, profile_at}
+use Rattle.record_fields.specs.ListReading.{pick_at}
+use Rattle.record_fields.specs.Ranges.{is_club, is_player, is_id, is_gameweek}
+use Rattle.record_fields.specs.Reading.{Reader, ◌>>=◌, byte_at, number_at, nothing_at, both_at, ◌then◌, many_at, counted, kept, whole_of}
+use Rattle.record_codec.specs.CommandReading.{command_at}
 use Rattle.record_codec.specs.Items.{is_item}
 use Rattle.record_codec.specs.Keys.{slot_of}
-use Rattle.record_codec.specs.Reading.{Reader, ◌>>=◌, byte_at, number_at, nothing_at, meant, both_at, ◌then◌, many_at, counted, kept, within, text_at, numbered, gameweek_of, whole_of}
 use Rattle.record_codec.specs.declared.item.Item.{Item}
 use Rattle.record_codec.specs.declared.item.Item.TheVariants as item
 use Rattle.record_codec.specs.declared.slot.Slot.{Slot}
 use Rattle.record_codec.specs.declared.slot.Slot.TheVariants as slot
-
--- Fields.
-
-unfoldable pub byte_in : ℕ → ℕ → Reader ℕ
-byte_in least most = within least most byte_at
-
-unfoldable pub long_in : ℕ → ℕ → Reader ℕ
-long_in least most = within least most (number_at w32)
-
-unfoldable pub short_text_at : (List ℕ → Bool) → Reader (List ℕ)
-short_text_at test = text_at byte_at test
-
-unfoldable pub byte_place_at : Reader (Option ℕ)
-byte_place_at = meant gameweek_of byte_at
-
-unfoldable pub profile_at : Reader Profile
-profile_at = meant (numbered profile_number (profile.A ∷ profile.B ∷ [])) byte_at
-
-abbrev pub pick_at : Reader (ℕ × ℕ)
-pick_at = long_in 1 999999 then number_at w16
 
 -- Bodies.
 
@@ -94,19 +73,6 @@ cup_in cup =
 unfoldable pub last_in : ℕ → List ℕ → Option Item
 last_in caller =
     made_item (λ x. item.Last caller x.0 x.1.0 x.1.1.0 x.1.1.1) (number_at w64 then number_at w16 then number_at w32 then command_at)
-
--- whether the ids of a slot are in their ranges
-abbrev pub is_club : ℕ → Bool
-is_club n = is_between 1 255 n
-
-abbrev pub is_player : ℕ → Bool
-is_player n = is_between 1 999999 n
-
-abbrev pub is_id : ℕ → Bool
-is_id n = is_between 1 4294967295 n
-
-abbrev pub is_gameweek : ℕ → Bool
-is_gameweek n = is_between 1 38 n
 
 abbrev pub item_in : Slot → List ℕ → Option Item
 item_in slot.Season body = season_in body

@@ -8,8 +8,9 @@ use Rattle.fpl_base.specs.declared.records.RecordKey.{RecordKey}
 use Rattle.rule_book.specs.declared.league.LeagueKind.{LeagueKind}
 use Rattle.rule_book.specs.declared.line.Line.{Line}
 use Rattle.season_book.specs.declared.command.Command.{Command}
+use Rattle.record_fields.specs.Fields.{byte, number, or_zero, short_text, listed, flag, profile_number, position_number, chip_number, kind_number}
+use Rattle.record_fields.specs.Lists.{pick_bytes}
 use Rattle.record_codec.specs.Commands.{bytes_of_command, is_command}
-use Rattle.record_codec.specs.Fields.{byte, number, or_zero, short_text, listed, flag, profile_number, position_number, chip_number, kind_number}
 use Rattle.record_codec.specs.Keys.{key_of}
 use Rattle.record_codec.specs.declared.item.Item.{Item}
 use Rattle.record_codec.specs.declared.item.Item.TheVariants as item
@@ -34,10 +35,6 @@ slot_of_item (item.Last caller number status made command) = slot.Last caller
 -- its key
 abbrev pub key_of_item : Item → RecordKey
 key_of_item i = key_of (slot_of_item i)
-
--- a player of a team with the price at which he was bought
-abbrev pub pick_bytes : ℕ × ℕ → List ℕ
-pick_bytes pick = number w32 pick.0 ++ number w16 pick.1
 
 -- its body: the fields one after another
 abbrev pub season_body : Profile → ℕ → ℕ → List ℕ → List ℕ

@@ -1,10 +1,7 @@
 pub mod CommandReading
 pub mod Commands
-pub mod Fields
-pub mod Given
 pub mod ItemReading
 pub mod Items
 pub mod Keys
 pub mod Laws
 pub mod Ranges
-pub mod Reading

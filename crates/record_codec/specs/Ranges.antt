@@ -1,41 +1,14 @@
 -- The ranges of the values that have types of their own.
-use Rattle.std.specs.Prelude.{◌≡◌, ◌<◌, ◌^◌, ℕ, Bool, true, IsTrue, length, Option, Some, None, ⊤}
+use Rattle.std.specs.Prelude.{◌≡◌, ◌<◌, ◌^◌, IsTrue, length, ⊤}
 use Rattle.std.specs.List.{AllByRecursion}
 use Rattle.fpl_base.specs.Texts.{is_name, is_key, is_code}
-use Rattle.rule_book.specs.declared.line.Line.{Line}
 use Rattle.season_book.specs.declared.command.Command.{Command}
 use Rattle.season_book.specs.declared.command.Command.TheVariants as command
-use Rattle.record_codec.specs.Commands.{is_between, is_command}
+use Rattle.record_fields.specs.Ranges.{is_between, IsClub, IsPlayer, IsId, IsGameweek, is_place, IsMoment, IsFigure, IsWide}
+use Rattle.record_codec.specs.Commands.{is_command}
 use Rattle.record_codec.specs.declared.item.Item.{Item}
 use Rattle.record_codec.specs.declared.item.Item.TheVariants as item
 use Rattle.record_codec.specs.Items.{is_item}
-
--- a club; a player or a fixture; an entry, a league or a cup; a gameweek, and one or none; a moment
-abbrev pub IsClub : ℕ → Type 0
-IsClub n = IsTrue (is_between 1 255 n)
-
-abbrev pub IsPlayer : ℕ → Type 0
-IsPlayer n = IsTrue (is_between 1 999999 n)
-
-abbrev pub IsId : ℕ → Type 0
-IsId n = IsTrue (is_between 1 4294967295 n)
-
-abbrev pub IsGameweek : ℕ → Type 0
-IsGameweek n = IsTrue (is_between 1 38 n)
-
-abbrev pub is_place : Option ℕ → Bool
-is_place None = true
-is_place (Some g) = is_between 1 38 g
-
-abbrev pub IsMoment : ℕ → Type 0
-IsMoment n = IsTrue (is_between 0 253402300799 n)
-
--- a figure or a price; a line: 28 figures
-abbrev pub IsFigure : ℕ → Type 0
-IsFigure n = IsTrue (is_between 0 65535 n)
-
-abbrev pub IsWide : Line → Type 0
-IsWide line = (length line.figures ≡ 28) × AllByRecursion IsFigure line.figures
 
 -- what the types of a command's members say of them
 abbrev pub HasRanges : Command → Type 0

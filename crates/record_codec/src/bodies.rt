@@ -1,21 +1,19 @@
 // The bodies of records, appended to bytes.
 ghost use Rattle.std.specs.Prelude.{[], ◌≡◌, ◌≤◌, IfOk, IsTrue, length};
+ghost use Rattle.record_fields.specs.Fields.{short_text};
 ghost use Rattle.record_codec.specs.Commands.{is_command};
-ghost use Rattle.record_codec.specs.Fields.{short_text};
 ghost use Rattle.record_codec.specs.Items.{body_of, is_item};
 ghost use Rattle.record_codec.specs.Items as bodies;
 
 use crate::Item;
 use crate::commands::append_command;
-use crate::fields::{
-    append_short_text, append_u8, append_u16, append_u32, append_u64, chip_byte, flag_byte,
-    gameweek_byte, kind_byte, position_byte, profile_byte,
-};
-use crate::lists::{
-    append_coins, append_figures, append_moments, append_order, append_picks, append_slots,
-};
 use fpl_base::{
     Bytes, Chip, ClubId, Code, EntryId, Gw, Key, Memory, Moment, Name, PlayerId, Position, Profile,
+};
+use record_fields::{
+    append_coins, append_figures, append_moments, append_order, append_picks, append_short_text,
+    append_slots, append_u8, append_u16, append_u32, append_u64, chip_byte, flag_byte,
+    gameweek_byte, kind_byte, position_byte, profile_byte,
 };
 use rule_book::{Coins, LeagueKind, Line, Slots};
 use season_book::{Command, Moments, Order};

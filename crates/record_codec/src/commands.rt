@@ -1,19 +1,17 @@
 // Commands, appended to bytes.
 ghost use Rattle.std.specs.Prelude.{◌≡◌, ◌≤◌, ◌++◌, OnOk, IsTrue, length};
-ghost use Rattle.record_codec.specs.Commands.{bytes_of_command, is_command, whole};
-ghost use Rattle.record_codec.specs.Fields.{byte, listed, profile_end};
+ghost use Rattle.record_fields.specs.Fields.{whole, byte, listed, profile_end};
+ghost use Rattle.record_codec.specs.Commands.{bytes_of_command, is_command};
 ghost use Rattle.season_book.specs.declared.command.Command.TheVariants as command;
 
-use crate::fields::{
-    append_long_text, append_u8, append_u16, append_u32, append_u64, chip_byte, flag_byte,
-    gameweek_byte, kind_byte, position_byte, profile_byte,
-};
-use crate::lists::{
-    append_clubs, append_line, append_moments, append_rows, append_swaps, append_whole_coins,
-    append_whole_entries, append_whole_players, append_whole_slots,
-};
 use fpl_base::{
     Chip, ClubId, Code, FixtureId, Gw, Key, Memory, Moment, Name, PlayerId, Position, Profile,
+};
+use record_fields::{
+    append_clubs, append_line, append_long_text, append_moments, append_rows, append_swaps,
+    append_u8, append_u16, append_u32, append_u64, append_whole_coins, append_whole_entries,
+    append_whole_players, append_whole_slots, chip_byte, flag_byte, gameweek_byte, kind_byte,
+    position_byte, profile_byte,
 };
 use rule_book::{Coins, LeagueKind, Line, Slots};
 use season_book::{Clubs, Command, Lines, Moments, Order, Swaps};

@@ -3,11 +3,11 @@ ghost use Rattle.std.specs.Prelude.{◌≡◌, IfOk};
 ghost use Rattle.record_codec.specs.CommandReading.{command_of};
 ghost use Rattle.record_codec.specs.ItemReading.{item_of};
 
+use crate::read_commands::command_at;
 use crate::read_items::item_in;
-use crate::reading::Reading;
-use crate::unread::Unread;
 use crate::{Item, Slot};
 use fpl_base::{Memory, RecordKey};
+use record_fields::{Reading, Unread};
 use season_book::Command;
 use std::alloc::Global;
 
@@ -30,7 +30,7 @@ pub fn decode_command(alloc: Global, bytes: &[u8]) -> Result<Option<Command>, Me
     ensures { IfOk result (λ command. command ≡ command_of bytes.now) }
 {
     let mut reading = Reading::of(bytes);
-    match reading.command(alloc) {
+    match command_at(alloc, &mut reading) {
         Ok(command) => {
             if reading.is_done() {
                 Ok(Some(command))

@@ -4,18 +4,12 @@
 mod bodies;
 mod commands;
 mod decoding;
-mod fields;
 mod item;
 mod laws;
-mod lists;
 mod orderable;
 mod read_commands;
-mod read_fields;
 mod read_items;
-mod read_lists;
-mod reading;
 mod slot;
-mod unread;
 mod writing;
 
 pub use decoding::{decode, decode_command};

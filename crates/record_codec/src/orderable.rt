@@ -1,7 +1,8 @@
 // Which commands can be ordered, beyond what the types of their members say.
 ghost use Rattle.std.specs.Prelude.{◌≡◌, ◌==◌, ◌&&◌, nat_le, length};
 ghost use Rattle.std.specs.List.{list_any, list_all};
-ghost use Rattle.record_codec.specs.Commands.{club_ids, differ, is_between, is_command};
+ghost use Rattle.record_fields.specs.Ranges.{is_between};
+ghost use Rattle.record_codec.specs.Commands.{club_ids, differ, is_command};
 
 use fpl_base::{Chip, ClubId, Name};
 use season_book::Command;

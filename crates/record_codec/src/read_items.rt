@@ -1,15 +1,17 @@
 // Records, read from their bodies.
 ghost use Rattle.std.specs.Prelude.{◌≡◌, ◌+◌, ◌==◌, ◌&&◌, nat_le, length};
-ghost use Rattle.record_codec.specs.Given.{IsGiven};
-ghost use Rattle.record_codec.specs.ItemReading.{season_in, club_in, player_in, fixture_in, line_in, entry_in, team_in, transfer_in, league_in, member_in, cup_in, last_in, is_club, is_player, is_id, is_gameweek, item_in};
+ghost use Rattle.record_fields.specs.Given.{IsGiven};
+ghost use Rattle.record_fields.specs.Reading.{kept};
+ghost use Rattle.record_codec.specs.ItemReading.{season_in, club_in, player_in, fixture_in, line_in, entry_in, team_in, transfer_in, league_in, member_in, cup_in, last_in, item_in};
 ghost use Rattle.record_codec.specs.Items.{is_item};
-ghost use Rattle.record_codec.specs.Reading.{kept};
 
 use crate::orderable::is_orderable;
-use crate::reading::Reading;
-use crate::unread::Unread;
+use crate::read_commands::command_at;
 use crate::{Item, Slot};
 use fpl_base::{ClubId, CupId, EntryId, FixtureId, Gw, LeagueId, PlayerId};
+use record_fields::{
+    Reading, Unread, club_id, cup_id, entry_id, fixture_id, gameweek_of, league_id, player_id,
+};
 use rule_book::Line;
 use std::alloc::Global;
 
@@ -261,7 +263,7 @@ fn last_in(alloc: Global, caller: u32, body: &[u8]) -> Result<Item, Unread>
     let number = reading.u64()?;
     let status = reading.u16()?;
     let made = reading.u32()?;
-    let command = reading.command(alloc)?;
+    let command = command_at(alloc, &mut reading)?;
     if !reading.is_done() {
         return Err(Unread::Nothing);
     }
@@ -308,52 +310,4 @@ fn are_as_many(slots: &[u32], coins: &[u8]) -> bool
         ≡ (nat_le (length slots.now) 65535 && length coins.now + 1 == length slots.now) }
 {
     slots.len() <= 65_535 && coins.len() + 1 == slots.len()
-}
-
-fn club_id(n: u32) -> Result<ClubId, Unread>
-    ensures { IsGiven result (kept is_club n) }
-{
-    if n > 255 {
-        return Err(Unread::Nothing);
-    }
-    ClubId::new(n as u8).ok_or(Unread::Nothing)
-}
-
-fn player_id(n: u32) -> Result<PlayerId, Unread>
-    ensures { IsGiven result (kept is_player n) }
-{
-    PlayerId::new(n).ok_or(Unread::Nothing)
-}
-
-fn fixture_id(n: u32) -> Result<FixtureId, Unread>
-    ensures { IsGiven result (kept is_player n) }
-{
-    FixtureId::new(n).ok_or(Unread::Nothing)
-}
-
-fn entry_id(n: u32) -> Result<EntryId, Unread>
-    ensures { IsGiven result (kept is_id n) }
-{
-    EntryId::new(n).ok_or(Unread::Nothing)
-}
-
-fn league_id(n: u32) -> Result<LeagueId, Unread>
-    ensures { IsGiven result (kept is_id n) }
-{
-    LeagueId::new(n).ok_or(Unread::Nothing)
-}
-
-fn cup_id(n: u32) -> Result<CupId, Unread>
-    ensures { IsGiven result (kept is_id n) }
-{
-    CupId::new(n).ok_or(Unread::Nothing)
-}
-
-fn gameweek_of(n: u32) -> Result<Gw, Unread>
-    ensures { IsGiven result (kept is_gameweek n) }
-{
-    if n > 255 {
-        return Err(Unread::Nothing);
-    }
-    Gw::new(n as u8).ok_or(Unread::Nothing)
 }

@@ -9,7 +9,7 @@ use Rattle.std.specs.Prelude.{Decides}
 use Rattle.std.proofs.lemmas.List.Kept.{AllPairs-cons}
 use Rattle.std.proofs.lemmas.Slice.Eq.{slice_eq-Decides}
 use Rattle.fpl_base.specs.declared.kinds.Position.{Position}
-use Rattle.record_codec.specs.Commands.{is_between}
+use Rattle.record_fields.specs.Ranges.{is_between}
 use Rattle.rule_book.specs.declared.team.Pick.{Pick}
 use Rattle.rule_book.specs.Batch.{AreDifferent}
 use Rattle.rule_book.specs.EntryRecords.{IsPriced, SameHoldings, price_among}

@@ -5,10 +5,11 @@ use Rattle.std.proofs.lemmas.Bool.{and_parts, cases_Bool, eqb-true, or_parts}
 use Rattle.fpl_base.specs.Keeping.{Map, is_same_key, map_of}
 use Rattle.fpl_base.specs.declared.kinds.Chip.{Chip}
 use Rattle.fpl_base.specs.declared.records.RecordKey.{RecordKey as Key}
-use Rattle.record_codec.specs.ItemReading.{entry_in, is_gameweek, is_id, item_of, team_in as team_read, transfer_in}
+use Rattle.record_fields.specs.Ranges.{is_gameweek, is_id}
+use Rattle.record_fields.specs.Reading.{◌>>=◌, kept}
+use Rattle.record_codec.specs.ItemReading.{entry_in, item_of, team_in as team_read, transfer_in}
 use Rattle.record_codec.specs.Items.{is_item}
 use Rattle.record_codec.specs.Keys.{key, key_of}
-use Rattle.record_codec.specs.Reading.{◌>>=◌, kept}
 use Rattle.record_codec.specs.declared.item.Item.{Item}
 use Rattle.record_codec.specs.declared.item.Item.TheVariants as item
 use Rattle.record_codec.specs.declared.slot.Slot.{Slot}

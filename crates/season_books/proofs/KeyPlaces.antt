@@ -4,7 +4,7 @@ use Rattle.std.proofs.Math.Seq.{take-append_seam}
 use Rattle.std.proofs.lemmas.Bool.Decides.{nat_tests}
 use Rattle.std.proofs.lemmas.Slice.Eq.{bytes_eq-Decides}
 use Rattle.fpl_base.specs.declared.records.RecordKey.{RecordKey}
-use Rattle.record_codec.specs.Fields.{short_text}
+use Rattle.record_fields.specs.Fields.{short_text}
 use Rattle.record_codec.specs.ItemReading.{item_of}
 use Rattle.record_codec.specs.Items.{body_of, entry_body}
 use Rattle.record_codec.specs.Laws.{IsBytes}

@@ -7,7 +7,7 @@ use Rattle.std.proofs.lemmas.Bool.{and_parts, not-false, not-true, or_cases, eqb
 use Rattle.fpl_base.specs.Keeping.{Map}
 use Rattle.fpl_base.specs.declared.kinds.Chip.{Chip}
 use Rattle.fpl_base.specs.declared.kinds.Chip.TheVariants.{None as NoChip, Wildcard, FreeHit, BenchBoost, TripleCaptain}
-use Rattle.record_codec.specs.Commands.{is_between}
+use Rattle.record_fields.specs.Ranges.{is_between}
 use Rattle.rule_book.specs.declared.team.Team.{Team}
 use Rattle.rule_book.specs.declared.transfers.Sale.{Sale}
 use Rattle.rule_book.specs.EntryCalls.{transfer_limit}

@@ -6,7 +6,8 @@ use Rattle.fpl_base.specs.declared.kinds.Chip.{Chip}
 use Rattle.fpl_base.specs.declared.kinds.Chip.TheVariants.{None as NoChip}
 use Rattle.fpl_base.specs.declared.kinds.Position.{Position}
 use Rattle.fpl_base.specs.declared.kinds.Position.TheVariants.{Keeper}
-use Rattle.record_codec.specs.Commands.{differ, is_between}
+use Rattle.record_fields.specs.Ranges.{is_between}
+use Rattle.record_codec.specs.Commands.{differ}
 use Rattle.record_codec.specs.declared.item.Item.{Item}
 use Rattle.record_codec.specs.declared.item.Item.TheVariants as item
 use Rattle.record_codec.specs.declared.slot.Slot.TheVariants as slot

@@ -2,7 +2,7 @@
 ghost use Rattle.std.specs.Prelude.{◌≡◌, ◌==◌, IfOk, map};
 ghost use Rattle.std.specs.List.{list_any};
 ghost use Rattle.fpl_base.specs.Keeping.{map_of};
-ghost use Rattle.record_codec.specs.Commands.{is_between};
+ghost use Rattle.record_fields.specs.Ranges.{is_between};
 ghost use Rattle.rule_book.specs.HistoryTransfers.{half_of, is_same_chip, makes_free};
 ghost use Rattle.rule_book.specs.Positions.{keepers, defenders, midfielders, forwards};
 ghost use Rattle.rule_book.specs.Squads.{has_squad_shape};

@@ -3,7 +3,7 @@ use Rattle.std.specs.Prelude.{◌<◌, ◌^◌, ℕ, List, IsTrue}
 use Rattle.fpl_base.specs.Texts.{is_name}
 use Rattle.rule_book.specs.declared.line.Line.{Line}
 use Rattle.rule_book.specs.declared.transfers.Swap.{Swap}
-use Rattle.record_codec.specs.Ranges.{IsClub, IsPlayer, IsWide}
+use Rattle.record_fields.specs.Ranges.{IsClub, IsPlayer, IsWide}
 
 -- a club with its name
 abbrev pub IsClubNamed : ℕ × List ℕ → Type 0

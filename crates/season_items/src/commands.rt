@@ -2,9 +2,8 @@
 ghost use Rattle.std.specs.Prelude.{◌≡◌, ◌<◌, ◌^◌, IsTrue, length};
 ghost use Rattle.std.specs.List.{AllByRecursion};
 ghost use Rattle.fpl_base.specs.Texts.{is_code, is_name};
-ghost use Rattle.record_codec.specs.Commands.{is_between};
-ghost use Rattle.record_codec.specs.Ranges.{HasRanges, is_place};
-ghost use Rattle.record_codec.specs.Ranges.{IsClub, IsFigure, IsGameweek, IsMoment, IsPlayer, IsWide};
+ghost use Rattle.record_fields.specs.Ranges.{IsClub, IsFigure, IsGameweek, IsMoment, IsPlayer, IsWide, is_between, is_place};
+ghost use Rattle.record_codec.specs.Ranges.{HasRanges};
 ghost use Rattle.season_items.specs.Things.{IsClubNamed};
 
 use crate::{fields, lists};

@@ -1,7 +1,7 @@
 // Laws on single values: each type tells the range of what it holds. What a body looks at is for the prover.
 ghost use Rattle.std.specs.Prelude.{◌<◌, ◌^◌, IsTrue};
 ghost use Rattle.fpl_base.specs.Texts.{is_code, is_key, is_name};
-ghost use Rattle.record_codec.specs.Ranges.{IsClub, IsFigure, IsGameweek, IsId, IsMoment, IsPlayer, is_place};
+ghost use Rattle.record_fields.specs.Ranges.{IsClub, IsFigure, IsGameweek, IsId, IsMoment, IsPlayer, is_place};
 
 use fpl_base::{
     ClubId, Code, CupId, EntryId, FixtureId, Gw, Key, LeagueId, Moment, Name, PlayerId,

@@ -2,9 +2,9 @@
 ghost use Rattle.std.specs.Prelude.{◌≡◌, ◌<◌, ◌^◌, IsTrue, length};
 ghost use Rattle.std.specs.List.{AllByRecursion};
 ghost use Rattle.fpl_base.specs.Texts.{is_key, is_name};
+ghost use Rattle.record_fields.specs.Ranges.{IsClub, IsGameweek, IsId, IsMoment, IsPlayer, is_place};
 ghost use Rattle.record_codec.specs.Items.{is_item};
-ghost use Rattle.record_codec.specs.Ranges.{HasFieldRanges, HasRanges, IsItem, is_place};
-ghost use Rattle.record_codec.specs.Ranges.{IsClub, IsGameweek, IsId, IsMoment, IsPlayer};
+ghost use Rattle.record_codec.specs.Ranges.{HasFieldRanges, HasRanges, IsItem};
 ghost use Rattle.season_items.specs.Things.{IsBelow32, IsByte, IsPick};
 
 use crate::commands::keeps_command_ranges;

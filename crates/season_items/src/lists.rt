@@ -1,8 +1,7 @@
 // Laws on lists: each thing in a list has the range of its type.
 ghost use Rattle.std.specs.Prelude.{IsTrue};
 ghost use Rattle.std.specs.List.{AllByRecursion};
-ghost use Rattle.record_codec.specs.Commands.{is_between};
-ghost use Rattle.record_codec.specs.Ranges.{IsFigure, IsId, IsMoment, IsPlayer, IsWide};
+ghost use Rattle.record_fields.specs.Ranges.{IsFigure, IsId, IsMoment, IsPlayer, IsWide, is_between};
 ghost use Rattle.season_items.specs.Things.{IsBelow32, IsByte, IsClubNamed, IsPick, IsRow, IsSwap};
 
 use crate::fields;

@@ -1,6 +1,6 @@
 use Rattle.std.proofs.Common.{take}
 use Rattle.std.specs.List.{All}
-use Rattle.record_codec.specs.Ranges.{IsMoment}
+use Rattle.record_fields.specs.Ranges.{IsMoment}
 use Rattle.season_items.proofs.lists.moments.Given as goal
 
 abbrev pub invariant-moments : goal.invariant-moments

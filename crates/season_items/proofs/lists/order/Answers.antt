@@ -1,4 +1,4 @@
-use Rattle.record_codec.specs.Ranges.{IsId}
+use Rattle.record_fields.specs.Ranges.{IsId}
 use Rattle.season_items.proofs.Each.{all_of_them, one_more}
 use Rattle.season_items.proofs.lists.order.Goals as goal
 

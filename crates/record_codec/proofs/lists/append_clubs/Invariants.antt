@@ -1,6 +1,0 @@
-use Rattle.std.proofs.Common.{◌≡◌, ◌++◌, take, flat_map}
-use Rattle.record_codec.specs.Commands.{club_bytes}
-use Rattle.record_codec.proofs.lists.append_clubs.Given as goal
-
-abbrev pub invariant-clubs : goal.invariant-clubs
-invariant-clubs l = l.bytes.items ≡ l.fn.bytes.items ++ flat_map club_bytes (take l.club-index l.fn.clubs)

@@ -1,6 +1,0 @@
-use Rattle.std.proofs.Common.{◌≡◌, ◌++◌, take, flat_map}
-use Rattle.record_codec.specs.Fields.{byte}
-use Rattle.record_codec.proofs.lists.append_coins.Given as goal
-
-abbrev pub invariant-coins : goal.invariant-coins
-invariant-coins l = l.bytes.items ≡ l.fn.bytes.items ++ flat_map byte (take l.coin-index l.fn.coins)

@@ -1,7 +1,0 @@
-use Rattle.std.proofs.Common.{◌≡◌, ◌++◌, take, flat_map}
-use Rattle.std.specs.Int.{w64}
-use Rattle.record_codec.specs.Fields.{number}
-use Rattle.record_codec.proofs.lists.append_moments.Given as goal
-
-abbrev pub invariant-moments : goal.invariant-moments
-invariant-moments l = l.bytes.items ≡ l.fn.bytes.items ++ flat_map (number w64) (take l.moment-index l.fn.moments)

@@ -1,7 +1,0 @@
-use Rattle.std.proofs.Common.{◌≡◌, ◌++◌, take, flat_map}
-use Rattle.std.specs.Int.{w32}
-use Rattle.record_codec.specs.Fields.{number}
-use Rattle.record_codec.proofs.lists.append_order.Given as goal
-
-abbrev pub invariant-entries : goal.invariant-entries
-invariant-entries l = l.bytes.items ≡ l.fn.bytes.items ++ flat_map (number w32) (take l.entry-index l.fn.entries)

@@ -1,6 +1,0 @@
-use Rattle.std.proofs.Common.{◌≡◌, ◌++◌, take, flat_map}
-use Rattle.record_codec.specs.Items.{pick_bytes}
-use Rattle.record_codec.proofs.lists.append_picks.Given as goal
-
-abbrev pub invariant-picks : goal.invariant-picks
-invariant-picks l = l.bytes.items ≡ l.fn.bytes.items ++ flat_map pick_bytes (take l.pick-index l.fn.picks)

@@ -1,6 +1,0 @@
-use Rattle.std.proofs.Common.{◌≡◌, ◌++◌, take, flat_map}
-use Rattle.record_codec.specs.Commands.{swap_bytes}
-use Rattle.record_codec.proofs.lists.append_swaps.Given as goal
-
-abbrev pub invariant-swaps : goal.invariant-swaps
-invariant-swaps l = l.bytes.items ≡ l.fn.bytes.items ++ flat_map swap_bytes (take l.swap-index l.fn.swaps)

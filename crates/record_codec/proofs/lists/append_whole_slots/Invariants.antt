@@ -1,6 +1,0 @@
-use Rattle.std.proofs.Common.{◌≡◌, ◌++◌, take, flat_map}
-use Rattle.record_codec.specs.Commands.{whole}
-use Rattle.record_codec.proofs.lists.append_whole_slots.Given as goal
-
-abbrev pub invariant-slots : goal.invariant-slots
-invariant-slots l = l.bytes.items ≡ l.fn.bytes.items ++ flat_map whole (take l.slot-index l.fn.slots)

@@ -1,7 +1,0 @@
-use Rattle.record_codec.specs.ItemReading.{pick_at}
-use Rattle.record_codec.specs.Reading.{many_at}
-use Rattle.record_codec.proofs.Loops.{Fills}
-use Rattle.record_codec.proofs.reading.Reading.picks.Given as goal
-
-abbrev pub invariant-picks : goal.invariant-picks
-invariant-picks l = Fills pick_at l.picks 15 l.place l.self (many_at pick_at 15 l.fn.self)

@@ -1,7 +1,0 @@
-use Rattle.record_codec.specs.CommandReading.{whole_in}
-use Rattle.record_codec.specs.Reading.{many_at}
-use Rattle.record_codec.proofs.Loops.{Fills}
-use Rattle.record_codec.proofs.reading.Reading.whole_figures.Given as goal
-
-abbrev pub invariant-figures : goal.invariant-figures
-invariant-figures l = Fills (whole_in 0 65535) l.figures 28 l.place l.self (many_at (whole_in 0 65535) 28 l.fn.self)

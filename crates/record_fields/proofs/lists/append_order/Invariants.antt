@@ -1,0 +1,7 @@
+use Rattle.std.proofs.Common.{◌≡◌, ◌++◌, take, flat_map}
+use Rattle.std.specs.Int.{w32}
+use Rattle.record_fields.specs.Fields.{number}
+use Rattle.record_fields.proofs.lists.append_order.Given as goal
+
+abbrev pub invariant-entries : goal.invariant-entries
+invariant-entries l = l.bytes.items ≡ l.fn.bytes.items ++ flat_map (number w32) (take l.entry-index l.fn.entries)

@@ -1,0 +1,6 @@
+use Rattle.std.proofs.Common.{◌≡◌, ◌++◌, take, flat_map}
+use Rattle.record_fields.specs.Lists.{row_bytes}
+use Rattle.record_fields.proofs.lists.append_rows.Given as goal
+
+abbrev pub invariant-rows : goal.invariant-rows
+invariant-rows l = l.bytes.items ≡ l.fn.bytes.items ++ flat_map row_bytes (take l.row-index l.fn.rows)

@@ -1,0 +1,7 @@
+use Rattle.std.proofs.Common.{◌≡◌, ◌++◌, take, flat_map}
+use Rattle.std.specs.Int.{w32}
+use Rattle.record_fields.specs.Fields.{number}
+use Rattle.record_fields.proofs.lists.append_slots.Given as goal
+
+abbrev pub invariant-slots : goal.invariant-slots
+invariant-slots l = l.bytes.items ≡ l.fn.bytes.items ++ flat_map (number w32) (take l.slot-index l.fn.slots)

@@ -1,0 +1,6 @@
+use Rattle.std.proofs.Common.{◌≡◌, ◌++◌, take, flat_map}
+use Rattle.record_fields.specs.Lists.{swap_bytes}
+use Rattle.record_fields.proofs.lists.append_swaps.Given as goal
+
+abbrev pub invariant-swaps : goal.invariant-swaps
+invariant-swaps l = l.bytes.items ≡ l.fn.bytes.items ++ flat_map swap_bytes (take l.swap-index l.fn.swaps)

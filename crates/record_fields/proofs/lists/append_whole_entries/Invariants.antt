@@ -1,0 +1,6 @@
+use Rattle.std.proofs.Common.{◌≡◌, ◌++◌, take, flat_map}
+use Rattle.record_fields.specs.Fields.{whole}
+use Rattle.record_fields.proofs.lists.append_whole_entries.Given as goal
+
+abbrev pub invariant-entries : goal.invariant-entries
+invariant-entries l = l.bytes.items ≡ l.fn.bytes.items ++ flat_map whole (take l.entry-index l.fn.entries)

@@ -1,0 +1,6 @@
+use Rattle.std.proofs.Common.{◌≡◌, ◌++◌, take, flat_map}
+use Rattle.record_fields.specs.Fields.{whole}
+use Rattle.record_fields.proofs.lists.append_whole_players.Given as goal
+
+abbrev pub invariant-players : goal.invariant-players
+invariant-players l = l.bytes.items ≡ l.fn.bytes.items ++ flat_map whole (take l.player-index l.fn.players)

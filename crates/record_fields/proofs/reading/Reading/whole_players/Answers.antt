@@ -1,0 +1,16 @@
+use Rattle.std.proofs.lemmas.Result.{err_from_is_err_and}
+use Rattle.record_fields.specs.FieldReading.{player_at}
+use Rattle.record_fields.specs.Reading.{many_at}
+use Rattle.record_fields.proofs.Loops.{fills_on, fills_ends, is_filled}
+use Rattle.record_fields.proofs.reading.Reading.whole_players.Goals as goal
+
+pub returns-in_err-player : goal.returns-in_err-player
+returns-in_err-player c =
+    let p = err_from_is_err_and c.from_residual.result c.from_residual.ensures.1 in
+    rw (p.1, p.2) (fills_ends player_at c.in_err-player.field-0.0 c.players.players 15 c.players.place c.players.self (many_at player_at 15 c.args.self.now) c.players-test.true c.in_err-player.ensures c.players.invariant)
+
+pub players-preserved : goal.players-preserved
+players-preserved c = fills_on player_at c.players.players 15 c.players.place c.players.self c.in_ok-player.player c.whole_player.new.self (many_at player_at 15 c.args.self.now) c.players-test.true c.in_ok-player.ensures c.players.invariant
+
+pub returns : goal.returns
+returns c = is_filled player_at c.players.players 15 c.players.place c.players.self (many_at player_at 15 c.args.self.now) c.players-test.false c.players.invariant

@@ -1,0 +1,166 @@
+// Lists of records and commands, appended to bytes.
+ghost use Rattle.std.specs.Prelude.{◌≡◌, ◌++◌, OnOk, flat_map};
+ghost use Rattle.std.specs.Int.{w16, w32, w64};
+ghost use Rattle.record_fields.specs.Fields.{whole, byte, number};
+ghost use Rattle.record_fields.specs.Lists.{club_bytes, line_bytes, row_bytes, swap_bytes, pick_bytes};
+
+use crate::fields::{append_long_text, append_u8, append_u16, append_u32, append_u64};
+use fpl_base::{ClubId, EntryId, Memory, Moment, Name, PlayerId};
+use rule_book::{Line, Swap};
+
+/// Appends moments, in seconds since 1970, of eight bytes each.
+pub fn append_moments(bytes: &mut Vec<u8>, moments: &[Moment]) -> Result<(), Memory>
+    ensures { OnOk result (bytes.new.items ≡ bytes.old.items ++ flat_map (number w64) moments.now) }
+{
+    'moments: for moment in moments {
+        append_u64(bytes, moment.get())?;
+    }
+    Ok(())
+}
+
+/// Appends the figures of a line, of two bytes each.
+pub fn append_figures(bytes: &mut Vec<u8>, figures: &[u16]) -> Result<(), Memory>
+    ensures { OnOk result (bytes.new.items ≡ bytes.old.items ++ flat_map (number w16) figures.now) }
+{
+    'figures: for figure in figures {
+        append_u16(bytes, *figure)?;
+    }
+    Ok(())
+}
+
+/// Appends entries, of four bytes each.
+pub fn append_order(bytes: &mut Vec<u8>, entries: &[EntryId]) -> Result<(), Memory>
+    ensures { OnOk result (bytes.new.items ≡ bytes.old.items ++ flat_map (number w32) entries.now) }
+{
+    'entries: for entry in entries {
+        append_u32(bytes, entry.get())?;
+    }
+    Ok(())
+}
+
+/// Appends numbers, of four bytes each.
+pub fn append_slots(bytes: &mut Vec<u8>, slots: &[u32]) -> Result<(), Memory>
+    ensures { OnOk result (bytes.new.items ≡ bytes.old.items ++ flat_map (number w32) slots.now) }
+{
+    'slots: for slot in slots {
+        append_u32(bytes, *slot)?;
+    }
+    Ok(())
+}
+
+/// Appends bytes, one of each coin.
+pub fn append_coins(bytes: &mut Vec<u8>, coins: &[u8]) -> Result<(), Memory>
+    ensures { OnOk result (bytes.new.items ≡ bytes.old.items ++ flat_map byte coins.now) }
+{
+    'coins: for coin in coins {
+        append_u8(bytes, *coin)?;
+    }
+    Ok(())
+}
+
+/// Appends players with the prices at which they were bought, in tenths of a million: six bytes each.
+pub fn append_picks(bytes: &mut Vec<u8>, picks: &[(PlayerId, u16)]) -> Result<(), Memory>
+    ensures { OnOk result (bytes.new.items ≡ bytes.old.items ++ flat_map pick_bytes picks.now) }
+{
+    'picks: for pick in picks {
+        append_u32(bytes, pick.0.get())?;
+        append_u16(bytes, pick.1)?;
+    }
+    Ok(())
+}
+
+fn append_whole_figures(bytes: &mut Vec<u8>, figures: &[u16]) -> Result<(), Memory>
+    ensures { OnOk result (bytes.new.items ≡ bytes.old.items ++ flat_map whole figures.now) }
+{
+    'figures: for figure in figures {
+        append_u64(bytes, *figure as u64)?;
+    }
+    Ok(())
+}
+
+/// Appends entries, of eight bytes each.
+pub fn append_whole_entries(bytes: &mut Vec<u8>, entries: &[EntryId]) -> Result<(), Memory>
+    ensures { OnOk result (bytes.new.items ≡ bytes.old.items ++ flat_map whole entries.now) }
+{
+    'entries: for entry in entries {
+        append_u64(bytes, entry.get() as u64)?;
+    }
+    Ok(())
+}
+
+/// Appends players, of eight bytes each.
+pub fn append_whole_players(bytes: &mut Vec<u8>, players: &[PlayerId]) -> Result<(), Memory>
+    ensures { OnOk result (bytes.new.items ≡ bytes.old.items ++ flat_map whole players.now) }
+{
+    'players: for player in players {
+        append_u64(bytes, player.get() as u64)?;
+    }
+    Ok(())
+}
+
+/// Appends numbers, of eight bytes each.
+pub fn append_whole_slots(bytes: &mut Vec<u8>, slots: &[u32]) -> Result<(), Memory>
+    ensures { OnOk result (bytes.new.items ≡ bytes.old.items ++ flat_map whole slots.now) }
+{
+    'slots: for slot in slots {
+        append_u64(bytes, *slot as u64)?;
+    }
+    Ok(())
+}
+
+/// Appends coins, of eight bytes each.
+pub fn append_whole_coins(bytes: &mut Vec<u8>, coins: &[u8]) -> Result<(), Memory>
+    ensures { OnOk result (bytes.new.items ≡ bytes.old.items ++ flat_map whole coins.now) }
+{
+    'coins: for coin in coins {
+        append_u64(bytes, *coin as u64)?;
+    }
+    Ok(())
+}
+
+/// Appends clubs with their names.
+pub fn append_clubs(bytes: &mut Vec<u8>, clubs: &[(ClubId, Name)]) -> Result<(), Memory>
+    ensures { OnOk result (bytes.new.items ≡ bytes.old.items ++ flat_map club_bytes clubs.now) }
+{
+    'clubs: for club in clubs {
+        append_club(bytes, club)?;
+    }
+    Ok(())
+}
+
+/// Appends players with their lines.
+pub fn append_rows(bytes: &mut Vec<u8>, rows: &[(PlayerId, Line)]) -> Result<(), Memory>
+    ensures { OnOk result (bytes.new.items ≡ bytes.old.items ++ flat_map row_bytes rows.now) }
+{
+    'rows: for row in rows {
+        append_u64(bytes, row.0.get() as u64)?;
+        append_line(bytes, &row.1)?;
+    }
+    Ok(())
+}
+
+/// Appends transfers: who goes out, and who comes in.
+pub fn append_swaps(bytes: &mut Vec<u8>, swaps: &[Swap]) -> Result<(), Memory>
+    ensures { OnOk result (bytes.new.items ≡ bytes.old.items ++ flat_map swap_bytes swaps.now) }
+{
+    'swaps: for swap in swaps {
+        append_u64(bytes, swap.out.get() as u64)?;
+        append_u64(bytes, swap.into.get() as u64)?;
+    }
+    Ok(())
+}
+
+fn append_club(bytes: &mut Vec<u8>, club: &(ClubId, Name)) -> Result<(), Memory>
+    ensures { OnOk result (bytes.new.items ≡ bytes.old.items ++ club_bytes club.now) }
+{
+    append_u64(bytes, club.0.get() as u64)?;
+    append_long_text(bytes, club.1.bytes())
+}
+
+/// Appends a line behind the count of its figures.
+pub fn append_line(bytes: &mut Vec<u8>, line: &Line) -> Result<(), Memory>
+    ensures { OnOk result (bytes.new.items ≡ bytes.old.items ++ line_bytes line.now) }
+{
+    append_u16(bytes, 28)?;
+    append_whole_figures(bytes, &line.figures)
+}
