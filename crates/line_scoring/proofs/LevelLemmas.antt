@@ -1,46 +1,38 @@
 -- What one more number does to the bonus by three levels.
-use Rattle.std.proofs.Common.{◌≡◌, ◌<◌, ◌≤◌, ◌+◌, ◌-◌, ℕ, ℤ, Bool, true, false, cond, List, ◌++◌, Option, Some, None, option_to_list, int_lt, zero-add, arith, length, get_or, take, sym, ap}
-use Rattle.std.proofs.lemmas.List.Sums.{sum_by-append, sum_by_more}
+use Rattle.std.proofs.Common.{◌≡◌, ◌<◌, ◌≤◌, ◌+◌, ◌-◌, ◌≤ℤ◌, ◌<ℤ◌, ℕ, ℤ, negsuc, cond, List, int_lt, arith, length, get_or, take, sym, ap}
+use Rattle.std.proofs.lemmas.Int.{ints}
+use Rattle.std.proofs.lemmas.List.Sums.{sum_by_more}
 use Rattle.rule_book.specs.Bonus.{bonus_of, number_above}
-use Rattle.line_scoring.specs.Levels.{numbers_at, greater, bonus_by, above, IsBelow}
+use Rattle.line_scoring.specs.Levels.{numbers_at, greater, bonus_by, above}
 
-at_most_one : (b : Bool) → cond b 1 0 ≤ 1
-at_most_one true = omega arith
-at_most_one false = omega arith
+abbrev nobody : ℤ
+nobody = negsuc 2147483648
 
--- what stands at a level
-abbrev at_level : Option ℤ → ℤ → ℕ
-at_level level own = greater (option_to_list level) own
+-- how many stand above a number at a level
+abbrev at_level : ℤ → ℤ → ℕ
+at_level level own = cond (int_lt nobody level) (above own level) 0
 
-alone : (other own : ℤ) → at_level (Some other) own ≡ above own other
-alone other own = zero-add (above own other)
+greater_at : (a b c own : ℤ) → greater (numbers_at a b c) own ≡ at_level a own + at_level b own + at_level c own
+greater_at a b c own = grind arith
 
-few : (level : Option ℤ) (own : ℤ) → at_level level own ≤ 1
-few None own = omega arith
-few (Some other) own = omega (arith, alone other own, at_most_one (int_lt own other))
+-- a level tells no more than a higher one
+lower : (low high own : ℤ) → low ≤ℤ high → at_level low own ≤ at_level high own
+lower low high own below = grind (arith, ints)
 
-greater_behind : (level : Option ℤ) (numbers : List ℤ) (own : ℤ) → greater (option_to_list level ++ numbers) own ≡ at_level level own + greater numbers own
-greater_behind level numbers own = sum_by-append (above own) (option_to_list level) numbers
+-- at most one stands there
+few : (level own : ℤ) → at_level level own ≤ 1
+few level own = grind arith
 
-greater_at : (a b c : Option ℤ) (own : ℤ) → greater (numbers_at a b c) own ≡ at_level a own + (at_level b own + at_level c own)
-greater_at a b c own = omega (arith, greater_behind a (option_to_list b ++ option_to_list c) own, greater_behind b (option_to_list c) own)
+-- a number of 32 bits is somebody's
+alone : (level own : ℤ) → nobody <ℤ level → at_level level own ≡ above own level
+alone level own some = grind (arith, ints)
 
-module _ (a b c : Option ℤ) (n own : ℤ) (second : IsBelow b a) (third : IsBelow c b) where
-  pub new_first : IsBelow a (Some n) → bonus_by (numbers_at (Some n) a b) own ≡ bonus_by (numbers_at a b c) own - above own n
-  new_first below = omega (arith, greater_at (Some n) a b own, greater_at a b c own, alone n own, second own, third own, below own, few (Some n) own)
+module _ (a b c n own : ℤ) (some : nobody <ℤ n) (second : b ≤ℤ a) (third : c ≤ℤ b) where
+  pub new_first : a ≤ℤ n → bonus_by (numbers_at n a b) own ≡ bonus_by (numbers_at a b c) own - above own n
+  new_first over = omega (arith, greater_at n a b own, greater_at a b c own, alone n own some, lower b a own second, lower c b own third, lower a n own over, few n own)
 
-  pub new_second : IsBelow (Some n) a → IsBelow b (Some n) → bonus_by (numbers_at a (Some n) b) own ≡ bonus_by (numbers_at a b c) own - above own n
-  new_second below over = omega (arith, greater_at a (Some n) b own, greater_at a b c own, alone n own, second own, third own, below own, over own, few a own)
-
-  pub new_third : IsBelow (Some n) b → IsBelow c (Some n) → bonus_by (numbers_at a b (Some n)) own ≡ bonus_by (numbers_at a b c) own - above own n
-  new_third below over = omega (arith, greater_at a b (Some n) own, greater_at a b c own, alone n own, second own, third own, below own, over own, few a own)
-
-  pub not_new : IsBelow (Some n) c → bonus_by (numbers_at a b c) own ≡ bonus_by (numbers_at a b c) own - above own n
-  not_new below = omega (arith, greater_at a b c own, alone n own, second own, third own, below own, few a own)
-
--- three stand above whoever is below the lowest of the levels
-pub nothing_won : (a b c : Option ℤ) (own : ℤ) → IsBelow b a → IsBelow c b → 0 < at_level c own → 0 ≡ bonus_by (numbers_at a b c) own
-nothing_won a b c own second third some = omega (arith, greater_at a b c own, second own, third own, some)
+  pub new_second : n ≤ℤ a → b ≤ℤ n → bonus_by (numbers_at a n b) own ≡ bonus_by (numbers_at a b c) own - above own n
+  new_second below over = omega (arith, greater_at a n b own, greater_at a b c own, alone n own some, lower b n own over, lower c b own third, lower n a own below, few a own)
 
 -- one more of a table took part
 pub one_more : (table : List (ℕ × ℤ)) (i : ℕ) (row : ℕ × ℤ) (own : ℤ) (old new : ℕ) → i < length table → row ≡ get_or table i row → old ≡ bonus_of (take i table) own

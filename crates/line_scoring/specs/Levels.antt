@@ -1,9 +1,9 @@
 -- The bonus of a match by the greatest numbers of those who took part.
-use Rattle.std.specs.Prelude.{ℕ, ℤ, ◌-◌, ◌≤◌, List, ◌++◌, Option, option_to_list, count_by, int_lt, if◌then◌else◌}
+use Rattle.std.specs.Prelude.{ℕ, ℤ, negsuc, ◌-◌, List, [], ◌∷◌, count_by, filter, int_lt, if◌then◌else◌}
 
--- the numbers at three levels, at each of which somebody stands or nobody
-abbrev pub numbers_at : Option ℤ → Option ℤ → Option ℤ → List ℤ
-numbers_at first second third = option_to_list first ++ (option_to_list second ++ option_to_list third)
+-- the numbers at three levels: at each stands somebody, or nobody where it is below all numbers of 32 bits
+abbrev pub numbers_at : ℤ → ℤ → ℤ → List ℤ
+numbers_at first second third = filter (int_lt (negsuc 2147483648)) (first ∷ second ∷ third ∷ [])
 
 -- how many of some numbers are greater than one
 abbrev pub greater : List ℤ → ℤ → ℕ
@@ -16,7 +16,3 @@ bonus_by numbers own = 3 - greater numbers own
 -- what one more who stands above takes away
 abbrev pub above : ℤ → ℤ → ℕ
 above own other = if int_lt own other then 1 else 0
-
--- whoever stands above a number at the lower of two levels does so at the higher
-abbrev pub IsBelow : Option ℤ → Option ℤ → Type 0
-IsBelow low high = (own : ℤ) → greater (option_to_list low) own ≤ greater (option_to_list high) own

@@ -1,23 +1,31 @@
-use Rattle.std.proofs.Common.{w32}
-use Rattle.std.proofs.lemmas.Int.{to_z-of_z}
-use Rattle.line_scoring.proofs.LevelLemmas.{new_first, new_second, not_new}
+use Rattle.std.proofs.Common.{◌≡◌, ◌<ℤ◌, ◌≤ℤ◌, ◌∙◌, ℤ, negsuc, arith, rules, to_z, of_z, w32, w64, FitsSigned}
+use Rattle.std.proofs.lemmas.Int.{ints, to_z-of_z}
+use Rattle.line_scoring.proofs.LevelLemmas.{new_first, new_second}
 use Rattle.line_scoring.proofs.levels.BonusLevels.add.Goals as goal
 
--- The number is passed on by value, so it is seen through its bits and back.
-pub returns-then-not-is_above : goal.returns-then-not-is_above
-returns-then-not-is_above c = λ own.
-    let is = to_z-of_z w32 c.args.number c.ranges.number in
-    rw (← c.self.view_is)
-    (not_new c.self.inside.first c.self.inside.second c.self.inside.third c.args.number own c.self.invariant.0 c.self.invariant.1 (rw is at c.is_above.ensures.not_above c.if-not-is_above.true))
+-- What is stored is seen through its bits and back.
+stored : (n : ℤ) → FitsSigned w64 n → to_z w64 (of_z w64 n) ≡ n
+stored n fits = to_z-of_z w64 n fits
 
-pub returns-then-is_above : goal.returns-then-is_above
-returns-then-is_above c = λ own.
-    let is = to_z-of_z w32 c.args.number c.ranges.number in
-    rw (is, ← c.self.view_is)
-    (new_first c.self.inside.first c.self.inside.second c.self.inside.third c.args.number own c.self.invariant.0 c.self.invariant.1 (rw is at c.is_above-2.ensures.above c.if-is_above.true))
+pub returns-then-number-self-3 : goal.returns-then-number-self-3
+returns-then-number-self-3 c = λ own.
+    let number = stored c.from-number.result (search rules) in
+    let first = stored c.self.inside.first (search rules) in
+    let second = stored c.self.inside.second (search rules) in
+    let is : c.from-number.result ≡ c.args.number = c.from-number.ensures ∙ to_z-of_z w32 c.args.number c.ranges.number in
+    let some : negsuc 2147483648 <ℤ c.from-number.result = grind (arith, ints, is, c.ranges.number.sfits) in
+    let below : c.from-number.result ≤ℤ c.self.inside.first = grind (arith, ints, number, first, c.if-number-self-3.true) in
+    let over : c.self.inside.second ≤ℤ c.from-number.result = grind (arith, ints, number, second, c.if-number-self-2.false) in
+    rw (number, second, ← c.self.view_is, ← is)
+    (new_second c.self.inside.first c.self.inside.second c.self.inside.third c.from-number.result own some c.self.invariant.0 c.self.invariant.1 below over)
 
-pub returns-then-is_above-2 : goal.returns-then-is_above-2
-returns-then-is_above-2 c = λ own.
-    let is = to_z-of_z w32 c.args.number c.ranges.number in
-    rw (is, ← c.self.view_is)
-    (new_second c.self.inside.first c.self.inside.second c.self.inside.third c.args.number own c.self.invariant.0 c.self.invariant.1 (rw is at c.is_above-2.ensures.not_above c.if-is_above.false) (rw is at c.is_above-else-is_above.ensures.above c.if-is_above-2.true))
+pub returns-else-number-self-3 : goal.returns-else-number-self-3
+returns-else-number-self-3 c = λ own.
+    let number = stored c.from-number.result (search rules) in
+    let first = stored c.self.inside.first (search rules) in
+    let second = stored c.self.inside.second (search rules) in
+    let is : c.from-number.result ≡ c.args.number = c.from-number.ensures ∙ to_z-of_z w32 c.args.number c.ranges.number in
+    let some : negsuc 2147483648 <ℤ c.from-number.result = grind (arith, ints, is, c.ranges.number.sfits) in
+    let over : c.self.inside.first ≤ℤ c.from-number.result = grind (arith, ints, number, first, c.if-number-self-3.false) in
+    rw (number, first, second, ← c.self.view_is, ← is)
+    (new_first c.self.inside.first c.self.inside.second c.self.inside.third c.from-number.result own some c.self.invariant.0 c.self.invariant.1 over)
