@@ -22,6 +22,7 @@ pub(crate) fn wrong(which: FieldName) -> ReadFault
 // Numbers.
 
 // The whole number that a value is, where it is in the range.
+#[inline(always)]
 fn number_in(value: &Tree<'_>, low: u64, high: u64) -> Option<u64>
     ensures { result ≡ number_in low high (view value.now) }
 {
@@ -112,6 +113,7 @@ pub(crate) fn drawn_entry(value: &Tree<'_>, list: FieldName) -> Result<EntryId, 
 }
 
 /// The number that a value is, as an item of the list of this name.
+#[inline(always)]
 pub(crate) fn entry(
     value: &Tree<'_>,
     list: FieldName,

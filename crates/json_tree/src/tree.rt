@@ -51,6 +51,7 @@ impl<'a> Tree<'a> {
     }
 
     /// A whole number from 0 that is written without a point or an exponent.
+    #[inline(always)]
     pub fn as_u64(&self) -> Option<u64>
         ensures { result ≡ option_and_then as_u64 (as_number (view self.now)) }
     {

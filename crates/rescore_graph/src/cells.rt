@@ -117,6 +117,7 @@ impl<N: Copy + Ord + Hash, V: Drop> Cells<N, V> {
     }
 
     /// The value of a node, by a counted read; `None` where it is not live or was not evaluated yet.
+    #[inline(always)]
     pub fn get<L: Ledger>(&self, n: N, steps: &mut Steps<L>) -> Option<&V>
         ensures value { option_copied result ≡ values_in (look N.cmp self.now) n }
         ensures cost { steps.new ≡ steps.old + 1 }
