@@ -1,17 +1,18 @@
 // What the nodes of head-to-head leagues are worth, of what the cells hold of the gameweeks of those who meet.
-ghost use Rattle.std.specs.Prelude.{◌≡◌, ◌≤◌, ◌<◌, ◌+◌, ◌-◌, ℕ, All, IfOk, Some, length, map, option_copied};
+ghost use Rattle.std.specs.Prelude.{◌≡◌, ◌≤◌, ◌<◌, ◌+◌, ◌-◌, ℕ, All, IfOk, Some, length, map, min, nat_lt, option_copied};
 ghost use Rattle.rule_book.specs.FigureRange.{IsWithin};
 ghost use Rattle.rule_book.specs.Opponents.{mean_of};
 ghost use Rattle.rule_book.specs.declared.pairing.Opponent.{Opponent};
 ghost use Rattle.season_nodes.specs.BookFacts.{facts_of};
 ghost use Rattle.season_nodes.specs.Held.{held_values};
-ghost use Rattle.season_nodes.specs.Rounds.{order_in, start_in};
-ghost use Rattle.season_nodes.specs.Season.{average_by, average_held, head_by, match_by, matches_by, net_by, points_by, scores_held, seen_by};
+ghost use Rattle.season_nodes.specs.Rounds.{met, order_in, start_in};
+ghost use Rattle.season_nodes.specs.Season.{average_by, average_held, head_by, match_by, matches_by, net_by, points_by, scores_held, seen_from};
+ghost use Rattle.season_nodes.specs.declared.nodes.Node.{Node};
 
 use crate::rules::SeasonCells;
 use crate::totals::net_in;
 use fpl_base::{EntryId, Gw, LeagueId, Memory, Steps};
-use head_to_head::{average, head_score};
+use head_to_head::{average, head_score, opponent, opponent_is_the_one};
 use rule_book::{HeadScore, Opponent};
 use season_nodes::{Books, MatchScores, Node, Value};
 use std::alloc::Global;
@@ -174,24 +175,36 @@ pub(crate) fn round_gameweek(books: &Books, league: LeagueId, round: u8) -> Gw
     Gw::new(books.start(league) + round).unwrap()
 }
 
-// The match of a place in a gameweek from its side, by what its cell holds.
+// The place that a place meets in a round, counted from 0, of so many members; the Average's is behind them.
+fn met(members: usize, round: u8, place: usize) -> usize
+    requires some { 2 ≤ members }
+    requires few { members ≤ 64 }
+    requires within { place < members }
+    ensures { result ≡ met members round place }
+{
+    // The law by which it meets one opponent, for the prover.
+    opponent_is_the_one();
+    match opponent(members, u32::from(round), place) {
+        Opponent::Place(other) => other,
+        Opponent::Average => members,
+    }
+}
+
+// The match of a place and the one that it meets in a gameweek, from the side of the place, by what its cell holds.
 fn seen<L: Ledger>(
-    books: &Books,
     league: LeagueId,
     place: usize,
+    met: usize,
     gameweek: Gw,
     cells: &SeasonCells,
     steps: &mut Steps<L>,
 ) -> (i32, i32)
-    requires { place < length (order_in books.now.leagues.now league) }
+    requires { place < 64 }
     ensures value { result
-        ≡ seen_by (facts_of books.now) (held_values cells.now) league place gameweek }
+        ≡ seen_from (nat_lt place met) (scores_held (held_values cells.now (Node.Match league gameweek (min place met)))) }
     ensures near { IsWithin 18000000 result.0 }
     ensures cost { steps.new ≤ steps.old + 1 }
 {
-    // That a league has few members, for the prover.
-    let _few = books.order(league);
-    let met = books.met(league, gameweek, place);
     let lower = place.min(met) as u8;
     let (low, high) = scores_in(cells.get(Node::Match(league, gameweek, lower), steps));
     if place < met {
@@ -201,7 +214,8 @@ fn seen<L: Ledger>(
     }
 }
 
-// The matches of a place in the locked gameweeks from the start on.
+// The matches of a place in the locked gameweeks from the start on. The league is looked up before the rounds, and in none
+// of them.
 fn matches<L: Ledger>(
     books: &Books,
     alloc: Global,
@@ -218,11 +232,14 @@ fn matches<L: Ledger>(
     ensures near { IfOk result (λ matches. All (λ m. IsWithin 18000000 m.0) matches.items) }
     ensures cost { steps.new ≤ steps.old + 38 }
 {
+    let start = books.start(league);
+    let members = books.order(league).len();
     let rounds = rounds_of(books, league);
     let mut matches = Vec::with_capacity(alloc, usize::from(rounds))?;
     for round in 0..rounds {
-        let gameweek = round_gameweek(books, league, round);
-        matches.push(seen(books, league, place, gameweek, cells, steps))?;
+        let gameweek = Gw::new(start + round).unwrap();
+        let met = met(members, round, place);
+        matches.push(seen(league, place, met, gameweek, cells, steps))?;
     }
     Ok(matches)
 }
