@@ -4,8 +4,8 @@ use Rattle.std.proofs.lemmas.Bool.{true≢false}
 use Rattle.std.proofs.lemmas.List.{append-nil}
 use Rattle.rule_book.specs.declared.transfers.Sale.{Sale}
 use Rattle.manager_book.specs.Calls.{with_gameweek}
-use Rattle.season_books.specs.Sequels.{and_then_those, sales_from}
-use Rattle.season_books.proofs.Trading.{left_from, left_next, left_none}
+use Rattle.stored_records.specs.Sequels.{and_then_those, sales_from}
+use Rattle.stored_records.proofs.Trading.{left_from, left_next, left_none}
 use Rattle.entries_restoring.specs.Restoring.{AddsSale}
 
 -- those up to a number are added

@@ -28,12 +28,12 @@ use Rattle.season_ledger.specs.Stands.{IsPlaced}
 use Rattle.season_ledger.specs.declared.row.Standing.{Standing}
 use Rattle.season_ledger.proofs.Restored.{kept_rows}
 use Rattle.manager_book.specs.declared.manager.Manager.{Manager}
-use Rattle.season_books.specs.EntryTold.{first_in as first_of_item, first_told, is_between_ends, is_in_time, last_open, sale_told, team_in, team_told}
+use Rattle.stored_records.specs.EntryTold.{first_in as first_of_item, first_told, is_between_ends, is_in_time, last_open, sale_told, team_in, team_told}
+use Rattle.stored_records.specs.SeasonRules.{terms_told}
+use Rattle.stored_records.specs.Sequels.{sales_told}
+use Rattle.stored_records.specs.Stored.{Rows, is_there, told}
 use Rattle.season_books.specs.EntryLaws.{AreItsSales, AreItsTeams, sale_numbered, team_of_record}
 use Rattle.season_books.specs.Lawful.{judged}
-use Rattle.season_books.specs.SeasonRules.{terms_told}
-use Rattle.season_books.specs.Sequels.{sales_told}
-use Rattle.season_books.specs.Stored.{Rows, is_there, told}
 use Rattle.season_books.specs.TeamRules.{has_players, is_distinct, is_lined_up, is_priced, positions_told}
 use Rattle.season_books.proofs.EntriesJudged.{judged_lawful, judged_restored, nothing_broken, team_has}
 use Rattle.season_books.proofs.Lawful.{gapless}

@@ -17,11 +17,11 @@ use Rattle.rule_book.specs.declared.player.Player.{Player}
 use Rattle.rule_book.specs.declared.transfers.Sale.{Sale}
 use Rattle.rule_book.specs.PlayerFigures.{position_in}
 use Rattle.rule_book.specs.Players.{player_of}
-use Rattle.season_books.specs.EntryTold.{sale_in, sale_told, team_in, team_told}
+use Rattle.stored_records.specs.EntryTold.{sale_in, sale_told, team_in, team_told}
+use Rattle.stored_records.specs.Sequels.{sales_told}
+use Rattle.stored_records.specs.Stored.{Rows, is_there, told}
 use Rattle.season_books.specs.EntryLaws.{team_of_record}
 use Rattle.season_books.specs.Lawful.{first_not_spelled, first_wrong, is_in_range, is_spelled, judged}
-use Rattle.season_books.specs.Sequels.{sales_told}
-use Rattle.season_books.specs.Stored.{Rows, is_there, told}
 use Rattle.season_books.specs.TeamRules.{position_in as position_of_item, position_told}
 use Rattle.season_books.proofs.EntriesJudged.{entry_has, none_mapped, none_passes, sale_has, team_has}
 use Rattle.season_books.proofs.Numbered.{nothing_told}

@@ -16,10 +16,10 @@ use Rattle.manager_book.specs.Calls.{with_gameweek}
 use Rattle.record_codec.specs.declared.item.Item.{Item}
 use Rattle.record_codec.specs.declared.item.Item.TheVariants as item
 use Rattle.record_codec.specs.declared.slot.Slot.TheVariants as slot
-use Rattle.season_books.specs.EntryTold.{last_open}
-use Rattle.season_books.specs.SeasonRules.{terms_told}
-use Rattle.season_books.specs.Sequels.{sales_told}
-use Rattle.season_books.specs.Stored.{told}
+use Rattle.stored_records.specs.EntryTold.{last_open}
+use Rattle.stored_records.specs.SeasonRules.{terms_told}
+use Rattle.stored_records.specs.Sequels.{sales_told}
+use Rattle.stored_records.specs.Stored.{told}
 use Rattle.season_records.specs.Records.{player_item}
 use Rattle.entries_restoring.specs.declared.managers.Parts.{Parts}
 use Rattle.season_rows.specs.Ordered.{IsManagerInOrder}

@@ -2,16 +2,16 @@
 ghost use Rattle.std.specs.Prelude.{◌≡◌, ◌++◌, IfOk, OnOk};
 ghost use Rattle.fpl_base.specs.Keeping.{map_of};
 ghost use Rattle.manager_book.specs.Calls.{with_gameweek};
-ghost use Rattle.season_books.specs.EntryTold.{sale_in, sale_told};
-ghost use Rattle.season_books.specs.Sequels.{sales_told};
+ghost use Rattle.stored_records.specs.EntryTold.{sale_in, sale_told};
+ghost use Rattle.stored_records.specs.Sequels.{sales_told};
 ghost use Rattle.entries_restoring.specs.Restoring.{AddsSale, entry_sales_told};
 
 use crate::entry_teams::gameweek;
 use fpl_base::{EntryId, Gw, Memory, PlayerId, Tenths};
 use record_codec::{Item, Slot};
 use rule_book::Sale;
-use season_books::Stored;
 use std::alloc::Global;
+use stored_records::Stored;
 
 // A gameweek has at most so many transfers.
 const MOST_SALES: u32 = 1000;

@@ -8,8 +8,8 @@ use fpl_base::{EntryId, Gw, Memory, PlayerId, Position, Tenths};
 use player_prices::Players;
 use record_codec::{Item, Slot};
 use rule_book::{Pick, Team};
-use season_books::Stored;
 use std::alloc::Global;
+use stored_records::Stored;
 
 /// The gameweek of this number.
 pub(crate) fn gameweek(number: u8) -> Gw

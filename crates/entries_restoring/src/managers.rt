@@ -6,8 +6,8 @@ ghost use Rattle.fpl_base.specs.Keeping.{KeysRise, map_of};
 ghost use Rattle.record_codec.specs.declared.slot.Slot.TheVariants as slot;
 ghost use Rattle.rule_book.specs.Entries.{entry_in};
 ghost use Rattle.season_book.specs.Book.{Facts};
+ghost use Rattle.stored_records.specs.Stored.{told};
 ghost use Rattle.season_books.specs.Lawful.{judged};
-ghost use Rattle.season_books.specs.Stored.{told};
 ghost use Rattle.season_entries.specs.EntryLaws.{AreEarly};
 ghost use Rattle.season_records.specs.Records.{told_in};
 ghost use Rattle.season_rows.specs.Ordered.{IsManagerInOrder};
@@ -20,8 +20,8 @@ use fpl_base::{Bytes, EntryId, Gw, Key, Memory, Name, Profile, RecordKey};
 use manager_book::ManagerBook;
 use player_prices::Players;
 use record_codec::{Item, Slot};
-use season_books::Stored;
 use std::alloc::Global;
+use stored_records::Stored;
 
 // So many entries are in a season at most.
 const MOST_ENTRIES: u32 = 2048;

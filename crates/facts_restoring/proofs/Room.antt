@@ -18,8 +18,8 @@ use Rattle.record_codec.specs.Keys.{key_of}
 use Rattle.record_codec.specs.declared.item.Item.{Item}
 use Rattle.record_codec.specs.declared.item.Item.TheVariants as item
 use Rattle.record_codec.specs.declared.slot.Slot.TheVariants as slot
-use Rattle.season_books.specs.SeasonRules.{place_in}
-use Rattle.season_books.specs.Stored.{Rows}
+use Rattle.stored_records.specs.SeasonRules.{place_in}
+use Rattle.stored_records.specs.Stored.{Rows}
 use Rattle.season_records.proofs.Sheets.{sheet_by}
 use Rattle.facts_restoring.specs.Restored.{fixture_told, player_told, with_item, with_row, with_rows, with_spelled}
 use Rattle.facts_restoring.proofs.Rows.{IsSpelled, Row}

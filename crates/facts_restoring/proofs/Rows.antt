@@ -15,7 +15,7 @@ use Rattle.record_codec.specs.declared.item.Item.TheVariants as item
 use Rattle.record_codec.specs.declared.slot.Slot.{Slot}
 use Rattle.record_codec.specs.declared.slot.Slot.TheVariants as slot
 use Rattle.record_codec.proofs.KeyLaws.{own_slot}
-use Rattle.season_books.specs.Stored.{Rows, told}
+use Rattle.stored_records.specs.Stored.{Rows, told}
 use Rattle.season_records.specs.Records.{told_in}
 use Rattle.facts_restoring.specs.Restored.{with_item, with_row, with_rows, with_spelled}
 use Rattle.facts_restoring.proofs.Slots.{own_key}

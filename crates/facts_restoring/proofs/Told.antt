@@ -19,9 +19,9 @@ use Rattle.record_codec.specs.declared.item.Item.{Item}
 use Rattle.record_codec.specs.declared.item.Item.TheVariants as item
 use Rattle.record_codec.specs.declared.slot.Slot.{Slot}
 use Rattle.record_codec.specs.declared.slot.Slot.TheVariants as slot
+use Rattle.stored_records.specs.SeasonRules.{misses_place}
+use Rattle.stored_records.specs.Stored.{Rows, deadlines_in, deadlines_told, has_gameweek, is_there, locked_in, told}
 use Rattle.season_books.specs.Lawful.{is_in_range, judged, rules_broken}
-use Rattle.season_books.specs.SeasonRules.{misses_place}
-use Rattle.season_books.specs.Stored.{Rows, deadlines_in, deadlines_told, has_gameweek, is_there, locked_in, told}
 use Rattle.season_facts.specs.Kept.{AreFacts}
 use Rattle.season_facts.proofs.KeptFacts.{ranged_line}
 use Rattle.season_records.specs.Records.{told_in}

@@ -26,7 +26,7 @@ use Rattle.season_records.proofs.FactOrder.{fixtures_put, lines_put, players_put
 use Rattle.season_records.proofs.Orders.{put_sorted}
 use Rattle.facts_restoring.specs.Restored.{fixture_told, player_told, with_item, with_locked, with_row, with_rows, with_spelled}
 use Rattle.facts_restoring.proofs.Rows.{Row}
-use Rattle.season_books.specs.Stored.{Rows}
+use Rattle.stored_records.specs.Stored.{Rows}
 
 -- the fixtures and the players that some records tell of
 abbrev pub has_fixture_in : (Slot → Bool) → ℕ → Bool

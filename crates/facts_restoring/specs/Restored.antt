@@ -18,9 +18,9 @@ use Rattle.record_codec.specs.declared.item.Item.TheVariants as item
 use Rattle.record_codec.specs.declared.slot.Slot.{Slot}
 use Rattle.record_codec.specs.declared.slot.Slot.TheVariants as slot
 use Rattle.facts_restoring.specs.declared.restoring.Terms.{Terms}
+use Rattle.stored_records.specs.SeasonRules.{season_breaks}
+use Rattle.stored_records.specs.Stored.{Rows, told}
 use Rattle.season_books.specs.Lawful.{is_in_range}
-use Rattle.season_books.specs.SeasonRules.{season_breaks}
-use Rattle.season_books.specs.Stored.{Rows, told}
 use Rattle.season_records.specs.Records.{told_in}
 
 -- What records tell.

@@ -17,7 +17,7 @@ use Rattle.season_book.specs.Book.{Book, EntryFacts, Facts}
 use Rattle.record_fields.specs.Ranges.{is_between}
 use Rattle.season_records.specs.Records.{transfer_item}
 use Rattle.season_records.proofs.Finds.{at_number}
-use Rattle.season_books.specs.EntryTold.{chip_told, is_first_of, sale_in, sale_told}
+use Rattle.stored_records.specs.EntryTold.{chip_told, is_first_of, sale_in, sale_told}
 use Rattle.season_books.specs.TransferRules.{is_lawful_sale, is_next_number, is_priced_sale}
 use Rattle.lawful_entries.specs.Histories.{IsLawfulDeed, IsLawfulSwap}
 use Rattle.lawful_entries.specs.Recorded.{IsRecorded, TransfersAreLawful}

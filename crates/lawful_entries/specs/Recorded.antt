@@ -9,9 +9,9 @@ use Rattle.season_book.specs.Book.{Book, EntryFacts, Facts}
 use Rattle.record_codec.specs.declared.slot.Slot.{Slot}
 use Rattle.season_records.specs.Records as records
 use Rattle.season_records.specs.Touched.{gameweek_of}
+use Rattle.stored_records.specs.EntryTold.{first_told, is_in_time, sale_told}
+use Rattle.stored_records.specs.Stored as stored
 use Rattle.season_books.specs.EntryRules.{entry_breaks, transfer_breaks}
-use Rattle.season_books.specs.EntryTold.{first_told, is_in_time, sale_told}
-use Rattle.season_books.specs.Stored as stored
 use Rattle.season_books.specs.TeamRules.{is_playable}
 use Rattle.lawful_entries.specs.Histories.{IsLawfulHistory}
 

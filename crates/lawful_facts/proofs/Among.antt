@@ -5,7 +5,7 @@ use Rattle.std.specs.List.{list_any}
 use Rattle.std.specs.Option.{option_map}
 use Rattle.std.proofs.lemmas.Option.{none-some, same_Some}
 use Rattle.rule_book.specs.ById.{at_id}
-use Rattle.season_books.proofs.Loops.{any_mapped}
+use Rattle.stored_records.proofs.Loops.{any_mapped}
 use Rattle.lawful_facts.proofs.Found.{some_any}
 
 pub some_mapped : {X Y : Type 0} (f : X → Y) (o : Option X) → is_some (option_map f o) ≡ is_some o

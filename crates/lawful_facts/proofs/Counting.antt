@@ -9,7 +9,7 @@ use Rattle.fpl_base.specs.Keeping.{KeysRise, is_same_key, map_of, precedes}
 use Rattle.fpl_base.proofs.Around.{AllPairs-head, AllPairs-tail}
 use Rattle.fpl_base.proofs.KeyLemmas.{precedes_not_back, same_key, same_key_self}
 use Rattle.std.proofs.lemmas.List.Elements.{All-head, All-tail}
-use Rattle.season_books.specs.Stored.{Rows}
+use Rattle.stored_records.specs.Stored.{Rows}
 use Rattle.lawful_facts.specs.Telling.{FewStand, FewerStand, HaveKeys}
 
 -- the keys without the first that is this one

@@ -12,7 +12,7 @@ use Rattle.record_codec.specs.declared.item.Item.{Item}
 use Rattle.record_codec.specs.declared.slot.Slot.{Slot}
 use Rattle.record_codec.specs.declared.slot.Slot.TheVariants as slot
 use Rattle.season_records.specs.Records.{records, told}
-use Rattle.season_books.specs.Stored.{Rows, between, is_within}
+use Rattle.stored_records.specs.Stored.{Rows, between, is_within}
 use Rattle.lawful_facts.specs.Telling.{AreFamilies, HaveKeys, IsFamily, NoneIsFull}
 use Rattle.lawful_facts.proofs.Counting.{fewer_stand}
 use Rattle.lawful_facts.proofs.Telling.{of_record}

@@ -27,9 +27,9 @@ use Rattle.record_codec.specs.declared.slot.Slot.{Slot}
 use Rattle.record_codec.specs.declared.slot.Slot.TheVariants as slot
 use Rattle.season_records.specs.Records.{fixture_item, player_item, season_item, told, told_in}
 use Rattle.season_records.proofs.Determined.{found_id}
+use Rattle.stored_records.specs.SeasonRules.{calendar_told, is_crowded, is_full, misses, misses_place, place_in, place_told, standing_before, stands_in as row_stands}
+use Rattle.stored_records.specs.Stored.{Rows, deadlines_in, is_there, is_within, locked_in, split_in, told as told_of}
 use Rattle.season_books.specs.Lawful.{breaks, is_in_range, rules_broken}
-use Rattle.season_books.specs.SeasonRules.{calendar_told, is_crowded, is_full, misses, misses_place, place_in, place_told, standing_before, stands_in as row_stands}
-use Rattle.season_books.specs.Stored.{Rows, deadlines_in, is_there, is_within, locked_in, split_in, told as told_of}
 use Rattle.lawful_facts.specs.Facts.{IsPlace}
 use Rattle.lawful_facts.specs.Rules.{AreOfLawful, FactsBreakNoRule}
 use Rattle.lawful_facts.specs.Telling.{HaveKeys, IsFamily}

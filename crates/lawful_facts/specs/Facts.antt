@@ -10,7 +10,7 @@ use Rattle.rule_book.specs.Players.{most_players, player_of, price_refusal}
 use Rattle.season_book.specs.Book.{Facts}
 use Rattle.season_book.specs.Commands.{has_club, has_fixture, has_player, is_in_locked}
 use Rattle.record_fields.specs.Ranges.{is_between}
-use Rattle.season_books.specs.SeasonRules.{most_clubs, most_fixtures, most_in_gameweek, most_lines}
+use Rattle.stored_records.specs.SeasonRules.{most_clubs, most_fixtures, most_in_gameweek, most_lines}
 
 -- 1 to 38 gameweeks, no more of them in the first half or locked, and deadlines that rise
 pub record AreTerms (deadlines : List ℕ) (split locked : ℕ) : Type 0 where

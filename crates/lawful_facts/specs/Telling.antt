@@ -10,8 +10,8 @@ use Rattle.record_codec.specs.declared.slot.Slot.{Slot}
 use Rattle.record_codec.specs.declared.slot.Slot.TheVariants as slot
 use Rattle.season_records.specs.Records.{records, told}
 use Rattle.season_records.specs.Told.{TellsItem}
-use Rattle.season_books.specs.SeasonRules.{is_full}
-use Rattle.season_books.specs.Stored.{Rows, is_there, is_within, told as told_of}
+use Rattle.stored_records.specs.SeasonRules.{is_full}
+use Rattle.stored_records.specs.Stored.{Rows, is_there, is_within, told as told_of}
 
 -- an item is read back from the record of its slot
 abbrev pub RecordsAreTold : Type 0

@@ -17,10 +17,10 @@ use Rattle.record_codec.specs.declared.slot.Slot.{Slot}
 use Rattle.record_codec.specs.declared.slot.Slot.TheVariants as slot
 use Rattle.season_records.specs.Records.{entry_item, records, told, told_in}
 use Rattle.season_records.specs.Told.{TellsItems}
-use Rattle.season_books.specs.EntryTold.{first_in, first_told}
+use Rattle.stored_records.specs.EntryTold.{first_in, first_told}
+use Rattle.stored_records.specs.SeasonRules.{is_full, misses}
+use Rattle.stored_records.specs.Stored.{Rows, deadlines_in, deadlines_told, has_gameweek, is_there, told as told_of}
 use Rattle.season_books.specs.LeagueRules.{has_gap, is_registered as is_told_registered, plays_from as plays_told}
-use Rattle.season_books.specs.SeasonRules.{is_full, misses}
-use Rattle.season_books.specs.Stored.{Rows, deadlines_in, deadlines_told, has_gameweek, is_there, told as told_of}
 use Rattle.lawful_facts.specs.Telling.{IsFamily}
 use Rattle.lawful_facts.proofs.Families.{none_is_full}
 use Rattle.lawful_facts.proofs.Telling.{records_are_there, records_are_told}

@@ -21,10 +21,10 @@ use Rattle.record_codec.specs.declared.slot.Slot.TheVariants as slot
 use Rattle.season_records.specs.Records.{member_told, records}
 use Rattle.season_records.proofs.Determined.{Rise, members_determined}
 use Rattle.season_records.proofs.Orders.{pairs_of}
-use Rattle.season_books.specs.LeagueRules.{is_member_of, members_of}
-use Rattle.season_books.specs.Stored.{Rows, is_there}
-use Rattle.season_books.proofs.Found.{found_at}
-use Rattle.season_books.proofs.Loops.{any_kept, any_mapped, any_same}
+use Rattle.stored_records.specs.Stored.{Rows, is_member_of, is_there}
+use Rattle.stored_records.proofs.Found.{found_at}
+use Rattle.stored_records.proofs.Loops.{any_kept, any_mapped, any_same}
+use Rattle.season_books.specs.LeagueRules.{members_of}
 use Rattle.lawful_facts.proofs.Telling.{of_record, records_are_there}
 
 -- Members.

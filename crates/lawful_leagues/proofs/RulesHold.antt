@@ -31,11 +31,11 @@ use Rattle.record_codec.specs.declared.slot.Slot.TheVariants as slot
 use Rattle.season_records.specs.Records.{cup_item, entry_item, last_item, league_item, made_id, member_told, records, status_of, told}
 use Rattle.season_records.specs.Told.{IsInOrder, TellsItems, made_by}
 use Rattle.season_records.proofs.Finds.{at_number}
+use Rattle.stored_records.specs.SeasonRules.{misses}
+use Rattle.stored_records.specs.Stored.{Rows, deadlines_told, has_gameweek, is_there, is_within}
+use Rattle.stored_records.proofs.Found.{found_at}
+use Rattle.stored_records.proofs.Loops.{count_up}
 use Rattle.season_books.specs.LeagueRules.{has_key, is_answer, is_drawn_wrong, is_league_full, is_registered as is_told_registered, plays_from as plays_told, kind_in, kind_told, leagues_before, members_of}
-use Rattle.season_books.specs.SeasonRules.{misses}
-use Rattle.season_books.specs.Stored.{Rows, deadlines_told, has_gameweek, is_there, is_within}
-use Rattle.season_books.proofs.Found.{found_at}
-use Rattle.season_books.proofs.Loops.{count_up}
 use Rattle.lawful_facts.proofs.Families.{cups_family, entries_family, leagues_family, members_family, none_is_full}
 use Rattle.lawful_facts.proofs.Telling.{of_record}
 use Rattle.lawful_leagues.specs.Leagues.{AreLawful, IsLawfulCup, IsLawfulLast, IsLawfulLeague, IsMade, gameweeks_of, plays_from}

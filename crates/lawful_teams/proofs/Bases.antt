@@ -8,7 +8,7 @@ use Rattle.rule_book.specs.History.{Event, chip_at, counts_in, is_free_hit, is_t
 use Rattle.season_ledger.proofs.Carry.{touched_each}
 use Rattle.season_ledger.proofs.Legality.{earlier}
 use Rattle.season_ledger.proofs.Lists.{each_every, each_weaker, filter_agree_on, filter_none}
-use Rattle.season_books.specs.Sequels.{lasting, last_before}
+use Rattle.stored_records.specs.Sequels.{lasting, last_before}
 use Rattle.lawful_teams.specs.TeamsTold.{RecordedTeam}
 use Rattle.lawful_teams.proofs.Told.{recorded, recorded_in}
 

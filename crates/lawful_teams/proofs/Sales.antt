@@ -19,10 +19,10 @@ use Rattle.season_book.specs.Book.{Book, EntryFacts}
 use Rattle.season_ledger.proofs.InOrder.{events_of}
 use Rattle.season_records.specs.Records.{transfer_item}
 use Rattle.season_records.specs.Records as records
-use Rattle.season_books.specs.EntryTold.{sale_in, sale_told}
-use Rattle.season_books.specs.Sequels.{and_then_those, sales_from, sales_told}
-use Rattle.season_books.specs.Stored.{told}
-use Rattle.season_books.proofs.Trading.{none_ahead, one_ahead}
+use Rattle.stored_records.specs.EntryTold.{sale_in, sale_told}
+use Rattle.stored_records.specs.Sequels.{and_then_those, sales_from, sales_told}
+use Rattle.stored_records.specs.Stored.{told}
+use Rattle.stored_records.proofs.Trading.{none_ahead, one_ahead}
 use Rattle.lawful_teams.specs.TeamsTold.{Tells}
 use Rattle.lawful_teams.proofs.SameSquads.{sold}
 

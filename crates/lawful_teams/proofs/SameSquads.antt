@@ -14,7 +14,7 @@ use Rattle.rule_book.specs.HistorySquad.{bought_at, follow_one, holdings_of, in_
 use Rattle.season_ledger.proofs.Counted.{KeptFrom, Sound, in_squad-times, not_in_squad-times, sound_push, times_come, times_gone, times_stay}
 use Rattle.season_ledger.proofs.Ledger.{held_none, priced}
 use Rattle.season_ledger.proofs.Swaps.{holdings-cancel, holdings-lineup, holdings-play, holdings-swap, push_more}
-use Rattle.season_books.specs.Sequels.{are_alike, are_same_holdings, is_alike}
+use Rattle.stored_records.specs.Sequels.{are_alike, are_same_holdings, is_alike}
 use Rattle.lawful_teams.proofs.Formed.{and_then}
 
 -- the players of holdings

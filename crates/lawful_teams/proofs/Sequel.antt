@@ -22,8 +22,8 @@ use Rattle.season_ledger.proofs.Legality.{all_fit, earlier, headed, sound_at}
 use Rattle.season_ledger.proofs.Lists.{each_weaker, filter_none, map_map}
 use Rattle.season_ledger.proofs.Swaps.{earned-append, push_more, spent-append}
 use Rattle.season_records.specs.Records.{entry_item}
-use Rattle.season_books.specs.EntryTold.{first_in, first_told, team_told}
-use Rattle.season_books.specs.Sequels.{are_same_holdings, follows, goes_on, holdings_told, last_before, opens_with, sales_told}
+use Rattle.stored_records.specs.EntryTold.{first_in, first_told, team_told}
+use Rattle.stored_records.specs.Sequels.{are_same_holdings, follows, goes_on, holdings_told, last_before, opens_with, sales_told}
 use Rattle.lawful_entries.specs.Histories.{IsLawfulDeed, IsLawfulHistory}
 use Rattle.lawful_teams.specs.TeamsTold.{RecordedTeam, TeamsToldGoOn}
 use Rattle.lawful_teams.proofs.Bases.{IsBase, base_is}

@@ -23,8 +23,8 @@ use Rattle.season_ledger.proofs.Legality.{headed}
 use Rattle.season_ledger.proofs.Lists.{map_map}
 use Rattle.season_records.specs.Records.{no_position, pick_told, player_item, team_item, told_in}
 use Rattle.season_records.specs.Records as records
-use Rattle.season_books.specs.EntryTold.{team_in, team_told}
-use Rattle.season_books.specs.Stored.{is_there, told}
+use Rattle.stored_records.specs.EntryTold.{team_in, team_told}
+use Rattle.stored_records.specs.Stored.{is_there, told}
 use Rattle.season_books.specs.TeamRules.{position_told}
 use Rattle.season_books.specs.TeamRules as rules
 use Rattle.lawful_teams.specs.TeamsTold.{RecordedTeam, Tells}

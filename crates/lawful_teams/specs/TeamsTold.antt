@@ -9,9 +9,9 @@ use Rattle.rule_book.specs.TeamOfHistory.{CanPay}
 use Rattle.record_codec.specs.declared.slot.Slot.{Slot}
 use Rattle.season_book.specs.Book.{Book, EntryFacts, Facts}
 use Rattle.season_records.specs.Records.{told as told_of}
-use Rattle.season_books.specs.EntryTold.{chip_in, team_told}
-use Rattle.season_books.specs.Sequels.{goes_on}
-use Rattle.season_books.specs.Stored.{told}
+use Rattle.stored_records.specs.EntryTold.{chip_in, team_told}
+use Rattle.stored_records.specs.Sequels.{goes_on}
+use Rattle.stored_records.specs.Stored.{told}
 use Rattle.season_books.specs.TeamRules.{is_fit}
 use Rattle.lawful_entries.specs.Histories.{IsLawfulHistory}
 

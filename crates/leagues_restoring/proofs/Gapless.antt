@@ -10,9 +10,9 @@ use Rattle.fpl_base.specs.Keeping.{KeysRise, is_same_key, map_of, precedes}
 use Rattle.fpl_base.specs.Rows.{IsPlace}
 use Rattle.fpl_base.specs.declared.records.RecordKey.{RecordKey as Key}
 use Rattle.record_codec.specs.Keys.{key}
-use Rattle.season_books.proofs.Found.{between_places}
-use Rattle.season_books.proofs.Loops.{count_kept}
-use Rattle.season_books.specs.Stored.{Rows, between, is_within}
+use Rattle.stored_records.proofs.Found.{between_places}
+use Rattle.stored_records.proofs.Loops.{count_kept}
+use Rattle.stored_records.specs.Stored.{Rows, between, is_within}
 use Rattle.leagues_restoring.proofs.KeptRows.{kept_by, rise_kept, row_kept}
 use Rattle.leagues_restoring.proofs.LawfulRows.{some_there}
 

@@ -13,8 +13,8 @@ use Rattle.fpl_base.proofs.RowLemmas.{AgreeBut, Before, put_is}
 use Rattle.fpl_base.specs.Keeping.{KeysRise, applied_one, is_same_key, map_of, precedes}
 use Rattle.fpl_base.specs.declared.records.Op.TheVariants.{Put}
 use Rattle.fpl_base.specs.declared.records.RecordKey.{RecordKey as Key}
-use Rattle.season_books.specs.Stored.{Rows}
-use Rattle.season_books.proofs.Found.{found_at}
+use Rattle.stored_records.specs.Stored.{Rows}
+use Rattle.stored_records.proofs.Found.{found_at}
 
 -- what a test of keys keeps of some records
 abbrev pub kept_by : (Key → Bool) → Rows → Rows

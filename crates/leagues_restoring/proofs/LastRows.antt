@@ -21,9 +21,9 @@ use Rattle.rule_book.specs.ById.{at_id, placed_at}
 use Rattle.season_book.specs.Book.{Last}
 use Rattle.season_book.specs.declared.command.Command.{Command}
 use Rattle.season_book.specs.declared.command.Command.TheVariants as command
+use Rattle.stored_records.specs.Stored.{Rows, is_there, told}
 use Rattle.season_books.specs.Lawful.{judged, rules_broken}
 use Rattle.season_books.specs.LeagueRules.{is_answer, last_breaks}
-use Rattle.season_books.specs.Stored.{Rows, is_there, told}
 use Rattle.season_records.proofs.Orders.{put_sorted}
 use Rattle.season_records.specs.Records.{last_item, made_id, status_of}
 use Rattle.season_records.specs.Told.{made_by}

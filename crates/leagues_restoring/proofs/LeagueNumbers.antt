@@ -9,7 +9,7 @@ use Rattle.fpl_base.specs.Keeping.{is_same_key, map_of, precedes}
 use Rattle.fpl_base.specs.declared.records.RecordKey.{RecordKey as Key}
 use Rattle.record_codec.specs.Keys.{key_of}
 use Rattle.record_codec.specs.declared.slot.Slot.TheVariants as slot
-use Rattle.season_books.specs.Stored.{Rows, between, is_there, is_within}
+use Rattle.stored_records.specs.Stored.{Rows, between, is_there, is_within}
 use Rattle.leagues_restoring.proofs.LawfulRows.{some_there}
 
 -- Counting.

@@ -9,7 +9,7 @@ use Rattle.record_codec.specs.Keys.{key_of}
 use Rattle.record_codec.specs.declared.slot.Slot.TheVariants as slot
 use Rattle.rule_book.specs.Entries.{entry_in}
 use Rattle.rule_book.specs.declared.cup.Bracket.{Bracket}
-use Rattle.season_books.specs.Stored.{told}
+use Rattle.stored_records.specs.Stored.{told}
 use Rattle.season_records.specs.Records.{cup_item}
 
 -- cups tell what the records of a map tell of such

@@ -12,7 +12,7 @@ use Rattle.season_book.specs.Book.{Last}
 use Rattle.season_book.specs.Commands.{IsCommand}
 use Rattle.season_book.specs.declared.command.Command.{Command}
 use Rattle.season_book.specs.declared.command.Command.TheVariants as command
-use Rattle.season_books.specs.Stored.{told}
+use Rattle.stored_records.specs.Stored.{told}
 use Rattle.season_records.specs.Records.{last_item, made_id, status_of}
 use Rattle.season_records.specs.Told.{made_by}
 

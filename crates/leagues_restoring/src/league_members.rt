@@ -6,8 +6,8 @@ ghost use Rattle.fpl_base.specs.Keeping.{KeysRise};
 
 use classic_leagues::Ids;
 use fpl_base::{EntryId, LeagueId, Memory};
-use season_books::Stored;
 use std::alloc::Global;
+use stored_records::Stored;
 
 // The entry of this number.
 fn entry(number: u32) -> EntryId

@@ -6,8 +6,8 @@ ghost use Rattle.record_codec.specs.declared.item.Item.TheVariants as item;
 ghost use Rattle.record_codec.specs.declared.slot.Slot.TheVariants as slot;
 ghost use Rattle.rule_book.specs.Entries.{entry_in};
 ghost use Rattle.rule_book.specs.Leagues.{LeagueFacts};
+ghost use Rattle.stored_records.specs.Stored.{told};
 ghost use Rattle.season_books.specs.Lawful.{judged};
-ghost use Rattle.season_books.specs.Stored.{told};
 ghost use Rattle.season_competitions.specs.Leagues.{AreMembers};
 ghost use Rattle.season_records.specs.Records.{league_item, member_told};
 ghost use Rattle.leagues_restoring.specs.LeagueRestoring.{AreLeaguesRestored, GoesOn, IsLeagueRestored, IsMadeOf, LeaguesEnd};
@@ -18,8 +18,8 @@ use fpl_base::{Bytes, Code, EntryId, Gw, LeagueId, Memory, Name, RecordKey};
 use record_codec::{Item, Slot};
 use rule_book::LeagueKind;
 use season_book::Order;
-use season_books::Stored;
 use std::alloc::Global;
+use stored_records::Stored;
 
 // So many leagues are in a season at most.
 const MOST_LEAGUES: u32 = 512;

@@ -15,14 +15,14 @@ use Rattle.record_codec.specs.declared.item.Item.TheVariants as item
 use Rattle.record_codec.specs.declared.slot.Slot.{Slot}
 use Rattle.record_codec.specs.declared.slot.Slot.TheVariants as slot
 use Rattle.rule_book.specs.declared.transfers.Sale.{Sale}
-use Rattle.season_books.specs.declared.entry_told.RecordedTeam.{RecordedTeam}
+use Rattle.stored_records.specs.declared.entry_told.RecordedTeam.{RecordedTeam}
+use Rattle.stored_records.specs.EntryTold.{first_in, first_told, sale_in, sale_told, team_in, team_told}
+use Rattle.stored_records.specs.SeasonRules.{misses}
+use Rattle.stored_records.specs.Stored.{Rows, told}
 use Rattle.season_books.specs.EntryLaws.{IsLawfulEntry, JudgedEntriesAreRestored}
 use Rattle.season_books.specs.EntryRules.{entry_breaks, team_breaks, transfer_breaks}
-use Rattle.season_books.specs.EntryTold.{first_in, first_told, sale_in, sale_told, team_in, team_told}
 use Rattle.season_books.specs.Lawful.{breaks, first_not_spelled, first_wrong, is_wrong, judged, rules_broken}
 use Rattle.season_books.specs.LeagueRules.{issue_breaks}
-use Rattle.season_books.specs.SeasonRules.{misses}
-use Rattle.season_books.specs.Stored.{Rows, told}
 use Rattle.season_books.proofs.Lawful.{lawful_restored}
 
 -- Where none of the rows is found, none that a map tells of passes the test.

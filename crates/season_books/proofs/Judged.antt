@@ -13,7 +13,7 @@ use Rattle.rule_book.specs.declared.cup.Bracket.{Bracket}
 use Rattle.rule_book.specs.Cups.{has_no_bye_tie, has_rounds, is_cup, stands_once, wrong_cup}
 use Rattle.rule_book.specs.HeadToHead.{is_draw}
 use Rattle.rule_book.specs.Refusals.{IsJudged}
-use Rattle.season_books.proofs.Loops.{any_same}
+use Rattle.stored_records.proofs.Loops.{any_same}
 
 pub judged_ok : {T : Type 0} (broken : Option Rule) (r : Result T Rule) → IsJudged broken r → is_ok r ≡ is_none broken
 judged_ok broken (Ok value) is = sym (ap is_none is)

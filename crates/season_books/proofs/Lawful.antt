@@ -15,15 +15,16 @@ use Rattle.rule_book.specs.EntryRecords.{FirstIsBare, FollowsOn, IsFifteen, IsPr
 use Rattle.rule_book.specs.History.{is_free_hit}
 use Rattle.rule_book.specs.HistoryTeam.{holdings}
 use Rattle.rule_book.specs.HistoryTransfers.{makes_free}
-use Rattle.season_books.specs.declared.entry_told.RecordedTeam.{RecordedTeam}
+use Rattle.stored_records.specs.declared.entry_told.RecordedTeam.{RecordedTeam}
+use Rattle.stored_records.specs.EntryTold.{chip_told, first_told, is_between_ends, is_first_of, is_in_time, last_open, sale_told, team_told}
+use Rattle.stored_records.specs.SeasonRules.{terms_told}
+use Rattle.stored_records.specs.Sequels.{are_same_holdings, base_told, follows, goes_on, holdings_told, opens_with, sales_told}
+use Rattle.stored_records.proofs.Alike.{same_from}
+use Rattle.season_books.proofs.Picks.{different_from, holdings_at, priced_from}
 use Rattle.season_books.specs.EntryRules.{entry_breaks}
-use Rattle.season_books.specs.EntryTold.{chip_told, first_told, is_between_ends, is_first_of, is_in_time, last_open, sale_told, team_told}
-use Rattle.season_books.specs.SeasonRules.{terms_told}
-use Rattle.season_books.specs.Sequels.{are_same_holdings, base_told, follows, goes_on, holdings_told, opens_with, sales_told}
 use Rattle.season_books.specs.TeamRules.{is_distinct, is_fit, is_lined_up, is_playable, is_played_again, is_priced, is_too_early, has_players, is_lawful_team, position_told, positions_told}
 use Rattle.season_books.specs.TransferRules.{is_next_number, is_priced_sale, names_players, term_told, is_lawful_sale}
 use Rattle.season_books.specs.EntryLaws.{AreItsSales, AreItsTeams, IsLawfulEntry, LawfulEntriesAreRestored, NumberedSale, sales_of_rows, team_of_record}
-use Rattle.season_books.proofs.Alike.{different_from, holdings_at, priced_from, same_from}
 use Rattle.season_books.proofs.Listed.{all_from_one, found_first, before_as, first_is, none_before_first, none_is}
 use Rattle.season_books.proofs.Numbered.{IsGapless, few_from, nothing_told, of_each, sales_are}
 

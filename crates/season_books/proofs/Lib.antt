@@ -1,15 +1,8 @@
-pub mod Alike
-pub mod Bases
 pub mod Chips
-pub mod Deadlines
 pub mod EntriesJudged
-pub mod Found
 pub mod Judged
 pub mod KeyPlaces
 pub mod Lawful
 pub mod Listed
-pub mod Loops
-pub mod Members
-pub mod Nearer
 pub mod Numbered
-pub mod Trading
+pub mod Picks

@@ -6,8 +6,8 @@ use Rattle.std.proofs.lemmas.Bool.{eq-eqb, ne_eqb, lt-ltb, le-ltb, cases_order}
 use Rattle.rule_book.specs.declared.team.Team.{Team}
 use Rattle.rule_book.specs.EntryRecords.{AllLater, TeamsRise, first_of, later_of, team_before, team_recorded}
 use Rattle.rule_book.specs.History.{is_free_hit}
-use Rattle.season_books.specs.declared.entry_told.RecordedTeam.{RecordedTeam}
-use Rattle.season_books.specs.Sequels.{lasting, last_before}
+use Rattle.stored_records.specs.declared.entry_told.RecordedTeam.{RecordedTeam}
+use Rattle.stored_records.specs.Sequels.{lasting, last_before}
 
 -- none of the later teams is of this gameweek or one before
 pub none_later : (teams : List (ℕ × Team)) (a g : ℕ) → AllLater a teams → g ≤ a → team_recorded teams g ≡ None

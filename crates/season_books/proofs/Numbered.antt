@@ -5,9 +5,9 @@ use Rattle.std.specs.Option.{is_some}
 use Rattle.std.proofs.lemmas.Bool.{eqb-true, eq-eqb, ne_eqb, cases_order, cases_eq, cases_Bool, and_left, and_right, and_parts, true≢false}
 use Rattle.rule_book.specs.declared.transfers.Sale.{Sale}
 use Rattle.rule_book.specs.EntryRecords.{sales_in}
-use Rattle.season_books.specs.Sequels.{and_then_those, sales_from}
+use Rattle.stored_records.specs.Sequels.{and_then_those, sales_from}
+use Rattle.stored_records.proofs.Trading.{none_ahead, one_ahead}
 use Rattle.season_books.specs.EntryLaws.{AllBehind, NumberedSale, SalesRise, sale_numbered, sales_of_rows}
-use Rattle.season_books.proofs.Trading.{none_ahead, one_ahead}
 
 -- A gameweek's transfers have the numbers 1, 2, 3 and so on, at most 1,000: each number but 1 stands behind another.
 pub record IsGapless (told : ℕ → Option Sale) : Type 0 where

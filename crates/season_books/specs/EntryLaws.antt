@@ -5,11 +5,11 @@ use Rattle.fpl_base.specs.Keeping.{Map, map_of}
 use Rattle.rule_book.specs.declared.team.Team.{Team}
 use Rattle.rule_book.specs.declared.transfers.Sale.{Sale}
 use Rattle.rule_book.specs.EntryRecords.{AreEntryRecords, TeamsRise, team_recorded}
-use Rattle.season_books.specs.declared.entry_told.RecordedTeam.{RecordedTeam}
-use Rattle.season_books.specs.EntryTold.{first_told, sale_told, team_told}
+use Rattle.stored_records.specs.declared.entry_told.RecordedTeam.{RecordedTeam}
+use Rattle.stored_records.specs.EntryTold.{first_told, sale_told, team_told}
+use Rattle.stored_records.specs.Stored.{Rows}
 use Rattle.season_books.specs.EntryRules.{entry_breaks, team_breaks, transfer_breaks}
 use Rattle.season_books.specs.Lawful.{judged}
-use Rattle.season_books.specs.Stored.{Rows}
 use Rattle.season_books.specs.TeamRules.{position_told}
 
 -- no record of an entry breaks a rule: not its own, no team's, and no transfer's

@@ -3,10 +3,10 @@ use Rattle.std.specs.Prelude.{ℕ, Bool, false, not, List, Option, is_some}
 use Rattle.std.specs.Option.{option_map_or}
 use Rattle.fpl_base.specs.Keeping.{Map}
 use Rattle.fpl_base.specs.declared.kinds.Chip.{Chip}
-use Rattle.season_books.specs.EntryTold.{team_told}
+use Rattle.stored_records.specs.EntryTold.{team_told}
 use Rattle.season_books.specs.TeamRules.{is_lawful_team}
 use Rattle.season_books.specs.TransferRules.{is_lawful_sale}
-pub use Rattle.season_books.specs.EntryTold.{first_in, first_told}
+pub use Rattle.stored_records.specs.EntryTold.{first_in, first_told}
 
 -- a registered entry has no team in its first gameweek; `first` is what its record says
 abbrev pub entry_breaks : Map → ℕ → Option ℕ → Bool

@@ -10,10 +10,10 @@ use Rattle.record_codec.specs.ItemReading.{item_of}
 use Rattle.record_codec.specs.declared.item.Item.{Item}
 use Rattle.record_codec.specs.declared.item.Item.TheVariants as item
 use Rattle.record_codec.specs.declared.slot.Slot.TheVariants as slot
+use Rattle.stored_records.specs.SeasonRules.{club_breaks, fixture_breaks, line_breaks, misses, player_breaks, season_breaks}
+use Rattle.stored_records.specs.Stored.{Rows}
 use Rattle.season_books.specs.EntryRules.{team_breaks, transfer_breaks}
 use Rattle.season_books.specs.LeagueRules.{cup_breaks, issue_breaks, last_breaks, league_breaks, member_breaks}
-use Rattle.season_books.specs.SeasonRules.{club_breaks, fixture_breaks, line_breaks, misses, player_breaks, season_breaks}
-use Rattle.season_books.specs.Stored.{Rows}
 
 -- The rule that is tried first, on each record alone.
 

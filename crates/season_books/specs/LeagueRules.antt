@@ -1,10 +1,9 @@
 -- The rules on entries, leagues, members, cups and last commands: when a record of a store breaks one of them.
-use Rattle.std.specs.Prelude.{ℕ, ◌+◌, ◌-◌, Bool, false, not, ◌&&◌, ◌||◌, ◌==◌, List, Option, Some, None, is_some, nat_le, nat_lt, count_by, filter, map, length, slice_range}
+use Rattle.std.specs.Prelude.{ℕ, ◌+◌, ◌-◌, Bool, false, not, ◌&&◌, ◌||◌, ◌==◌, List, Option, Some, None, is_some, nat_le, count_by, filter, map, length, slice_range}
 use Rattle.std.specs.List.{list_any, range_with_len}
 use Rattle.std.specs.Option.{option_map_or}
 use Rattle.std.specs.Str.{bytes_eq}
 use Rattle.fpl_base.specs.Keeping.{Map, map_of}
-use Rattle.fpl_base.specs.declared.records.RecordKey.{RecordKey}
 use Rattle.rule_book.specs.CupCalls.{entrants, most_cups}
 use Rattle.rule_book.specs.Cups.{is_cup}
 use Rattle.rule_book.specs.Entries.{most_entries}
@@ -19,9 +18,9 @@ use Rattle.record_codec.specs.declared.item.Item.{Item}
 use Rattle.record_codec.specs.declared.item.Item.TheVariants as item
 use Rattle.record_codec.specs.declared.slot.Slot.{Slot}
 use Rattle.record_codec.specs.declared.slot.Slot.TheVariants as slot
+use Rattle.stored_records.specs.SeasonRules.{is_full, misses}
+use Rattle.stored_records.specs.Stored.{Rows, deadlines_told, has_gameweek, is_member_of, is_there, is_within, told}
 use Rattle.season_books.specs.EntryRules.{entry_breaks, first_told}
-use Rattle.season_books.specs.SeasonRules.{is_full, misses}
-use Rattle.season_books.specs.Stored.{Rows, deadlines_told, has_gameweek, is_there, is_within, told}
 
 -- What the rules share.
 
@@ -63,14 +62,6 @@ issue_breaks rows entry first key =
     || is_full rows most_entries (slot.Entry 0) (slot.Entry entry)
 
 -- Leagues.
-
--- a record of a member of a league
-abbrev pub is_member_of : ℕ → RecordKey × List ℕ → Bool
-is_member_of league row = row.0.kind == 10 && row.0.a == league
-
--- a key stands before those of all its members
-abbrev pub stands_before : ℕ → RecordKey → Bool
-stands_before league key = nat_lt key.kind 10 || key.kind == 10 && nat_lt key.a league
 
 -- the members of a league, by ascending id
 abbrev pub members_of : Rows → ℕ → List ℕ

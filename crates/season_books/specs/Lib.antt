@@ -1,10 +1,6 @@
 pub mod EntryLaws
 pub mod EntryRules
-pub mod EntryTold
 pub mod Lawful
 pub mod LeagueRules
-pub mod SeasonRules
-pub mod Sequels
-pub mod Stored
 pub mod TeamRules
 pub mod TransferRules

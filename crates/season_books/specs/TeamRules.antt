@@ -14,10 +14,10 @@ use Rattle.record_codec.specs.declared.slot.Slot.TheVariants as slot
 use Rattle.rule_book.specs.HistoryTransfers.{is_same_chip, makes_free, used_before}
 use Rattle.rule_book.specs.Lineups.{lineup_refusal}
 use Rattle.rule_book.specs.Squads.{has_squad_shape}
-use Rattle.season_books.specs.declared.entry_told.RecordedTeam.{RecordedTeam}
-use Rattle.season_books.specs.EntryTold.{chip_told, is_first_of, is_in_time}
-use Rattle.season_books.specs.Sequels.{goes_on}
-use Rattle.season_books.specs.Stored.{is_there, split_told, told}
+use Rattle.stored_records.specs.declared.entry_told.RecordedTeam.{RecordedTeam}
+use Rattle.stored_records.specs.EntryTold.{chip_told, is_first_of, is_in_time}
+use Rattle.stored_records.specs.Sequels.{goes_on}
+use Rattle.stored_records.specs.Stored.{is_there, split_told, told}
 
 -- the position of a player; that of a goalkeeper where he is not there
 abbrev pub position_in : Option Item → Position

@@ -5,9 +5,9 @@ use Rattle.record_fields.specs.Ranges.{is_between}
 use Rattle.record_codec.specs.declared.slot.Slot.TheVariants as slot
 use Rattle.rule_book.specs.declared.transfers.Sale.{Sale}
 use Rattle.rule_book.specs.EntryCalls.{transfer_limit}
+use Rattle.stored_records.specs.EntryTold.{chip_told, is_first_of, is_in_time, sale_told, team_told}
+use Rattle.stored_records.specs.Stored.{is_there}
 use Rattle.season_books.specs.declared.transfer_rules.Term.{Term}
-use Rattle.season_books.specs.EntryTold.{chip_told, is_first_of, is_in_time, sale_told, team_told}
-use Rattle.season_books.specs.Stored.{is_there}
 
 -- What an entry's gameweek says of its transfers: whether it may have some, which it may in its entry's time and with a
 -- team, and at most how many.

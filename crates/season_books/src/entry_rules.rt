@@ -1,18 +1,15 @@
 // The rules on entries, their teams and their transfers, by what a record says.
 ghost use Rattle.std.specs.Prelude.{◌≡◌, IfOk};
 ghost use Rattle.fpl_base.specs.Keeping.{map_of};
+ghost use Rattle.stored_records.specs.SeasonRules.{terms_told};
 ghost use Rattle.season_books.specs.EntryRules.{entry_breaks, team_breaks, transfer_breaks};
-ghost use Rattle.season_books.specs.SeasonRules.{terms_told};
 ghost use Rattle.season_books.specs.TransferRules.{IsKnown};
 
-pub(crate) use crate::entry_told::first_of;
-use crate::entry_told::{RecordedTeam, has_team, numbers_of, sale};
-use crate::stored::Stored;
 use crate::team_rules::is_lawful_team;
-use crate::terms::Terms;
 use crate::transfer_rules::{Term, is_lawful_sale, known_term};
 use fpl_base::{Chip, EntryId, Gw, Memory, PlayerId};
 use std::alloc::Global;
+use stored_records::{RecordedTeam, Stored, Terms, has_team, numbers_of, sale};
 
 /// Whether a registered entry has no team in its first gameweek; `first` is what its record says.
 pub(crate) fn entry_breaks(

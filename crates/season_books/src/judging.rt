@@ -2,23 +2,22 @@
 ghost use Rattle.std.specs.Prelude.{◌≡◌, IfOk, nat_le};
 ghost use Rattle.std.specs.List.{list_all};
 ghost use Rattle.fpl_base.specs.Keeping.{KeysRise, map_of};
+ghost use Rattle.stored_records.specs.SeasonRules.{terms_told};
 ghost use Rattle.season_books.specs.Lawful.{breaks, first_not_spelled, first_wrong, is_in_range, is_spelled, is_wrong, judged, rules_broken};
-ghost use Rattle.season_books.specs.SeasonRules.{terms_told};
 ghost use Rattle.season_books.specs.TransferRules.{IsKnown};
 
 use crate::entry_rules::{team_breaks, transfer_breaks};
 use crate::league_rules::{cup_breaks, issue_breaks, last_breaks, league_breaks, member_breaks};
-use crate::season_rules::{
-    club_breaks, fixture_breaks, line_breaks, misses, player_breaks, season_breaks,
-};
-use crate::stored::Stored;
-use crate::terms::{Terms, terms_of};
 use crate::transfer_rules::Term;
 use fpl_base::{Bytes, Memory, RecordKey};
 use match_facts::line_ok;
 use record_codec::{Item, Slot, decode};
 use rule_book::Fixture;
 use std::alloc::Global;
+use stored_records::{
+    Stored, Terms, club_breaks, fixture_breaks, line_breaks, misses, player_breaks, season_breaks,
+    terms_of,
+};
 
 /// The key of the first record that is not lawful; `Ok(None)` exactly where all are. First each record is looked at alone:
 /// whether it is spelled as an item whose values are in their ranges. Where all are, each is held against the rules of a

@@ -9,19 +9,17 @@ ghost use Rattle.rule_book.specs.LeagueCalls.{is_head, most_members};
 ghost use Rattle.record_codec.specs.ItemReading.{item_of};
 ghost use Rattle.record_codec.specs.Laws.{IsBytes};
 ghost use Rattle.record_codec.specs.declared.slot.Slot.TheVariants as slot;
+ghost use Rattle.stored_records.specs.SeasonRules.{misses, terms_told};
 ghost use Rattle.season_books.specs.LeagueRules.{cup_breaks, has_gap, has_key, has_other_key, is_answer, is_drawn_wrong, is_league_full, is_registered, issue_breaks, kind_in, last_breaks, league_breaks, leagues_before, member_breaks, plays_from, stands_at_two};
-ghost use Rattle.season_books.specs.SeasonRules.{misses, terms_told};
 
-use crate::entry_rules::{entry_breaks, first_of};
-use crate::season_rules::{is_full, misses};
-use crate::stored::Stored;
-use crate::terms::{Terms, has_gameweek};
+use crate::entry_rules::entry_breaks;
 use cup_rounds::check_draw;
 use fpl_base::{Bytes, CupId, EntryId, Gw, Key, LeagueId, Memory, RecordKey};
 use record_codec::{Item, Slot, decode};
 use rule_book::LeagueKind;
 use season_book::Command;
 use std::alloc::Global;
+use stored_records::{Stored, Terms, first_of, has_gameweek, is_full, misses};
 
 // Limits of a season.
 const MOST_ENTRIES: usize = 2048;

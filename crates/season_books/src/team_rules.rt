@@ -6,19 +6,18 @@ ghost use Rattle.record_fields.specs.Ranges.{is_between};
 ghost use Rattle.rule_book.specs.HistoryTransfers.{half_of, is_same_chip, makes_free};
 ghost use Rattle.rule_book.specs.Positions.{keepers, defenders, midfielders, forwards};
 ghost use Rattle.rule_book.specs.Squads.{has_squad_shape};
-ghost use Rattle.season_books.specs.EntryTold.{is_first_of};
-ghost use Rattle.season_books.specs.SeasonRules.{terms_told};
-ghost use Rattle.season_books.specs.Stored.{split_told};
+ghost use Rattle.stored_records.specs.EntryTold.{is_first_of};
+ghost use Rattle.stored_records.specs.SeasonRules.{terms_told};
+ghost use Rattle.stored_records.specs.Stored.{split_told};
 ghost use Rattle.season_books.specs.TeamRules.{has_players, is_distinct, is_fit, is_lined_up, is_playable, is_played_again, is_priced, position_in, position_told, positions_told, is_lawful_team};
 
-use crate::entry_told::{RecordedTeam, chip_of, first_of, is_first, is_in_time};
-use crate::sequels::goes_on;
-use crate::stored::Stored;
-use crate::terms::Terms;
 use fpl_base::{Chip, EntryId, Gw, Memory, Position};
 use record_codec::{Item, Slot};
 use squad_rules::check_lineup;
 use std::alloc::Global;
+use stored_records::{
+    RecordedTeam, Stored, Terms, chip_of, first_of, goes_on, is_first, is_in_time,
+};
 
 // Whether each of the players is there.
 fn has_players(stored: &Stored, picks: &[(u32, u32); 15]) -> bool

@@ -2,18 +2,16 @@
 ghost use Rattle.std.specs.Prelude.{◌≡◌, IfOk, is_some};
 ghost use Rattle.fpl_base.specs.Keeping.{map_of};
 ghost use Rattle.rule_book.specs.EntryCalls.{transfer_limit};
-ghost use Rattle.season_books.specs.EntryTold.{sale_told};
-ghost use Rattle.season_books.specs.SeasonRules.{terms_told};
+ghost use Rattle.stored_records.specs.EntryTold.{sale_told};
+ghost use Rattle.stored_records.specs.SeasonRules.{terms_told};
 ghost use Rattle.season_books.specs.TransferRules.{IsKnown, is_next_number, is_priced_sale, names_players, is_lawful_sale, term_told};
 
-use crate::entry_told::{chip_in, first_of, is_first, is_in_time, sale_of, team_of};
-use crate::stored::Stored;
 use crate::team_rules::{is_price, makes_free};
-use crate::terms::Terms;
 use fpl_base::{Chip, EntryId, Gw, Memory};
 use record_codec::Slot;
 use rule_book::Sale;
 use std::alloc::Global;
+use stored_records::{Stored, Terms, chip_in, first_of, is_first, is_in_time, sale_of, team_of};
 
 /// What an entry's gameweek says of its transfers: whether it may have some, and at most how many.
 #[derive(Clone, Copy)]

@@ -24,12 +24,12 @@ use Rattle.record_codec.proofs.ItemLaws.{item_back}
 use Rattle.season_records.specs.Records.{cup_item, entry_item, last_item, league_item, member_told, no_position, pick_told, records, team_item, team_told as team_told_of, told, told_in, transfer_item, transfer_told}
 use Rattle.season_records.proofs.Finds.{none_in}
 use Rattle.season_records.proofs.Slots.{slots_tell_of_themselves}
+use Rattle.stored_records.specs.EntryTold.{first_in, first_told, sale_in, sale_told, team_in, team_told}
+use Rattle.stored_records.specs.SeasonRules.{misses}
+use Rattle.stored_records.specs.Stored.{Rows}
+use Rattle.stored_records.proofs.Found.{found_at}
 use Rattle.season_books.specs.EntryRules.{entry_breaks}
-use Rattle.season_books.specs.EntryTold.{first_in, first_told, sale_in, sale_told, team_in, team_told}
 use Rattle.season_books.specs.Lawful.{breaks, first_wrong, is_in_range, is_spelled, is_wrong, judged}
-use Rattle.season_books.specs.SeasonRules.{misses}
-use Rattle.season_books.specs.Stored.{Rows}
-use Rattle.season_books.proofs.Found.{found_at}
 use Rattle.season_opening.specs.Opening.{IsJudgedAs, IsKeepable}
 use Rattle.lawful_facts.specs.Rules.{IsOfFacts}
 use Rattle.lawful_facts.proofs.Rules.{facts_break_no_rule}

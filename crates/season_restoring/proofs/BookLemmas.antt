@@ -17,7 +17,7 @@ use Rattle.season_entries.specs.EntryLaws.{AreEarly}
 use Rattle.facts_restoring.specs.Restored.{TellsFacts}
 use Rattle.season_records.specs.Records.{cup_item, last_item, league_item, made_id, member_told, told_in}
 use Rattle.season_records.specs.Told.{AreInOrder, made_by}
-use Rattle.season_books.specs.Stored.{Rows, told}
+use Rattle.stored_records.specs.Stored.{Rows, told}
 use Rattle.season_running.specs.Standing.{InStep, Running, host_rows}
 use Rattle.season_rows.specs.Ordered.{AreRowsInOrder}
 use Rattle.season_rows.specs.RowsTold.{manager_item, team_by, told_by, transfer_by}

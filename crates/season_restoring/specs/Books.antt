@@ -8,7 +8,7 @@ use Rattle.rule_book.specs.Leagues.{LeagueFacts}
 use Rattle.record_codec.specs.declared.slot.Slot.TheVariants as slot
 use Rattle.season_records.specs.Records.{cup_item, league_item, member_told}
 use Rattle.season_records.specs.Told.{AreInOrder}
-use Rattle.season_books.specs.Stored.{Rows, told}
+use Rattle.stored_records.specs.Stored.{Rows, told}
 use Rattle.season_running.specs.Standing.{Running}
 use Rattle.season_rows.specs.Ordered.{IsManagerInOrder}
 use Rattle.season_rows.specs.RowsTold.{manager_item, team_by, transfer_by}

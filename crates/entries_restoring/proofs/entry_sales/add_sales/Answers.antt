@@ -1,6 +1,6 @@
 use Rattle.std.proofs.Common.{arith}
 use Rattle.fpl_base.specs.Keeping.{map_of}
-use Rattle.season_books.specs.EntryTold.{sale_told}
+use Rattle.stored_records.specs.EntryTold.{sale_told}
 use Rattle.entries_restoring.proofs.Adding.{ends, goes_on, stops}
 use Rattle.entries_restoring.proofs.entry_sales.add_sales.Goals as goal
 

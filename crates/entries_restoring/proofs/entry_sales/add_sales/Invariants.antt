@@ -1,5 +1,5 @@
 use Rattle.fpl_base.specs.Keeping.{map_of}
-use Rattle.season_books.specs.EntryTold.{sale_told}
+use Rattle.stored_records.specs.EntryTold.{sale_told}
 use Rattle.entries_restoring.proofs.Adding.{IsAdding}
 use Rattle.entries_restoring.proofs.entry_sales.add_sales.Given as goal
 

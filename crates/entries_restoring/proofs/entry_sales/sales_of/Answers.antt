@@ -2,7 +2,7 @@ use Rattle.std.proofs.Common.{◌≡◌, ◌++◌, ℕ, List, arith, subst}
 use Rattle.fpl_base.specs.Keeping.{map_of}
 use Rattle.rule_book.specs.declared.transfers.Sale.{Sale}
 use Rattle.manager_book.specs.Calls.{with_gameweek}
-use Rattle.season_books.specs.Sequels.{sales_told}
+use Rattle.stored_records.specs.Sequels.{sales_told}
 use Rattle.entries_restoring.proofs.Through.{at_end, on_from}
 use Rattle.entries_restoring.proofs.entry_sales.sales_of.Goals as goal
 

@@ -1,6 +1,6 @@
 use Rattle.fpl_base.specs.Keeping.{map_of}
 use Rattle.manager_book.specs.Calls.{with_gameweek}
-use Rattle.season_books.specs.Sequels.{sales_told}
+use Rattle.stored_records.specs.Sequels.{sales_told}
 use Rattle.entries_restoring.proofs.Through.{IsOnTheWay}
 use Rattle.entries_restoring.proofs.entry_sales.sales_of.Given as goal
 

@@ -6,7 +6,7 @@ use Rattle.record_codec.specs.declared.slot.Slot.TheVariants as slot
 use Rattle.rule_book.specs.Entries.{entry_in}
 use Rattle.manager_book.specs.Managers.{Managers}
 use Rattle.season_book.specs.Book.{Facts}
-use Rattle.season_books.specs.Stored.{told}
+use Rattle.stored_records.specs.Stored.{told}
 use Rattle.season_entries.specs.EntryLaws.{AreEarly}
 use Rattle.season_records.specs.Records.{told_in}
 use Rattle.season_rows.specs.Ordered.{IsManagerInOrder}

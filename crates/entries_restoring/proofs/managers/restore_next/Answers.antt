@@ -1,7 +1,7 @@
 use Rattle.std.proofs.Common.{◌≡◌, ◌+◌, ◌∙◌, None, ap, refl, subst, sym}
 use Rattle.fpl_base.specs.Keeping.{map_of}
 use Rattle.record_codec.specs.declared.slot.Slot.TheVariants as slot
-use Rattle.season_books.specs.Stored.{told}
+use Rattle.stored_records.specs.Stored.{told}
 use Rattle.entries_restoring.specs.Restoring.{IsTold, parts_of}
 use Rattle.entries_restoring.proofs.Told.{no_parts, told_parts}
 use Rattle.entries_restoring.proofs.managers.restore_next.Goals as goal

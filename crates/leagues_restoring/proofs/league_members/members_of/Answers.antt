@@ -1,5 +1,5 @@
 use Rattle.std.proofs.Common.{◌≡◌, ◌∙◌, ◌<◌, ap, filter, get_or, length, subst}
-use Rattle.season_books.specs.LeagueRules.{is_member_of}
+use Rattle.stored_records.specs.Stored.{is_member_of}
 use Rattle.leagues_restoring.proofs.MemberRows.{at_place}
 use Rattle.leagues_restoring.proofs.league_members.members_of.Goals as goal
 

@@ -5,7 +5,7 @@ use Rattle.record_codec.specs.declared.item.Item.{Item}
 use Rattle.record_codec.specs.declared.slot.Slot.TheVariants as slot
 use Rattle.rule_book.specs.Entries.{entry_in}
 use Rattle.rule_book.specs.Leagues.{LeagueFacts}
-use Rattle.season_books.specs.Stored.{told}
+use Rattle.stored_records.specs.Stored.{told}
 use Rattle.season_competitions.specs.Leagues.{AreMembers}
 use Rattle.season_records.specs.Records.{league_item, member_told}
 use Rattle.leagues_restoring.specs.LeagueRestoring.{AreLeaguesRestored, LeaguesEnd}

@@ -3,7 +3,7 @@ use Rattle.std.proofs.lemmas.List.{length-append}
 use Rattle.fpl_base.specs.Keeping.{map_of}
 use Rattle.record_codec.specs.declared.slot.Slot.TheVariants as slot
 use Rattle.rule_book.specs.Leagues.{LeagueFacts}
-use Rattle.season_books.specs.Stored.{is_there, told}
+use Rattle.stored_records.specs.Stored.{is_there, told}
 use Rattle.leagues_restoring.specs.LeagueRestoring.{AreLeaguesRestored, IsLeagueRestored}
 use Rattle.leagues_restoring.proofs.AllLeagues.{if_one, one_more, room}
 use Rattle.leagues_restoring.proofs.OneLeague.{made_there}

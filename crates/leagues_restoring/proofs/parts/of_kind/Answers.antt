@@ -2,7 +2,7 @@ use Rattle.std.proofs.Common.{◌≡◌, ◌∙◌, filter, nat_le, nat_lt, rule
 use Rattle.std.proofs.lemmas.Fn.{always_returns_same}
 use Rattle.fpl_base.specs.Keeping.{KeysRise}
 use Rattle.fpl_base.specs.declared.records.RecordKey.{RecordKey}
-use Rattle.season_books.proofs.Found.{kept_between}
+use Rattle.stored_records.proofs.Found.{kept_between}
 use Rattle.leagues_restoring.specs.Kinds.{is_of_kind}
 use Rattle.leagues_restoring.proofs.KeptRows.{below_first, between_kinds, rise_kept, up_first}
 use Rattle.leagues_restoring.proofs.parts.of_kind.Goals as goal

@@ -1,7 +1,7 @@
 use Rattle.std.proofs.Common.{◌≡◌, ◌∙◌, ap, false, not, sym, true, get_or, Some}
 use Rattle.std.specs.Option.{option_map}
+use Rattle.stored_records.proofs.Loops.{fail_more, found_first, none_found}
 use Rattle.season_books.specs.Lawful.{is_spelled}
-use Rattle.season_books.proofs.Loops.{fail_more, found_first, none_found}
 use Rattle.season_books.proofs.judging.first_not_spelled.Goals as goal
 
 pub returns-then-not-branch : goal.returns-then-not-branch

@@ -1,4 +1,4 @@
-use Rattle.season_books.proofs.Loops.{FailBefore}
+use Rattle.stored_records.proofs.Loops.{FailBefore}
 use Rattle.std.proofs.Common.{not}
 use Rattle.season_books.specs.Lawful.{is_spelled}
 use Rattle.season_books.proofs.judging.first_not_spelled.Given as goal

@@ -1,7 +1,7 @@
 use Rattle.std.proofs.Common.{◌≡◌, ◌∙◌, ap, find, get_or, sym, Some, true}
 use Rattle.std.specs.Option.{option_map}
+use Rattle.stored_records.proofs.Loops.{fail_more, found_first, none_found}
 use Rattle.season_books.specs.Lawful.{is_wrong}
-use Rattle.season_books.proofs.Loops.{fail_more, found_first, none_found}
 use Rattle.season_books.proofs.judging.first_wrong.Goals as goal
 
 pub returns-then-branch : goal.returns-then-branch

@@ -1,5 +1,5 @@
 use Rattle.fpl_base.specs.Keeping.{map_of}
-use Rattle.season_books.proofs.Loops.{FailBefore}
+use Rattle.stored_records.proofs.Loops.{FailBefore}
 use Rattle.season_books.specs.Lawful.{is_wrong}
 use Rattle.season_books.specs.TransferRules.{IsKnown}
 use Rattle.season_books.proofs.judging.first_wrong.Given as goal

@@ -5,9 +5,9 @@ use Rattle.rule_book.specs.declared.cup.Bracket.{Bracket}
 use Rattle.rule_book.specs.CupCalls.{entrants, most_cups}
 use Rattle.rule_book.specs.Cups.{is_cup}
 use Rattle.record_codec.specs.declared.slot.Slot.TheVariants as slot
+use Rattle.stored_records.specs.SeasonRules.{is_full, misses}
+use Rattle.stored_records.specs.Stored.{deadlines_told, has_gameweek}
 use Rattle.season_books.specs.LeagueRules.{has_gap, plays_from}
-use Rattle.season_books.specs.SeasonRules.{is_full, misses}
-use Rattle.season_books.specs.Stored.{deadlines_told, has_gameweek}
 use Rattle.season_books.proofs.league_rules.cup_breaks.Goals as goal
 
 pub returns : goal.returns

@@ -2,8 +2,8 @@ use Rattle.std.proofs.Common.{◌≡◌, ◌∙◌, ◌&&◌, Bool, ℕ, ◌==�
 use Rattle.std.proofs.lemmas.Bool.Decides.{nat_tests}
 use Rattle.std.proofs.lemmas.List.Folds.{list_any_at}
 use Rattle.fpl_base.specs.Keeping.{map_of}
+use Rattle.stored_records.proofs.Loops.{any_entrant, none_passes}
 use Rattle.season_books.specs.LeagueRules.{plays_from}
-use Rattle.season_books.proofs.Loops.{any_entrant, none_passes}
 use Rattle.season_books.proofs.league_rules.has_late_entrant.Goals as goal
 
 pub returns-then-not-branch : goal.returns-then-not-branch

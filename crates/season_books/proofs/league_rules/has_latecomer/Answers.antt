@@ -1,7 +1,7 @@
 use Rattle.std.proofs.Common.{not, sym}
 use Rattle.fpl_base.specs.Keeping.{map_of}
+use Rattle.stored_records.proofs.Loops.{none_passes}
 use Rattle.season_books.specs.LeagueRules.{plays_from}
-use Rattle.season_books.proofs.Loops.{none_passes}
 use Rattle.season_books.proofs.league_rules.has_latecomer.Goals as goal
 
 pub returns : goal.returns

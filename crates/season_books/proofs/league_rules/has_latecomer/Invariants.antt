@@ -1,4 +1,4 @@
-use Rattle.season_books.proofs.Loops.{FailBefore}
+use Rattle.stored_records.proofs.Loops.{FailBefore}
 use Rattle.std.proofs.Common.{not}
 use Rattle.fpl_base.specs.Keeping.{map_of}
 use Rattle.season_books.specs.LeagueRules.{plays_from}

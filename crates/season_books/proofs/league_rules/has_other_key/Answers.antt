@@ -5,9 +5,9 @@ use Rattle.fpl_base.specs.declared.records.RecordKey.{RecordKey}
 use Rattle.record_codec.specs.ItemReading.{item_of}
 use Rattle.record_codec.specs.Keys.{key_of}
 use Rattle.record_codec.specs.declared.slot.Slot.TheVariants as slot
+use Rattle.stored_records.specs.Stored.{is_within}
+use Rattle.stored_records.proofs.Loops.{any_kept, fail_more, none_passes}
 use Rattle.season_books.specs.LeagueRules.{has_key}
-use Rattle.season_books.specs.Stored.{is_within}
-use Rattle.season_books.proofs.Loops.{any_kept, fail_more, none_passes}
 use Rattle.season_books.proofs.league_rules.has_other_key.Goals as goal
 
 pub returns-then-branch : goal.returns-then-branch

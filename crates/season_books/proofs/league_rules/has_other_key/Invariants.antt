@@ -1,4 +1,4 @@
-use Rattle.season_books.proofs.Loops.{FailBefore}
+use Rattle.stored_records.proofs.Loops.{FailBefore}
 use Rattle.record_codec.specs.ItemReading.{item_of}
 use Rattle.season_books.specs.LeagueRules.{has_key}
 use Rattle.season_books.proofs.league_rules.has_other_key.Given as goal

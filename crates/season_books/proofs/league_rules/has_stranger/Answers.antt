@@ -1,8 +1,8 @@
 use Rattle.std.proofs.Common.{◌≡◌, ◌∙◌, ap, get_or, not, sym, true}
 use Rattle.std.proofs.lemmas.List.Folds.{list_any_at}
 use Rattle.fpl_base.specs.Keeping.{map_of}
+use Rattle.stored_records.proofs.Loops.{any_mapped, none_passes}
 use Rattle.season_books.specs.LeagueRules.{is_registered}
-use Rattle.season_books.proofs.Loops.{any_mapped, none_passes}
 use Rattle.season_books.proofs.league_rules.has_stranger.Goals as goal
 
 pub returns-then-not-branch : goal.returns-then-not-branch

@@ -1,7 +1,7 @@
 use Rattle.std.proofs.Common.{◌∙◌, ap, sym}
 use Rattle.record_codec.specs.declared.slot.Slot.TheVariants as slot
+use Rattle.stored_records.specs.SeasonRules.{is_full}
 use Rattle.season_books.specs.LeagueRules.{is_league_full}
-use Rattle.season_books.specs.SeasonRules.{is_full}
 use Rattle.season_books.proofs.league_rules.is_league_full.Goals as goal
 
 pub returns-in-Some : goal.returns-in-Some

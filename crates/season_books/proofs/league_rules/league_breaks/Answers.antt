@@ -3,9 +3,9 @@ use Rattle.std.specs.List.{list_any}
 use Rattle.fpl_base.specs.Keeping.{map_of}
 use Rattle.rule_book.specs.LeagueCalls.{most_leagues}
 use Rattle.record_codec.specs.declared.slot.Slot.TheVariants as slot
+use Rattle.stored_records.specs.SeasonRules.{is_full, misses}
+use Rattle.stored_records.specs.Stored.{has_gameweek}
 use Rattle.season_books.specs.LeagueRules.{has_gap, is_drawn_wrong, is_registered, members_of, plays_from}
-use Rattle.season_books.specs.SeasonRules.{is_full, misses}
-use Rattle.season_books.specs.Stored.{has_gameweek}
 use Rattle.season_books.proofs.league_rules.league_breaks.Goals as goal
 
 pub returns : goal.returns

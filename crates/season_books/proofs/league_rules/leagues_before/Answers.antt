@@ -4,8 +4,8 @@ use Rattle.std.proofs.lemmas.List.Sums.{count_by-le-length}
 use Rattle.std.proofs.lemmas.List.FromFn.{length-range_with_len}
 use Rattle.fpl_base.specs.Keeping.{map_of}
 use Rattle.record_codec.specs.declared.slot.Slot.TheVariants as slot
-use Rattle.season_books.specs.Stored.{is_there}
-use Rattle.season_books.proofs.Loops.{count_up}
+use Rattle.stored_records.specs.Stored.{is_there}
+use Rattle.stored_records.proofs.Loops.{count_up}
 use Rattle.season_books.proofs.league_rules.leagues_before.Goals.{then-has, else-has}
 use Rattle.season_books.proofs.league_rules.leagues_before.Goals as goal
 

@@ -1,8 +1,8 @@
 use Rattle.std.proofs.Common.{◌∙◌, sym}
 use Rattle.fpl_base.specs.Keeping.{map_of}
 use Rattle.record_codec.specs.declared.slot.Slot.TheVariants as slot
-use Rattle.season_books.specs.SeasonRules.{misses}
-use Rattle.season_books.proofs.Loops.{any_entrant}
+use Rattle.stored_records.specs.SeasonRules.{misses}
+use Rattle.stored_records.proofs.Loops.{any_entrant}
 use Rattle.season_books.proofs.league_rules.misses_entrant.Goals as goal
 
 pub returns : goal.returns

@@ -3,8 +3,8 @@ use Rattle.std.specs.Option.{is_some}
 use Rattle.fpl_base.specs.Keeping.{map_of}
 use Rattle.fpl_base.specs.declared.kinds.Chip.TheVariants.{None as NoChip}
 use Rattle.rule_book.specs.HistoryTransfers.{chip_among, half_of, is_same_chip}
-use Rattle.season_books.specs.EntryTold.{chip_told}
-use Rattle.season_books.specs.Stored.{split_told}
+use Rattle.stored_records.specs.EntryTold.{chip_told}
+use Rattle.stored_records.specs.Stored.{split_told}
 use Rattle.season_books.proofs.Chips.{among_found}
 use Rattle.season_books.proofs.team_rules.is_played_again.Goals as goal
 

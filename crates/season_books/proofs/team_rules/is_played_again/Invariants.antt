@@ -1,7 +1,7 @@
 use Rattle.std.proofs.Common.{◌≡◌, ◌-◌, None}
 use Rattle.fpl_base.specs.Keeping.{map_of}
 use Rattle.rule_book.specs.HistoryTransfers.{chip_among}
-use Rattle.season_books.specs.EntryTold.{chip_told}
+use Rattle.stored_records.specs.EntryTold.{chip_told}
 use Rattle.season_books.proofs.team_rules.is_played_again.Given as goal
 
 abbrev pub invariant-loop-w : goal.invariant-loop-w

@@ -1,6 +1,0 @@
-use Rattle.std.proofs.Common.{◌≡◌, length, map, take}
-use Rattle.season_books.specs.Sequels.{pick_after}
-use Rattle.season_books.proofs.sequels.picks_after.Given as goal
-
-abbrev pub invariant-loop-place : goal.invariant-loop-place
-invariant-loop-place l = (length l.after ≡ 15) × (take l.place l.after ≡ map (pick_after l.sale) (take l.place l.picks))

@@ -1,7 +1,0 @@
-use Rattle.std.proofs.Common.{◌≡◌, drop}
-use Rattle.rule_book.specs.EntryRecords.{price_among}
-use Rattle.season_books.specs.Sequels.{holdings_told}
-use Rattle.season_books.proofs.sequels.price_among.Given as goal
-
-abbrev pub invariant-picks : goal.invariant-picks
-invariant-picks l = price_among l.player (holdings_told (drop l.pick-index l.picks)) ≡ price_among l.player (holdings_told l.picks)

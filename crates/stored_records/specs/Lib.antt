@@ -1,0 +1,4 @@
+pub mod EntryTold
+pub mod SeasonRules
+pub mod Sequels
+pub mod Stored
