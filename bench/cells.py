@@ -216,7 +216,7 @@ def main():
         looked = season.later()
         looked.ask("GET", "/leagues/1", "operator1")
         profile = season.counted(looked)
-        whole, written = profile.total() - opened.total(), profile.of("fpl_answers::views::write_shown")
+        whole, written = profile.total() - opened.total(), profile.of("fpl_answers::views::shown_text")
         print(f"a table of {entries} rows: {whole:,}, of which writing it {written:,}: {whole / written:.2f} times", flush=True)
         print(f"peak of the memory of an opening: {season.peak():.0f} MiB", flush=True)
 

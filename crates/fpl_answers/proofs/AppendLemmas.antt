@@ -26,9 +26,9 @@ module _ {r : Result (Unit {0}) AllocError} {a b : Written} where
     before = q.before ∙ p.before;
   }
 
--- what a new writer's buffer has after the tokens of a value
-pub text_of : {x : Unit {0}} {a b : Written} (d : Data) → a.before ≡ [] → a.tokens ≡ [] → Appends (Ok x) a b (tokens_of d) → b.before ++ print b.tokens ≡ compact_text d
-text_of d nothing none w = (λ i. (w.before ∙ nothing) i ++ print ((w.tokens ∙ ap (λ l. l ++ tokens_of d) none) i)) ∙ print-outline d
+-- what a new writer's buffer has after the tokens of a value: what it had before, and the value's text
+pub text_of : {x : Unit {0}} {a b : Written} (d : Data) → a.tokens ≡ [] → Appends (Ok x) a b (tokens_of d) → b.before ++ print b.tokens ≡ a.before ++ compact_text d
+text_of {a = a} d none w = (λ i. w.before i ++ print ((w.tokens ∙ ap (λ l. l ++ tokens_of d) none) i)) ∙ ap (λ t. a.before ++ t) (print-outline d)
 
 module _ {X : Type 0} (f : X → Data) where
   -- the tokens of the values of these, with the closing bracket

@@ -1,4 +1,5 @@
 pub mod Answers
+pub mod FixtureParts
 pub mod KeptPlaces
 pub mod KindNames
 pub mod LeagueData

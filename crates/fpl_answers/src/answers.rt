@@ -1,5 +1,5 @@
 // Answers: the status and the body of each.
-ghost use Rattle.std.specs.Prelude.{◌≡◌, IfOk};
+ghost use Rattle.std.specs.Prelude.{◌≡◌, ◌++◌, [], IfOk};
 ghost use Rattle.serde_json.specs.Written.{compact_text};
 ghost use Rattle.fpl_answers.specs.Answers.{answer_data, damaged_data, done_data, done_status, status_of};
 ghost use Rattle.fpl_answers.specs.MemberData.{error_data};
@@ -7,7 +7,7 @@ ghost use Rattle.fpl_answers.specs.Tokens.{Appends, tokens_of};
 
 use crate::members::{write_count, write_one, write_text, write_two};
 use crate::rules::write_rule;
-use crate::views::{room_of, write_shown};
+use crate::views::{room_of, shown_text};
 use fpl_base::{Memory, RecordKey};
 use fpl_http::Reply;
 use json::Writer;
@@ -20,12 +20,9 @@ pub fn answer_text(alloc: Global, answer: &Answer) -> Result<Reply, Memory>
     ensures body { IfOk result (λ reply. reply.body.items ≡ compact_text (answer_data answer.now)) }
 {
     let status = status_of(answer);
-    let mut out = Writer::new(Vec::with_capacity(alloc, room_for(answer))?);
-    write_answer(&mut out, answer)?;
-    Ok(Reply {
-        status,
-        body: out.into_inner(),
-    })
+    let out = Writer::new(Vec::with_capacity(alloc, room_for(answer))?);
+    let body = body_text(out, answer)?;
+    Ok(Reply { status, body })
 }
 
 fn status_of(answer: &Answer) -> u16
@@ -61,18 +58,21 @@ fn room_for(answer: &Answer) -> usize {
     }
 }
 
-fn write_answer(out: &mut Writer, answer: &Answer) -> Result<(), AllocError>
-    ensures { Appends result out.old out.new (tokens_of (answer_data answer.now)) }
+// The body of an answer, behind what the writer's buffer held.
+fn body_text(mut out: Writer, answer: &Answer) -> Result<Vec<u8>, AllocError>
+    requires { out.tokens ≡ [] }
+    ensures { IfOk result (λ text. text.items ≡ out.before ++ compact_text (answer_data answer.now)) }
 {
     match answer {
-        Answer::Done { number, made } => write_done(out, *number, *made),
-        Answer::Shown(shown) => write_shown(out, shown),
-        Answer::Rule(rule) => write_rule(out, rule),
-        Answer::Unknown => write_error(out, "unknown"),
-        Answer::Keeper => write_error(out, "keeper"),
-        Answer::Damaged(key) => write_damaged(out, *key),
-        Answer::Memory => write_error(out, "memory"),
+        Answer::Shown(shown) => return shown_text(out, shown),
+        Answer::Done { number, made } => write_done(&mut out, *number, *made)?,
+        Answer::Rule(rule) => write_rule(&mut out, rule)?,
+        Answer::Unknown => write_error(&mut out, "unknown")?,
+        Answer::Keeper => write_error(&mut out, "keeper")?,
+        Answer::Damaged(key) => write_damaged(&mut out, *key)?,
+        Answer::Memory => write_error(&mut out, "memory")?,
     }
+    Ok(out.into_inner())
 }
 
 fn write_done(out: &mut Writer, number: u64, made: Made) -> Result<(), AllocError>

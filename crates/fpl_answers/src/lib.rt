@@ -4,6 +4,7 @@
 
 mod answers;
 mod entries;
+mod fixture;
 mod kinds;
 mod leagues;
 mod members;

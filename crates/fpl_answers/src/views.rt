@@ -1,21 +1,21 @@
 // What the views show: a small function for each, and one for each list in it.
-ghost use Rattle.std.specs.Prelude.{map};
+ghost use Rattle.std.specs.Prelude.{◌≡◌, ◌++◌, [], IfOk, map};
 ghost use Rattle.serde_json.specs.Data.{array};
 ghost use Rattle.serde_json.specs.View.{items_of};
+ghost use Rattle.serde_json.specs.Written.{compact_text};
 ghost use Rattle.fpl_answers.specs.MemberData.{count};
-ghost use Rattle.fpl_answers.specs.ShownData.{club_data, figures_data, fixture_data, line_data, player_data, season_data, shown_data};
+ghost use Rattle.fpl_answers.specs.ShownData.{club_data, figures_data, player_data, season_data, shown_data};
 ghost use Rattle.fpl_answers.specs.Tokens.{Appends, tokens_of};
 
 use crate::entries::{write_entry_gameweek, write_me};
+use crate::fixture::fixture_text;
 use crate::kinds::profile_number;
 use crate::leagues::{write_classic, write_cup, write_head};
-use crate::members::{
-    text_of, write_count, write_gameweek, write_integer, write_text, write_truth,
-};
+use crate::members::{text_of, write_count, write_integer, write_text, write_truth};
 use fpl_base::{ClubId, Moment, Name};
 use json::Writer;
 use rule_book::{Figures, Player};
-use season_book::{Shown, ShownFixture, ShownLine, ShownSeason};
+use season_book::{Shown, ShownSeason};
 use std::alloc::AllocError;
 
 /// About how many bytes the text of a view takes.
@@ -47,20 +47,23 @@ fn room_of_rows(rows: usize) -> usize {
     rows.saturating_mul(128).saturating_add(128)
 }
 
-pub(crate) fn write_shown(out: &mut Writer, shown: &Shown) -> Result<(), AllocError>
-    ensures { Appends result out.old out.new (tokens_of (shown_data shown.now)) }
+/// The text of a view, behind what the writer's buffer held.
+pub(crate) fn shown_text(mut out: Writer, shown: &Shown) -> Result<Vec<u8>, AllocError>
+    requires { out.tokens ≡ [] }
+    ensures { IfOk result (λ text. text.items ≡ out.before ++ compact_text (shown_data shown.now)) }
 {
     match shown {
-        Shown::Season(season) => write_season(out, season),
-        Shown::Player(player) => write_player(out, player),
-        Shown::PlayerGameweek(figures) => write_figures(out, figures),
-        Shown::Fixture(fixture) => write_fixture(out, fixture),
-        Shown::Me(me) => write_me(out, me),
-        Shown::EntryGameweek(gameweek) => write_entry_gameweek(out, gameweek),
-        Shown::Classic(league) => write_classic(out, league),
-        Shown::Head(league) => write_head(out, league),
-        Shown::Cup(cup) => write_cup(out, cup),
+        Shown::Fixture(fixture) => return fixture_text(out, fixture),
+        Shown::Season(season) => write_season(&mut out, season)?,
+        Shown::Player(player) => write_player(&mut out, player)?,
+        Shown::PlayerGameweek(figures) => write_figures(&mut out, figures)?,
+        Shown::Me(me) => write_me(&mut out, me)?,
+        Shown::EntryGameweek(gameweek) => write_entry_gameweek(&mut out, gameweek)?,
+        Shown::Classic(league) => write_classic(&mut out, league)?,
+        Shown::Head(league) => write_head(&mut out, league)?,
+        Shown::Cup(cup) => write_cup(&mut out, cup)?,
     }
+    Ok(out.into_inner())
 }
 
 fn write_season(out: &mut Writer, season: &ShownSeason) -> Result<(), AllocError>
@@ -129,43 +132,5 @@ fn write_figures(out: &mut Writer, figures: &Figures) -> Result<(), AllocError>
     write_count(out, "goals", u64::from(figures.goals))?;
     write_truth(out, "played", figures.played)?;
     write_integer(out, "points", figures.points)?;
-    out.end_object()
-}
-
-fn write_fixture(out: &mut Writer, shown: &ShownFixture) -> Result<(), AllocError>
-    ensures { Appends result out.old out.new (tokens_of (fixture_data shown.now)) }
-{
-    let fixture = shown.fixture;
-    out.begin_object()?;
-    write_count(out, "away", u64::from(fixture.away.get()))?;
-    write_truth(out, "finished", shown.finished)?;
-    write_gameweek(out, fixture.gw)?;
-    write_count(out, "home", u64::from(fixture.home.get()))?;
-    write_count(out, "id", u64::from(fixture.id.get()))?;
-    write_count(out, "kickoff", fixture.kickoff.get())?;
-    out.key("lines")?;
-    write_lines(out, shown.lines.as_slice())?;
-    out.end_object()
-}
-
-fn write_lines(out: &mut Writer, lines: &[ShownLine]) -> Result<(), AllocError>
-    ensures { Appends result out.old out.new
-        (tokens_of (array (items_of (map line_data lines.now)))) }
-{
-    out.begin_array()?;
-    for line in lines {
-        write_line(out, line)?;
-    }
-    out.end_array()
-}
-
-fn write_line(out: &mut Writer, line: &ShownLine) -> Result<(), AllocError>
-    ensures { Appends result out.old out.new (tokens_of (line_data line.now)) }
-{
-    out.begin_object()?;
-    write_count(out, "bonus", u64::from(line.bonus))?;
-    write_integer(out, "bps", line.bps)?;
-    write_count(out, "player", u64::from(line.player.get()))?;
-    write_integer(out, "points", line.points)?;
     out.end_object()
 }

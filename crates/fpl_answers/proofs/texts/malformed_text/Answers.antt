@@ -5,5 +5,5 @@ use Rattle.fpl_answers.proofs.texts.malformed_text.Goals as goal
 
 pub returns : goal.returns
 returns c =
-    c.into_inner.ensures.items
-    ∙ text_of (malformed_data c.args.field.now) (c.new-out.ensures.before ∙ c.in_ok-with_capacity.ensures.items) c.new-out.ensures.tokens c.in_ok-write_malformed.ensures
+    rw (c.new-out.ensures.before, c.in_ok-with_capacity.ensures.items) at
+    (c.into_inner.ensures.items ∙ text_of (malformed_data c.args.field.now) c.new-out.ensures.tokens c.in_ok-write_malformed.ensures)

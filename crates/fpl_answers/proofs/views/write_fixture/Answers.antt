@@ -1,9 +1,0 @@
-use Rattle.fpl_answers.proofs.AppendLemmas.{one, then}
-use Rattle.fpl_answers.proofs.views.write_fixture.Goals as goal
-
-pub returns : goal.returns
-returns c =
-    rw (c.from.ensures, c.get.ensures.value, c.from-2.ensures, c.get-2.ensures.value, c.from-3.ensures, c.get-3.ensures.value, c.get-4.ensures.value, c.as_slice.ensures) at
-    (then (one c.in_ok-begin_object.ensures) (then c.in_ok-write_count.ensures (then c.in_ok-write_truth.ensures (then c.in_ok-write_gameweek.ensures
-    (then c.in_ok-write_count-2.ensures (then c.in_ok-write_count-3.ensures (then c.in_ok-write_count-4.ensures (then (one c.in_ok-key.ensures)
-    (then c.in_ok-write_lines.ensures (one c.end_object.ensures))))))))))
