@@ -158,6 +158,3 @@ fn counted<K: Keeper, D: Doors, F: Shelf, L: Ledger>(
         &mut steps,
     )
 }
-
-#[cfg(test)]
-mod tests;

@@ -1,40 +1,36 @@
 // A keeper that fails on the way. Of the store in a file, and of faults of the input, the output and the doors, `tests/` tells.
 ghost use Rattle.std.specs.Prelude.{◌≡◌, ◌<◌};
 
-use crate::run::run;
-use fpl_base::{Keeper, Memory, Moment, Sink, Source, Steps, Text};
-use outside_forms::{
-    FaultyKeeper, FaultySink, MemoryClock, MemoryKeeper, MemorySource, Plan, Quiet,
-};
+use fpl_base::{Keeper, Key, Memory, Moment, Sink, Source, Steps};
+use fpl_desk::opened;
+use fpl_session::{Ending, session};
+use outside_forms::{FaultyKeeper, FaultySink, MemoryClock, MemoryKeeper, MemorySource, Plan};
+use season_opening::OpenFault;
 use std::alloc::Global;
 use std::marker::Brand;
 use std::sync::ledger::{Blank, Ledger};
 
+// How a session for the operator with this key ends.
 fn ran<S: Source, W: Sink, K: Keeper, L: Ledger>(
     alloc: Global,
-    words: &[Text],
+    key: &Key,
     input: &mut S,
     output: &mut W,
     keeper: &mut K,
     blank: Blank,
-) -> u8
+) -> Result<Ending, OpenFault>
     requires name { blank.name ≡ L.name }
     requires parts { blank.parts ≡ L.parts }
     requires some { 0 < blank.parts }
 {
     let mut steps: Steps<L> = Steps::open(blank);
     let mut clock = MemoryClock::new(Moment::new(0).unwrap(), &[]);
-    run(
-        alloc, words, input, output, &mut clock, keeper, &mut Quiet, &mut Quiet, &mut steps,
-    )
-}
-
-fn words_of(alloc: Global, words: &[&str]) -> Result<Vec<Text>, Memory> {
-    let mut texts = Vec::new(alloc);
-    for word in words {
-        texts.push(Text::new(alloc, word)?)?;
+    match opened(alloc, key, keeper, &mut steps) {
+        Ok((desk, mut host)) => Ok(session(
+            alloc, &desk, &mut host, keeper, input, output, &mut clock, &mut steps,
+        )),
+        Err(fault) => Err(fault),
     }
-    Ok(texts)
 }
 
 // A season, two players and a view of the second.
@@ -80,27 +76,32 @@ fn are(bytes: &[u8], texts: &[&str]) -> bool {
     rest.is_empty()
 }
 
-// The exit status of a run of the season over a keeper whose calls of these numbers fail, each before it stores or behind that;
-// 99 where other answers came.
+// What came of a session of the season over a keeper whose calls of these numbers fail, each before it stores or behind
+// that: 0 where it ended as its source did, 4 where the keeper gave no host, and 99 where other answers came.
 fn ended(alloc: Global, stores: bool, failing: &[u64], answers: &[&str]) -> Result<u8, Memory> {
-    let words = words_of(alloc, &["pipe", "--key", "operator1"])?;
+    let Some(key) = Key::new(alloc, b"operator1")? else {
+        return Ok(99);
+    };
     let mut input = MemorySource::new(SEASON.as_bytes(), 65536);
     let mut output = FaultySink::new(alloc, 9999, Plan::new(Vec::new(alloc)))?;
     let plan = Plan::new(Vec::from_slice(alloc, failing)?);
     let mut keeper = FaultyKeeper::new(MemoryKeeper::new(alloc), stores, plan);
-    let status = ran::<MemorySource, FaultySink, FaultyKeeper, Brand>(
+    let end = ran::<MemorySource, FaultySink, FaultyKeeper, Brand>(
         alloc,
-        words.as_slice(),
+        &key,
         &mut input,
         &mut output,
         &mut keeper,
         Blank::new(1),
     );
-    Ok(if are(output.bytes(), answers) {
-        status
-    } else {
-        99
-    })
+    if !are(output.bytes(), answers) {
+        return Ok(99);
+    }
+    match end {
+        Ok(Ending::Done) => Ok(0),
+        Err(OpenFault::Keeper) => Ok(4),
+        _ => Ok(99),
+    }
 }
 
 // The keeper's first call loads, and then each accepted command is a call, and each load behind a failed one.
