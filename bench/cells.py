@@ -191,10 +191,6 @@ class Profile:
         """The instructions, with what it calls, of the function whose name begins so."""
         return sum(it for name, it in self.inner.items() if name.startswith(word))
 
-    def reads(self):
-        """How many cells were read."""
-        return sum(it for name, it in self.calls.items() if name.startswith("rescore_graph::cells::Cells::get"))
-
     def total(self):
         return sum(self.own.values())
 
@@ -206,13 +202,13 @@ def main():
         season = Season(program, folder, Stream(gameweeks, entries))
         opened = season.counted(season.later())
         made = opened.of("season_host::following::cells_of")
-        print(f"a store of {season.size / 2**20:.0f} MiB: opened by {opened.total():,} instructions, of which all cells {made:,}, with {opened.reads():,} reads", flush=True)
+        print(f"a store of {season.size / 2**20:.0f} MiB: opened by {opened.total():,} instructions, of which all cells {made:,}", flush=True)
         for name, players in season.stream.by_holders():
             stream = season.later()
             held = stream.correct(players)
             profile, count = season.counted(stream), len(stream.requests)
-            each, reads = (profile.total() - opened.total()) / count, (profile.reads() - opened.reads()) / count
-            print(f"a correction of one goal, {name}, by {held:.0f} entries: {each:,.0f}, with {reads:,.0f} reads, so all cells are {made / each:,.0f} times as dear", flush=True)
+            each = (profile.total() - opened.total()) / count
+            print(f"a correction of one goal, {name}, by {held:.0f} entries: {each:,.0f}, so all cells are {made / each:,.0f} times as dear", flush=True)
         looked = season.later()
         looked.ask("GET", "/leagues/1", "operator1")
         profile = season.counted(looked)

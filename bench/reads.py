@@ -5,10 +5,10 @@ usage: reads.py PROGRAM
 `generate` makes the season in a store: 600 players, ten fixtures of 32 lines in one locked gameweek, and 500 entries in one
 league. Each look and each correction comes to a copy of that store through `pipe`, under valgrind's callgrind. What it takes
 is the difference to a run without it. Reads are the calls by which a cell is read, and evaluations those by which one gets its
-value. What a look or a command reads of an entry's rows and of lines counts too, but stands in no call of its own and is not
-seen here. A line is put again with the figures that it has. One player comes whom nobody holds, and gets a line, and then a
-goal that moves no bonus; another, who gets a goal too, is held by more entries than any other. Bounds are checked; the status
-is 0 where all are kept.
+value; so PROGRAM has to be one in which `Cells::get` of `rescore_graph` is not inlined. What a look or a command reads of an
+entry's rows and of lines counts too, but stands in no call of its own and is not seen here. A line is put again with the
+figures that it has. One player comes whom nobody holds, and gets a line, and then a goal that moves no bonus; another, who
+gets a goal too, is held by more entries than any other. Bounds are checked; the status is 0 where all are kept.
 """
 import shutil
 import subprocess
