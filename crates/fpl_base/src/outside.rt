@@ -23,12 +23,17 @@ pub trait Source {
     /// How often it failed, up to the last value of a `u64`.
     ghost faults: { Self → ℕ };
 
+    /// What one call of `read` may make of it. To code over any source this says nothing, and it is had from a call of
+    /// `read` alone, and not from two: so who promises it has read exactly once.
+    ghost one_read: { Self → Self → Type 0 };
+
     /// Reads into the front of `into`. `Ok(0)` for a place that is not empty is the end of the input, and a failed
     /// read takes nothing.
     fn read(&mut self, into: &mut [u8]) -> Result<usize, Failed>
         ensures bound { ReadsAtMost result into.new }
         ensures bytes { ReadConsumes (left self.old) (left self.new) result into.new }
-        ensures cause { HasCause (faults self.old) (faults self.new) result };
+        ensures cause { HasCause (faults self.old) (faults self.new) result }
+        ensures once { one_read self.old self.new };
 }
 
 /// Where bytes go.

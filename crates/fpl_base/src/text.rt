@@ -39,7 +39,7 @@ impl Text {
     }
 }
 
-/// The name of a club, a player, an entry or a league: UTF-8 text of 1 to 64 bytes without control characters.
+/// The name of a club, a player, an entry or a league: UTF-8 text of 1 to 64 bytes, without the bytes below 32 and 127.
 #[derive(Drop)]
 pub struct Name {
     bytes: Vec<u8>,

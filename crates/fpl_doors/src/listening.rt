@@ -1,5 +1,5 @@
 // Doors over a port of this machine, the trusted edge: they count each error and tell no bytes.
-ghost use Rattle.std.specs.Prelude.{◌≡◌, None, IfOk};
+ghost use Rattle.std.specs.Prelude.{◌≡◌, None, IfOk, ⊤};
 
 use fpl_base::{Doors, Failed, Sink, Source, Writing};
 use std::io;
@@ -128,6 +128,8 @@ impl<T: Read> Source for Hearing<T> {
     ghost left = { λ _. None };
 
     ghost faults = { λ s. s.faults };
+
+    ghost one_read = { λ _ _. ⊤ };
 
     fn read(&mut self, into: &mut [u8]) -> Result<usize, Failed> {
         match self.stream.read(into) {

@@ -1,5 +1,5 @@
 // What goes back for a message, and its bytes.
-ghost use Rattle.std.specs.Prelude.{◌≡◌, ◌≤◌, ◌+◌, ◌++◌, codes, length, IsTrue, OnErr, OnOk};
+ghost use Rattle.std.specs.Prelude.{◌≡◌, ◌≤◌, ◌+◌, ◌++◌, codes, length, IsOk, IsTrue, OnErr, OnOk};
 ghost use Rattle.std.specs.Vec.{vec_capacity, vec_len};
 ghost use Rattle.fpl_http.specs.Responses.{is_answer_status, phrase, closing_line, head_text, response_text, memory_text};
 
@@ -81,7 +81,7 @@ fn put_head(out: &mut Vec<u8>, status: u16, size: usize, closing: bool)
 }
 
 /// Appends the bytes of a response. `closing` says that the session ends after it. Where there is no memory for all of
-/// it, nothing is appended.
+/// it, nothing is appended, and none is wanted where it fits behind what is there.
 pub fn append_response(
     out: &mut Vec<u8>,
     status: u16,
@@ -92,6 +92,7 @@ pub fn append_response(
     ensures ok { OnOk result
         (out.new.items ≡ out.old.items ++ response_text status body.now closing) }
     ensures err { OnErr result (out.new.items ≡ out.old.items) }
+    ensures fits { vec_len out.old + (length body.now + 160) ≤ vec_capacity out.old → IsOk result }
     ensures capacity { vec_capacity out.old ≤ vec_capacity out.new }
 {
     let room = body.len().checked_add(HEAD_ROOM).ok_or(Memory)?;

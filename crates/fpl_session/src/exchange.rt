@@ -15,7 +15,7 @@ use fpl_http::Decoder;
 use std::alloc::Global;
 use std::sync::ledger::Ledger;
 
-/// Reads into a place, at most so many bytes.
+/// Reads into a place once, at most so many bytes.
 fn read_piece<S: Source>(src: &mut S, into: &mut [u8], most: u64) -> Result<usize, Failed>
     requires most { 0 < most }
     requires room { 0 < length into.old }
@@ -24,6 +24,7 @@ fn read_piece<S: Source>(src: &mut S, into: &mut [u8], most: u64) -> Result<usiz
         × (n ≤ most)
         × (n ≡ 0 → IsAtEnd (S.left src.new)))
         (λ _. Consumes (S.left src.old) (S.left src.new) []) }
+    ensures once { S.one_read src.old src.new }
     ensures later { S.faults src.old ≤ S.faults src.new }
     ensures failed { OnErr result (Rose (S.faults src.old) (S.faults src.new)) }
 {
@@ -43,8 +44,8 @@ fn end_of_input(decoder: &Decoder) -> Ending
     }
 }
 
-/// Reads a piece of at most so many bytes, answers each message that is whole, and says how long the piece was, or how
-/// the session ended.
+/// Reads a piece of at most so many bytes by one call of the source, answers each message that is whole, and says how long
+/// the piece was, or how the session ended.
 pub fn exchange<R: Service<H, K, C, L>, H, K: Keeper, S: Source, W: Sink, C: Clock, L: Ledger>(
     alloc: Global,
     places: &mut Places,
@@ -71,6 +72,7 @@ pub fn exchange<R: Service<H, K, C, L>, H, K: Keeper, S: Source, W: Sink, C: Clo
         (R.see (host.old, keeper.old, clock.old, steps.old))
         (R.see (host.new, keeper.new, clock.new, steps.new))
         (W.taken out.old) (W.taken out.new) result }
+    ensures once { S.one_read src.old src.new }
     ensures read_later { S.faults src.old ≤ S.faults src.new }
     ensures write_later { W.faults out.old ≤ W.faults out.new }
     ensures read { result ≡ Err Ending.Read → Rose (S.faults src.old) (S.faults src.new) }

@@ -1,5 +1,5 @@
 // Texts that are to be written together.
-ghost use Rattle.std.specs.Prelude.{◌≡◌, ◌≤◌, ◌++◌, ◌<◌, [], ℕ, List, IfOk, IsTrue, OnErr, length, nat_lt};
+ghost use Rattle.std.specs.Prelude.{◌≡◌, ◌≤◌, ◌+◌, ◌++◌, ◌<◌, [], ℕ, List, IfOk, IsTrue, OnErr, length, nat_lt};
 ghost use Rattle.std.specs.Vec.{vec_capacity};
 ghost use Rattle.fpl_base.specs.Causes.{Rose};
 ghost use Rattle.fpl_http.specs.Responses.{is_answer_status, memory_text, response_text};
@@ -50,11 +50,15 @@ impl Outbox {
         self.bytes.len() > FULL
     }
 
-    /// Appends a response, or the fixed one of status 507 where there is no memory for it.
+    /// Appends a response, or the fixed one of status 507 where there is no memory for it, as there is for what fits into
+    /// the outbox as it was made.
     pub fn respond(&mut self, status: u16, body: &[u8], closing: bool)
         requires status { IsTrue (is_answer_status status) }
         requires room { length self.old ≤ 262144 }
-        ensures { (t : List ℕ) × IsResponse status body.now closing t × (self.new ≡ self.old ++ t) }
+        ensures response { (t : List ℕ) × IsResponse status body.now closing t
+            × (self.new ≡ self.old ++ t) }
+        ensures fits { length self.old + (length body.now + 160) ≤ 262272
+            → self.new ≡ self.old ++ response_text status body.now closing }
     {
         match append_response(&mut self.bytes, status, body, closing) {
             Ok(()) => {}

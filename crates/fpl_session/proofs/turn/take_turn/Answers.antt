@@ -8,7 +8,7 @@ pub returns-in-NeedMore-clause-turned : goal.returns-in-NeedMore-clause-turned
 returns-in-NeedMore-clause-turned g c = turn_waits (Speaks (g.R.Service.answers c.args.service.now)) c.args.places.now.decoder c.next.new.self (g.R.Service.see (c.args.host.now, c.args.keeper.now, c.args.clock.now, c.args.steps.now)) (Some c.args.places.now.outbox) c.in-NeedMore.ensures.gives
 
 pub returns-in-Refused-clause-turned : goal.returns-in-Refused-clause-turned
-returns-in-Refused-clause-turned g c = turn_refused (Speaks (g.R.Service.answers c.args.service.now)) c.args.places.now.decoder c.next.new.self (g.R.Service.see (c.args.host.now, c.args.keeper.now, c.args.clock.now, c.args.steps.now)) (Some c.args.places.now.outbox) (Some c.respond.new.self) c.in-Refused.status c.in-Refused.ensures.gives c.respond.ensures
+returns-in-Refused-clause-turned g c = turn_refused (Speaks (g.R.Service.answers c.args.service.now)) c.args.places.now.decoder c.next.new.self (g.R.Service.see (c.args.host.now, c.args.keeper.now, c.args.clock.now, c.args.steps.now)) (Some c.args.places.now.outbox) (Some c.respond.new.self) c.in-Refused.status c.in-Refused.ensures.gives c.respond.ensures.response
 
 pub returns-then-answer_found-clause-turned : goal.returns-then-answer_found-clause-turned
 returns-then-answer_found-clause-turned g c =
