@@ -1,6 +1,6 @@
 -- Rows by ascending entry: what a search among them finds, and one more in its place.
-use Rattle.std.proofs.Common.{◌≡◌, ◌∙◌, sym, ap, refl, subst, ℕ, ◌+◌, ◌-◌, ◌<◌, ◌≤◌, ◌==◌, nat_eq, nat_lt, nat_le, not, ◌||◌, Bool, true, false, cond, List, [], ◌∷◌, ◌++◌, length, get_or, take, drop, insert, inl, inr, arith, append_assoc, append-nil, length-drop, take-append-drop}
-use Rattle.std.specs.List.{All, list_any, range_with_len, zip}
+use Rattle.std.proofs.Common.{◌≡◌, ◌∙◌, sym, ap, refl, subst, ℕ, ◌+◌, ◌-◌, ◌<◌, ◌≤◌, ◌==◌, nat_lt, nat_le, not, Bool, true, false, cond, List, [], ◌∷◌, ◌++◌, length, get_or, take, drop, insert, inl, inr, arith, append_assoc, append-nil, length-drop, take-append-drop}
+use Rattle.std.specs.List.{All, range_with_len, zip}
 use Rattle.std.specs.List.Sorted.{IsNonDecreasingBy, IsPartitionedBy, IsPartitionPoint}
 use Rattle.std.proofs.lemmas.Bool.{cases_eq, cases_lt}
 use Rattle.std.proofs.lemmas.Bool.Decides.{nat_tests}
@@ -110,16 +110,3 @@ places_more slots slot n e long =
     let at : 0 + length slots ≡ n = omega (arith, long) in
     ap (of_entry e) (zipped_more 0 slots slot ∙ ap (λ k. numbered slots ++ (slot, k) ∷ []) at)
     ∙ filter-append (λ row. row.0 == e) (numbered slots) ((slot, n) ∷ [])
-
--- who stands in some slot has a place
-some_from : (n e : ℕ) (slots : List ℕ) → not (nat_eq (length (of_entry e (zip slots (range_with_len n (length slots))))) 0) ≡ list_any (λ slot. slot == e) slots
-some_from n e [] = refl
-some_from n e (slot ∷ slots) = test (slot == e) (some_from (n + 1) e slots)
-  where
-    test : (b : Bool) → not (nat_eq (length (of_entry e (zip slots (range_with_len (n + 1) (length slots))))) 0) ≡ list_any (λ s. s == e) slots
-        → not (nat_eq (length (cond b ((slot, n) ∷ of_entry e (zip slots (range_with_len (n + 1) (length slots)))) (of_entry e (zip slots (range_with_len (n + 1) (length slots)))))) 0) ≡ (b || list_any (λ s. s == e) slots)
-    test true h = grind (arith, nat_tests)
-    test false h = h
-
-pub some_place : (slots : List ℕ) (e : ℕ) → not (nat_eq (length (places_of slots e)) 0) ≡ list_any (λ slot. slot == e) slots
-some_place slots e = some_from 0 e slots

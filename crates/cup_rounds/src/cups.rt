@@ -2,7 +2,7 @@
 ghost use Rattle.std.specs.Prelude.{◌≡◌, ◌≤◌, ◌<◌, ◌+◌, ◌++◌, [], ◌∷◌, length, nat_lt, IfOk, IfSome, OnOk, OnErr, option_copied};
 ghost use Rattle.std.specs.Option.{option_map_or};
 ghost use Rattle.fpl_base.specs.declared.rule.Rule.TheVariants as rule;
-ghost use Rattle.rule_book.specs.CupCalls.{most_cups, is_entrant, cups_of};
+ghost use Rattle.rule_book.specs.CupCalls.{most_cups};
 ghost use Rattle.rule_book.specs.Entries.{entry_in};
 ghost use Rattle.rule_book.specs.Refusals.{IsJudgedOrOut, unless};
 ghost use Rattle.cup_rounds.specs.Places.{places_of};
@@ -102,21 +102,6 @@ impl Cups {
         self.put(b)?;
         Ok(c)
     }
-
-    /// The cups in which an entry stands, in the order of their numbers.
-    pub fn cups_of(&self, e: EntryId) -> Result<ListOf<CupId>, Memory>
-        ensures { IfOk result (λ ids. ids ≡ cups_of self.now e) }
-    {
-        let mut ids = ListOf::new(*self.cups.allocator());
-        let mut number = 0;
-        for b in &self.cups {
-            number += 1;
-            if stands_in(b, e) {
-                ids.push(numbered(number))?;
-            }
-        }
-        Ok(ids)
-    }
 }
 
 // The cup of this number.
@@ -125,11 +110,4 @@ fn numbered(number: u32) -> CupId
     ensures { result ≡ number }
 {
     CupId::new(number).unwrap()
-}
-
-// Whether an entry stands in a slot of a cup.
-fn stands_in(b: &Drawn, e: EntryId) -> bool
-    ensures { result ≡ is_entrant b.now e }
-{
-    !b.places(e).is_empty()
 }

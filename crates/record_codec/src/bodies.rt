@@ -263,6 +263,14 @@ fn cup_body(alloc: Global, start: Gw, slots: &Slots, coins: &Coins) -> Result<By
     Ok(Bytes::from_vec(bytes))
 }
 
+// The bytes that the body of a caller's last command has at most, but for a season and a cup: a sheet's line has 60.
+fn command_room(command: &Command) -> usize {
+    match command {
+        Command::Sheet { lines, .. } => ROOM + 60 * lines.as_slice().len().min(100),
+        _ => ROOM,
+    }
+}
+
 // The body of a caller's last command.
 pub fn last_body(
     alloc: Global,
@@ -274,7 +282,7 @@ pub fn last_body(
     requires { IsTrue (is_command command.now) }
     ensures { IfOk result (λ bytes. bytes ≡ bodies.last_body number status made command.now) }
 {
-    let mut bytes = no_bytes(alloc)?;
+    let mut bytes = Vec::with_capacity(alloc, command_room(command))?;
     append_u64(&mut bytes, number)?;
     append_u16(&mut bytes, status)?;
     append_u32(&mut bytes, made)?;

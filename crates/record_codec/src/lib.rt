@@ -16,4 +16,4 @@ pub use decoding::{decode, decode_command};
 pub use item::Item;
 pub use laws::{commands_have_their_bytes, keys_are_of_slots, records_have_one_spelling};
 pub use slot::Slot;
-pub use writing::{command_bytes, encode, encode_last, encode_player};
+pub use writing::{encode, encode_last, encode_player};

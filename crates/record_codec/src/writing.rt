@@ -1,11 +1,9 @@
 // Records and commands as bytes.
 ghost use Rattle.std.specs.Prelude.{◌≡◌, IfOk, IsTrue};
-ghost use Rattle.record_codec.specs.Commands.{bytes_of_command, is_command};
 ghost use Rattle.record_codec.specs.Items.{body_of, is_item, key_of_item};
 ghost use Rattle.record_codec.specs.declared.item.Item.TheVariants as item;
 
 use crate::bodies::{body, last_body, player_body};
-use crate::commands::append_command;
 use crate::{Item, Slot};
 use fpl_base::{Bytes, ClubId, Memory, Name, PlayerId, Position, RecordKey};
 use season_book::Command;
@@ -62,14 +60,4 @@ pub fn encode_last(
     let key = Slot::Last(caller).key();
     let body = last_body(alloc, number, status, made, command)?;
     Ok((key, body))
-}
-
-/// A command as bytes, which no other command that can be ordered has. It takes memory.
-pub fn command_bytes(alloc: Global, command: &Command) -> Result<Bytes, Memory>
-    requires { IsTrue (is_command command.now) }
-    ensures { IfOk result (λ bytes. bytes ≡ bytes_of_command command.now) }
-{
-    let mut bytes = Vec::new(alloc);
-    append_command(&mut bytes, command)?;
-    Ok(Bytes::from_vec(bytes))
 }

@@ -1,6 +1,6 @@
--- What refuses the draw of a cup, and in which cups an entry stands. Entries and cups are numbered from 1.
-use Rattle.std.specs.Prelude.{◌+◌, ℕ, Bool, not, ◌==◌, List, [], ◌∷◌, filter, Option, nat_lt, if◌then◌else◌}
-use Rattle.std.specs.List.{list_all, list_any}
+-- What refuses the draw of a cup. Entries and cups are numbered from 1.
+use Rattle.std.specs.Prelude.{ℕ, Bool, not, ◌==◌, List, [], ◌∷◌, filter, Option, nat_lt}
+use Rattle.std.specs.List.{list_all}
 use Rattle.fpl_base.specs.declared.rule.Rule.{Rule}
 use Rattle.fpl_base.specs.declared.rule.Rule.TheVariants as rule
 use Rattle.rule_book.specs.declared.cup.Bracket.{Bracket}
@@ -24,16 +24,3 @@ cup_refusal registered count b gameweeks locked =
     ∷ wrong_cup b gameweeks locked
     ∷ unless (list_all registered (entrants b.slots)) rule.DrawWrong
     ∷ [])
-
--- an entry stands in a slot of a cup
-abbrev pub is_entrant : Bracket → ℕ → Bool
-is_entrant b e = list_any (λ slot. slot == e) b.slots
-
--- the numbers of the cups in which an entry stands, where the first cup has this number
-abbrev pub cups_from : ℕ → List Bracket → ℕ → List ℕ
-cups_from n [] e = []
-cups_from n (b ∷ cups) e = if is_entrant b e then n ∷ cups_from (n + 1) cups e else cups_from (n + 1) cups e
-
--- the cups in which an entry stands
-abbrev pub cups_of : List Bracket → ℕ → List ℕ
-cups_of cups e = cups_from 1 cups e

@@ -28,3 +28,4 @@ pub use nodes::{
     AveragePoints, Bonuses, GameweekFigures, GameweekScore, LineWorth, MatchScores, Node, Value,
     is_same,
 };
+pub use rounds::met;

@@ -3,7 +3,7 @@ ghost use Rattle.std.specs.Prelude.{◌≡◌, ◌<◌, ◌≤◌, ℕ, IfSome, 
 ghost use Rattle.rule_book.specs.LeagueRows.{place_of};
 ghost use Rattle.rule_book.specs.declared.pairing.Opponent.{Opponent};
 ghost use Rattle.season_nodes.specs.BookFacts.{facts_of};
-ghost use Rattle.season_nodes.specs.Rounds.{has_average, order_in, start_in};
+ghost use Rattle.season_nodes.specs.Rounds.{has_average, met, order_in, start_in};
 ghost use Rattle.season_nodes.specs.Season.{has_round, is_live, is_lower, lower_in, met_in, opponent_in};
 ghost use Rattle.season_nodes.specs.declared.nodes.Node.{Node};
 
@@ -76,15 +76,13 @@ impl Books<'_> {
         opponent(self.order(league).len(), u32::from(round), place)
     }
 
-    /// The place that a place of the order of a league meets in a gameweek; the Average's is behind the members.
-    pub fn met(&self, league: LeagueId, gameweek: Gw, place: usize) -> usize
+    // The place that a place of the order of a league meets in a gameweek; the Average's is behind the members.
+    fn met(&self, league: LeagueId, gameweek: Gw, place: usize) -> usize
         requires { place < length (order_in self.now.leagues.now league) }
         ensures { result ≡ met_in (facts_of self.now) league gameweek place }
     {
-        match self.opponent(league, gameweek, place) {
-            Opponent::Place(other) => other,
-            Opponent::Average => self.order(league).len(),
-        }
+        let round = gameweek.get().saturating_sub(self.start(league));
+        met(self.order(league).len(), round, place)
     }
 
     /// The lower one of the two, by which their match is named.
@@ -123,5 +121,20 @@ impl Books<'_> {
         ensures { result ≡ is_live (facts_of self.now) (Node.HeadRow league entry) }
     {
         self.place(league, entry).is_some()
+    }
+}
+
+/// The place that a place meets in a round, counted from 0, of so many members; the Average's is behind them.
+pub fn met(members: usize, round: u8, place: usize) -> usize
+    requires some { 2 ≤ members }
+    requires few { members ≤ 64 }
+    requires within { place < members }
+    ensures { result ≡ met members round place }
+{
+    // The law by which it meets one opponent, for the prover.
+    opponent_is_the_one();
+    match opponent(members, u32::from(round), place) {
+        Opponent::Place(other) => other,
+        Opponent::Average => members,
     }
 }

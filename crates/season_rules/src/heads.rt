@@ -12,9 +12,9 @@ ghost use Rattle.season_nodes.specs.declared.nodes.Node.{Node};
 use crate::rules::SeasonCells;
 use crate::totals::net_in;
 use fpl_base::{EntryId, Gw, LeagueId, Memory, Steps};
-use head_to_head::{average, head_score, opponent, opponent_is_the_one};
+use head_to_head::{average, head_score};
 use rule_book::{HeadScore, Opponent};
-use season_nodes::{Books, MatchScores, Node, Value};
+use season_nodes::{Books, MatchScores, Node, Value, met};
 use std::alloc::Global;
 use std::sync::ledger::Ledger;
 
@@ -173,21 +173,6 @@ pub(crate) fn round_gameweek(books: &Books, league: LeagueId, round: u8) -> Gw
     ensures { result ≡ start_in books.now.leagues.now league + round }
 {
     Gw::new(books.start(league) + round).unwrap()
-}
-
-// The place that a place meets in a round, counted from 0, of so many members; the Average's is behind them.
-fn met(members: usize, round: u8, place: usize) -> usize
-    requires some { 2 ≤ members }
-    requires few { members ≤ 64 }
-    requires within { place < members }
-    ensures { result ≡ met members round place }
-{
-    // The law by which it meets one opponent, for the prover.
-    opponent_is_the_one();
-    match opponent(members, u32::from(round), place) {
-        Opponent::Place(other) => other,
-        Opponent::Average => members,
-    }
 }
 
 // The match of a place and the one that it meets in a gameweek, from the side of the place, by what its cell holds.
