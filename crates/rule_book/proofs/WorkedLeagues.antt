@@ -6,7 +6,7 @@ use Rattle.rule_book.specs.declared.cup.Bracket.{Bracket}
 use Rattle.rule_book.specs.declared.cup.Side.{Side}
 use Rattle.rule_book.specs.declared.league.LeagueKind.{LeagueKind}
 use Rattle.rule_book.specs.declared.league.LeagueKind.TheVariants as kind
-use Rattle.rule_book.specs.CupCalls.{cup_refusal, cups_of}
+use Rattle.rule_book.specs.CupCalls.{cup_refusal}
 use Rattle.rule_book.specs.CupRounds.{rounds_shown}
 use Rattle.rule_book.specs.Entries.{changed_in}
 use Rattle.rule_book.specs.LeagueCalls.{create_refusal, draw_refusal, join_refusal, leagues_of, with_member, with_order}
@@ -87,12 +87,6 @@ the_start_before_the_entries = refl
 
 the_thirty_third : cup_refusal (all_but 4) 32 cup_of_four 38 3 ≡ Some rule.CupsFull
 the_thirty_third = refl
-
-entry_three_plays_in_it : cups_of (cup_of_four ∷ []) 3 ≡ 1 ∷ []
-entry_three_plays_in_it = refl
-
-entry_four_does_not : cups_of (cup_of_four ∷ []) 4 ≡ []
-entry_four_does_not = refl
 
 -- all level: the bye lets entry 1 through, the coin sends entry 3 on; the second round is open
 abbrev level : ℕ → ℕ → Side
