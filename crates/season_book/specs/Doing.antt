@@ -4,10 +4,12 @@ use Rattle.fpl_base.specs.declared.kinds.Caller.{Caller}
 use Rattle.season_book.specs.Book.{Book, Facts}
 use Rattle.season_book.specs.declared.command.Command.{Command}
 use Rattle.season_book.specs.Commands.{are_there, begun_by, refusal_of}
-use Rattle.season_book.specs.Verdict.{IsVerdictIn, Verdict, judged}
+use Rattle.season_book.specs.Verdict.{IsRepeat, IsVerdictIn, Verdict, judged}
 use Rattle.season_book.specs.declared.answer.Answer.{Answer}
 use Rattle.season_book.specs.declared.answer.Answer.TheVariants as answer
+use Rattle.season_book.specs.declared.made.Made.{Made}
 use Rattle.season_book.specs.declared.request.Request.{Request}
+use Rattle.season_book.specs.declared.request.Request.TheVariants as request
 
 -- nothing refuses a command on the facts of a season: it begins none, all that it names is there, and it breaks no rule
 pub record IsGranted (facts : Facts) (now : ℕ) (command : Command) : Type 0 where
@@ -33,8 +35,8 @@ IsBegun judged (Err reply) = IsRefused judged reply
 -- what may be answered in a book in which the moment's gameweeks are locked: the verdict, or want of memory, which
 -- changes nothing
 abbrev pub MayAnswerIn : List ℕ → Book → Caller → ℕ → Request → Answer → Book → Type 0
-MayAnswerIn operator book caller now request reply after =
-    IsVerdictIn operator book caller now request (record { answer = reply; book = after }) ⊎ ((reply ≡ answer.Memory) × (after ≡ book))
+MayAnswerIn operator book caller now asked reply after =
+    IsVerdictIn operator book caller now asked (record { answer = reply; book = after }) ⊎ ((reply ≡ answer.Memory) × (after ≡ book))
 
 -- an answer that refuses nothing
 abbrev pub IsGrant : Answer → Type 0
@@ -42,14 +44,20 @@ IsGrant (answer.Done number made) = ⊤
 IsGrant (answer.Shown shown) = ⊤
 IsGrant reply = ⊥
 
--- every verdict on a request refuses nothing, in a book in which the moment's gameweeks are locked
-abbrev pub IsGrantedIn : List ℕ → Book → Caller → ℕ → Request → Type 0
-IsGrantedIn operator book caller now request = (verdict : Verdict) → IsVerdictIn operator book caller now request verdict → IsGrant verdict.answer
+-- a request repeats no command that was done
+abbrev pub IsNew : Book → Caller → Request → Type 0
+IsNew book caller (request.Command number command) = (made : Made) → IsRepeat book caller number command made → ⊥
+IsNew book caller (request.View view) = ⊤
 
--- want of memory is answered only where nothing refuses the request
+-- a request is no repeat, and every verdict on it refuses nothing, in a book in which the moment's gameweeks are locked
+abbrev pub IsGrantedIn : List ℕ → Book → Caller → ℕ → Request → Type 0
+IsGrantedIn operator book caller now asked =
+    IsNew book caller asked × ((verdict : Verdict) → IsVerdictIn operator book caller now asked verdict → IsGrant verdict.answer)
+
+-- want of memory is answered only where nothing refuses the request, and never to a repeat
 abbrev pub IsOutLate : List ℕ → Book → Caller → ℕ → Request → Answer → Type 0
-IsOutLate operator book caller now request answer.Memory = IsGrantedIn operator book caller now request
-IsOutLate operator book caller now request reply = ⊤
+IsOutLate operator book caller now asked answer.Memory = IsGrantedIn operator book caller now asked
+IsOutLate operator book caller now asked reply = ⊤
 
 -- an answer that speaks of no store
 abbrev pub IsStoreless : Answer → Type 0

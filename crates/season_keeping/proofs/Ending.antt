@@ -66,10 +66,13 @@ module _ (operator : List ℕ) (book : Book) (caller : Caller) (now number : ℕ
   acts_of verdict (inr (fresh, is)) same =
       accepted_acts book caller number command outcome none (sym (ap (λ (v : Verdict). v.book.lasts) (is ∙ fresh_is)) ∙ same)
 
-  -- and refuses nothing
+  -- and refuses and repeats nothing
   pub granted_of : IsGrantedIn operator book caller now (request.Command number command)
-  granted_of verdict (inl (made, repeat, is)) = absurd (no_repeat book caller number command none made repeat)
-  granted_of verdict (inr (fresh, is)) = subst (λ (v : Verdict). IsGrant v.answer) (sym (is ∙ fresh_is)) tt
+  granted_of = (no_repeat book caller number command none, by)
+    where
+      by : (verdict : Verdict) → IsVerdictIn operator book caller now (request.Command number command) verdict → IsGrant verdict.answer
+      by verdict (inl (made, repeat, is)) = absurd (no_repeat book caller number command none made repeat)
+      by verdict (inr (fresh, is)) = subst (λ (v : Verdict). IsGrant v.answer) (sym (is ∙ fresh_is)) tt
 
 -- a verdict leaves the book, or acts
 abbrev RestsOrActs : Book → Verdict → Type 0

@@ -18,7 +18,7 @@ use Rattle.season_book.specs.Commands.{are_there, begun_by, changed_by, refusal_
 use Rattle.season_book.specs.Doing.{IsGrant, IsGranted, IsGrantedIn, IsOutLate, IsRefused, IsShown, IsStoreless, IsWeighed, MayAnswerIn}
 use Rattle.season_book.specs.EntryCommands.{names_players}
 use Rattle.season_book.specs.LeagueCommands.{cup_broken, cup_drawn, cup_there, league_refusal, leagues_there}
-use Rattle.season_book.specs.Verdict.{Failures, IsRepeat, MayAnswer, Outcome, Verdict, accepted, begun, fresh_verdict, judged, number_refusal, pass, ruled, settled, shown_or_unknown, unless_misnumbered, unless_refused, view_answer}
+use Rattle.season_book.specs.Verdict.{Failures, IsRepeat, IsVerdictIn, MayAnswer, Outcome, Verdict, accepted, begun, fresh_verdict, judged, number_refusal, pass, ruled, settled, shown_or_unknown, unless_misnumbered, unless_refused, view_answer}
 use Rattle.season_book.specs.declared.answer.Answer.{Answer}
 use Rattle.season_book.specs.declared.answer.Answer.TheVariants as answer
 use Rattle.season_book.specs.declared.request.Request.{Request}
@@ -141,8 +141,11 @@ module _ (operator : List ℕ) (book : Book) (caller : Caller) (now number : ℕ
   granted_by (Err refused) ok = absurd (false≢true ok)
 
   granted_in : number_refusal (last_number book caller) number ≡ None → IsOk due → IsGrantedIn operator book caller now (request.Command number command)
-  granted_in none ok verdict (inl (made, again, same)) = subst (λ (v : Verdict). IsGrant v.answer) (sym same) tt
-  granted_in none ok verdict (inr (new, same)) = subst (λ (v : Verdict). IsGrant v.answer) (numbered none ∙ sym same) (granted_by due ok)
+  granted_in none ok = (fresh, by)
+    where
+      by : (verdict : Verdict) → IsVerdictIn operator book caller now (request.Command number command) verdict → IsGrant verdict.answer
+      by verdict (inl (made, again, same)) = absurd (fresh made again)
+      by verdict (inr (new, same)) = subst (λ (v : Verdict). IsGrant v.answer) (numbered none ∙ sym same) (granted_by due ok)
 
   pub late_refused : number_refusal (last_number book caller) number ≡ None → (reply : Answer) → IsRefused due reply → IsOutLate operator book caller now (request.Command number command) reply
   late_refused none (answer.Done number made) refused = tt
@@ -183,4 +186,4 @@ view_late operator book caller now view (answer.Rule rule) is = tt
 view_late operator book caller now view answer.Unknown is = tt
 view_late operator book caller now view answer.Keeper is = tt
 view_late operator book caller now view (answer.Damaged key) is = tt
-view_late operator book caller now view answer.Memory is = λ verdict same. subst (λ (v : Verdict). IsGrant v.answer) (sym same) is
+view_late operator book caller now view answer.Memory is = (tt, λ verdict same. subst (λ (v : Verdict). IsGrant v.answer) (sym same) is)
