@@ -9,9 +9,9 @@ use Rattle.fpl_base.specs.Moments.{Moments}
 use Rattle.fpl_words.specs.declared.words.Words.{Words}
 use Rattle.fpl_words.specs.declared.words.Words.TheVariants as order
 use Rattle.score_sheet.specs.Sheets.{Scores, HasWrongRow}
-use Rattle.fpl_host.specs.Pipe.{Pipes}
-use Rattle.fpl_host.specs.Requests.{Generates, Loads, Reports}
-use Rattle.fpl_host.specs.Serve.{DoorState, Serves}
+use Rattle.fpl_serving.specs.Pipe.{Pipes}
+use Rattle.fpl_requests.specs.Requests.{Generates, Loads, Reports}
+use Rattle.fpl_serving.specs.Serve.{DoorState, Serves}
 
 -- the text for words that are not read
 abbrev pub not_read_text : List ℕ
@@ -64,6 +64,11 @@ pub record Scored (profile : Profile) (left now before after : Option (List ℕ)
 -- a run by words that order nothing: a line says so, unless there was no memory to read them
 abbrev pub IsUnread : Option (List ℕ) → Option (List ℕ) → ℕ → Type 0
 IsUnread before after status = Ends IsNotReadDue status before after × ((status ≡ 2) ⊎ (status ≡ 3) ⊎ (status ≡ 6))
+
+-- for how many connections words ask
+abbrev pub connections_in : Option Words → ℕ
+connections_in (Some (order.Serve key port connections store)) = connections
+connections_in said = 0
 
 -- a run by what the words order
 abbrev pub RunsAs : {K : Type 0} → (K → Type 0) → (K → Type 0) → (K → Map → Type 0) → (K → Map → Type 0) → (K → ℕ) → Option Words → Outside K → Outside K → ℕ → Type 0

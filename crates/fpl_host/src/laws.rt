@@ -1,10 +1,6 @@
 ghost use Rattle.fpl_host.specs.Laws.{OneScoreDue};
-ghost use Rattle.fpl_host.specs.Whole.{PipesAreWhole, ServesAreWhole};
 
-use fpl_base::Keeper;
-use fpl_replies::replies_are_whole;
 use score_sheet::input_scores_once;
-use season_lawful::lawful_books_are_whole;
 
 /// For the bytes of a match one status and one text are due.
 pub fn one_score_is_due()
@@ -12,15 +8,4 @@ pub fn one_score_is_due()
 {
     // The law on which it stands, for the prover.
     input_scores_once();
-}
-
-/// Over a keeper that tells, and serves to the end, a run of `pipe` or `serve` from a lawful book has no reply of status
-/// 500, and leaves a lawful book. Nor is the keeper found damaged as the host is opened.
-pub fn lawful_runs_are_whole<K: Keeper>()
-    ensures pipe { PipesAreWhole K.tells K.serves K.holds K.passes K.faults }
-    ensures serve { ServesAreWhole K.tells K.serves K.holds K.passes K.faults }
-{
-    // The laws on which it stands, for the prover.
-    replies_are_whole();
-    lawful_books_are_whole::<K>();
 }

@@ -3,13 +3,8 @@
 
 mod input;
 mod laws;
-mod opening;
-mod pipe;
-mod requests;
 mod run;
 mod score;
-mod serve;
-mod talk;
 
 ghost use Rattle.std.specs.Prelude.{◌≡◌, ◌<◌, None};
 

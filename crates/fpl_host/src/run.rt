@@ -3,16 +3,15 @@ ghost use Rattle.std.specs.Prelude.{◌≡◌, ◌≤◌, ◌⊎◌, IfSome, Mat
 ghost use Rattle.std.specs.Io.KnownBytes.{IsAtEnd, Keeps};
 ghost use Rattle.fpl_base.specs.Causes.{Rose};
 ghost use Rattle.fpl_words.specs.Orders.{ordered};
-ghost use Rattle.fpl_host.specs.Run.{Ends, IsScoreDue, RunsAs};
-ghost use Rattle.fpl_host.specs.Serve.{connections_in, doors_as};
+ghost use Rattle.fpl_serving.specs.Serve.{doors_as};
+ghost use Rattle.fpl_host.specs.Run.{Ends, IsScoreDue, RunsAs, connections_in};
 
-use crate::pipe::pipe;
-use crate::requests::{generate, load, report};
 use crate::score::{Halt, score_due};
-use crate::serve::serve;
 use fpl_asking::print;
 use fpl_asking::status::{MEMORY, READ_FAULT, WORDS};
 use fpl_base::{Clock, Doors, Keeper, Profile, Shelf, Sink, Source, Steps, Text};
+use fpl_requests::{generate, load, report};
+use fpl_serving::{pipe, serve};
 use fpl_words::{WordFault, Words, words_of};
 use std::alloc::Global;
 use std::sync::ledger::Ledger;

@@ -1,0 +1,64 @@
+-- The commands that ask requests of a host: what each asks, and from which books.
+use Rattle.std.specs.Prelude.{◌≡◌, ◌⊎◌, ℕ, List, Option, Some, None, codes, ⊤}
+use Rattle.fpl_base.specs.Keeping.{Map}
+use Rattle.fpl_base.specs.Moments.{Moments}
+use Rattle.fpl_base.specs.declared.kinds.Profile.{Profile}
+use Rattle.fpl_words.specs.declared.words.What.{What}
+use Rattle.fpl_words.specs.declared.words.What.TheVariants as what
+use Rattle.season_book.specs.declared.command.Command.{Command}
+use Rattle.season_book.specs.declared.request.View.{View}
+use Rattle.season_book.specs.declared.request.View.TheVariants as view
+use Rattle.fpl_replies.specs.Replying.{Served}
+use Rattle.fpl_asking.specs.Printing.{IsReported}
+use Rattle.fpl_loading.specs.Faults.{TellsLoadFault}
+use Rattle.fpl_loading.specs.Files.{AreOrdered, ExplainsLoad}
+use Rattle.fpl_loading.specs.Loading.{IsLoad}
+use Rattle.fpl_loading.specs.declared.files.LoadFault.{LoadFault}
+use Rattle.fpl_generating.specs.Generating.{IsGenerated}
+use Rattle.fpl_serving.specs.Keeping.{IsUnopened, Runs}
+
+-- what is asked leads from each book to one: the keeper is not read again on the way
+abbrev pub Through : (Served → Served → Type 0) → Option Served → Option Served → Type 0
+Through how None None = ⊤
+Through how (Some old) (Some new) = how old new
+Through how old new = ⊥
+
+-- a host was opened, and so much was asked of it, from the books that the keeper's records tell; or it was not opened, and no
+-- moment was told
+abbrev pub RunsThrough : {K : Type 0} → (K → Type 0) → (K → Type 0) → (K → Map → Type 0) → (K → Map → Type 0) → (K → ℕ) → K → K → List ℕ → Option Moments → Option Moments
+    → Option (List ℕ) → Option (List ℕ) → ℕ → (Served → Served → Type 0) → Type 0
+RunsThrough tells serves holds passes faults old new key moments later before after status how =
+    Runs tells serves holds passes old new key moments later (faults old) (faults new) (Through how) how
+    ⊎ ((later ≡ moments) × IsUnopened tells holds passes faults old new before after status)
+
+-- the view of a report
+abbrev pub view_of : What → View
+view_of what.Season = view.Season
+view_of (what.Table id) = view.League id
+view_of (what.Fixture id) = view.Fixture id
+view_of (what.Entry id gameweek) = view.EntryGameweek id gameweek
+
+-- a run of `report`: the operator asked a view, and its report was written
+abbrev pub Reports : {K : Type 0} → (K → Type 0) → (K → Type 0) → (K → Map → Type 0) → (K → Map → Type 0) → (K → ℕ) → K → K → List ℕ → What → Option Moments → Option Moments
+    → Option (List ℕ) → Option (List ℕ) → ℕ → Type 0
+Reports tells serves holds passes faults old new key shown moments later before after status =
+    RunsThrough tells serves holds passes faults old new key moments later before after status (IsReported (view_of shown) before after status)
+
+-- a run of `load`: the files of a folder order no commands, which is told, and nothing was opened; or they order some, and
+-- these were loaded
+abbrev pub Loads : {K : Type 0} → (K → Type 0) → (K → Type 0) → (K → Map → Type 0) → (K → Map → Type 0) → (K → ℕ) → K → K → List ℕ → Option (List ℕ → List ℕ) → List ℕ → ℕ → Profile
+    → Option Moments → Option Moments → Option (List ℕ) → Option (List ℕ) → ℕ → Type 0
+Loads tells serves holds passes faults old new key files folder split profile moments later before after status =
+    ((why : LoadFault) × ExplainsLoad files folder split why × TellsLoadFault why status before after × (new ≡ old) × (later ≡ moments))
+    ⊎ ((commands : List Command) × AreOrdered files folder split profile commands
+    × RunsThrough tells serves holds passes faults old new key moments later before after status (IsLoad commands before after status))
+
+-- the operator of a made-up season has this key
+abbrev pub made_up_key : List ℕ
+made_up_key = codes "operator1"
+
+-- a run of `generate`: the made-up season of a seed was asked, at its own moments
+abbrev pub Generates : {K : Type 0} → (K → Type 0) → (K → Type 0) → (K → Map → Type 0) → (K → Map → Type 0) → (K → ℕ) → K → K → ℕ → Option Moments
+    → Option (List ℕ) → Option (List ℕ) → ℕ → Type 0
+Generates tells serves holds passes faults old new seed moments before after status =
+    RunsThrough tells serves holds passes faults old new made_up_key moments moments before after status (IsGenerated seed before after status)

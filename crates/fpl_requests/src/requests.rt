@@ -1,0 +1,181 @@
+// The commands that ask requests of a host in this process.
+ghost use Rattle.std.specs.Prelude.{◌≡◌, ◌⊎◌, All, IfOk, Option};
+ghost use Rattle.fpl_base.specs.Causes.{Rose};
+ghost use Rattle.fpl_base.specs.Moments.{Moments};
+ghost use Rattle.season_book.specs.Commands.{IsCommand};
+ghost use Rattle.fpl_generating.specs.Generating.{IsGenerated};
+ghost use Rattle.fpl_loading.specs.Loading.{IsLoad};
+ghost use Rattle.fpl_requests.specs.Requests.{Generates, Loads, Reports, RunsThrough, made_up_key, view_of};
+
+use fpl_serving::unopened;
+use fpl_asking::reported;
+use fpl_asking::status::MEMORY;
+use fpl_base::{Clock, Keeper, Key, Memory, Profile, Shelf, Sink, Steps, Text};
+use fpl_generating::generated;
+use fpl_loading::{loaded, ordered_by, unloaded};
+use fpl_words::What;
+use season_book::{Command, View};
+use season_keeping::Host;
+use std::alloc::Global;
+use std::sync::ledger::Ledger;
+
+/// The operator of a made-up season has this key.
+const MADE_UP_KEY: &[u8] = b"operator1";
+
+/// Asks a view as the operator with this key, writes its report, and answers the exit status.
+pub fn report<W: Sink, C: Clock, K: Keeper, L: Ledger>(
+    alloc: Global,
+    key: &Key,
+    what: What,
+    output: &mut W,
+    clock: &mut C,
+    keeper: &mut K,
+    steps: &mut Steps<L>,
+) -> u8
+    ensures reports { Reports K.tells K.serves K.holds K.passes K.faults keeper.old keeper.new
+        key.now what (C.left clock.old) (C.left clock.new) (W.taken output.old)
+        (W.taken output.new) result }
+    ensures statuses { (result ≡ 0) ⊎ (result ≡ 3) ⊎ (result ≡ 4) ⊎ (result ≡ 5) ⊎ (result ≡ 6)
+        ⊎ (result ≡ 13) }
+    ensures write { result ≡ 3 → Rose (W.faults output.old) (W.faults output.new) }
+    ensures keeper { result ≡ 4 → Rose (K.faults keeper.old) (K.faults keeper.new) }
+{
+    match Host::open(alloc, keeper, key, steps) {
+        Ok(mut host) => reported(
+            alloc,
+            &mut host,
+            view_of(what),
+            output,
+            clock,
+            keeper,
+            steps,
+        ),
+        Err(fault) => unopened(alloc, fault, output),
+    }
+}
+
+// The view of a report.
+fn view_of(what: What) -> View
+    ensures { result ≡ view_of what }
+{
+    match what {
+        What::Season => View::Season,
+        What::Table { id } => View::League { league: id },
+        What::Fixture { id } => View::Fixture { fixture: id },
+        What::Entry { id, gameweek } => View::EntryGameweek {
+            entry: id,
+            gameweek: u32::from(gameweek.get()),
+        },
+    }
+}
+
+/// Loads the season of the files in a folder for the operator with this key, and answers the exit status. `split` is the
+/// last gameweek of the first half, 0 for none.
+pub fn load<W: Sink, C: Clock, K: Keeper, F: Shelf, L: Ledger>(
+    alloc: Global,
+    key: &Key,
+    folder: &Text,
+    split: u8,
+    profile: Profile,
+    output: &mut W,
+    clock: &mut C,
+    keeper: &mut K,
+    shelf: &mut F,
+    steps: &mut Steps<L>,
+) -> u8
+    ensures loads { Loads K.tells K.serves K.holds K.passes K.faults keeper.old keeper.new key.now
+        (F.files shelf.old) folder.now split profile (C.left clock.old) (C.left clock.new)
+        (W.taken output.old) (W.taken output.new) result }
+    ensures statuses { (result ≡ 0) ⊎ (result ≡ 3) ⊎ (result ≡ 4) ⊎ (result ≡ 5) ⊎ (result ≡ 6)
+        ⊎ (result ≡ 9) ⊎ (result ≡ 10) ⊎ (result ≡ 11) ⊎ (result ≡ 13) }
+    ensures write { result ≡ 3 → Rose (W.faults output.old) (W.faults output.new) }
+    ensures keeper { result ≡ 4 → Rose (K.faults keeper.old) (K.faults keeper.new) }
+    ensures shelf { result ≡ 9 → Rose (F.faults shelf.old) (F.faults shelf.new) }
+{
+    match ordered_by(alloc, shelf, split, profile, folder) {
+        Ok(commands) => load_all(alloc, key, commands, output, clock, keeper, steps),
+        Err(fault) => unloaded(alloc, fault, output),
+    }
+}
+
+// Loads these commands.
+fn load_all<W: Sink, C: Clock, K: Keeper, L: Ledger>(
+    alloc: Global,
+    key: &Key,
+    commands: Vec<Command>,
+    output: &mut W,
+    clock: &mut C,
+    keeper: &mut K,
+    steps: &mut Steps<L>,
+) -> u8
+    requires { All IsCommand commands.items }
+    ensures loads { RunsThrough K.tells K.serves K.holds K.passes K.faults keeper.old keeper.new
+        key.now (C.left clock.old) (C.left clock.new) (W.taken output.old)
+        (W.taken output.new) result
+        (IsLoad commands.items (W.taken output.old) (W.taken output.new) result) }
+    ensures statuses { (result ≡ 0) ⊎ (result ≡ 3) ⊎ (result ≡ 4) ⊎ (result ≡ 5) ⊎ (result ≡ 6)
+        ⊎ (result ≡ 13) }
+    ensures write { result ≡ 3 → Rose (W.faults output.old) (W.faults output.new) }
+    ensures keeper { result ≡ 4 → Rose (K.faults keeper.old) (K.faults keeper.new) }
+{
+    match Host::open(alloc, keeper, key, steps) {
+        Ok(mut host) => loaded(alloc, &mut host, commands, output, clock, keeper, steps),
+        Err(fault) => unopened(alloc, fault, output),
+    }
+}
+
+/// Asks the made-up season of a seed, writes its summary, and answers the exit status.
+pub fn generate<W: Sink, K: Keeper, L: Ledger>(
+    alloc: Global,
+    seed: u64,
+    output: &mut W,
+    keeper: &mut K,
+    steps: &mut Steps<L>,
+) -> u8
+    ensures generates { (moments : Option Moments)
+        → Generates K.tells K.serves K.holds K.passes K.faults keeper.old keeper.new seed moments
+        (W.taken output.old) (W.taken output.new) result }
+    ensures statuses { (result ≡ 0) ⊎ (result ≡ 3) ⊎ (result ≡ 4) ⊎ (result ≡ 5) ⊎ (result ≡ 6)
+        ⊎ (result ≡ 13) }
+    ensures write { result ≡ 3 → Rose (W.faults output.old) (W.faults output.new) }
+    ensures keeper { result ≡ 4 → Rose (K.faults keeper.old) (K.faults keeper.new) }
+{
+    match made_up_key(alloc) {
+        Ok(key) => generate_as(alloc, &key, seed, output, keeper, steps),
+        Err(Memory) => MEMORY,
+    }
+}
+
+// Asks it of the host of the operator with this key.
+fn generate_as<W: Sink, K: Keeper, L: Ledger>(
+    alloc: Global,
+    key: &Key,
+    seed: u64,
+    output: &mut W,
+    keeper: &mut K,
+    steps: &mut Steps<L>,
+) -> u8
+    ensures generates { (moments : Option Moments)
+        → RunsThrough K.tells K.serves K.holds K.passes K.faults keeper.old keeper.new key.now
+        moments moments (W.taken output.old) (W.taken output.new) result
+        (IsGenerated seed (W.taken output.old) (W.taken output.new) result) }
+    ensures statuses { (result ≡ 0) ⊎ (result ≡ 3) ⊎ (result ≡ 4) ⊎ (result ≡ 5) ⊎ (result ≡ 6)
+        ⊎ (result ≡ 13) }
+    ensures write { result ≡ 3 → Rose (W.faults output.old) (W.faults output.new) }
+    ensures keeper { result ≡ 4 → Rose (K.faults keeper.old) (K.faults keeper.new) }
+{
+    match Host::open(alloc, keeper, key, steps) {
+        Ok(mut host) => generated(alloc, &mut host, seed, output, keeper, steps),
+        Err(fault) => unopened(alloc, fault, output),
+    }
+}
+
+fn made_up_key(alloc: Global) -> Result<Key, Memory>
+    ensures { IfOk result (λ key. key ≡ made_up_key) }
+{
+    match Key::new(alloc, MADE_UP_KEY) {
+        Ok(Some(key)) => Ok(key),
+        Ok(None) => unreachable!(),
+        Err(Memory) => Err(Memory),
+    }
+}

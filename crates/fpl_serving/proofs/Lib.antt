@@ -1,0 +1,4 @@
+pub mod CourseLemmas
+pub mod PipeLemmas
+pub mod ServeLemmas
+pub mod WholeLemmas

@@ -1,0 +1,14 @@
+-- A host that was not opened.
+use Rattle.std.proofs.Common.{ℕ, List, Option, inr, refl}
+use Rattle.fpl_base.specs.Keeping.{Map}
+use Rattle.fpl_base.specs.Moments.{Moments}
+use Rattle.season_opening.specs.declared.loading.OpenFault.{OpenFault}
+use Rattle.season_keeping.specs.Opening.{Withholds}
+use Rattle.fpl_serving.specs.Keeping.{TellsFault}
+use Rattle.fpl_serving.specs.Pipe.{Pipes}
+
+module _ (K : Type 0) (tells serves : K → Type 0) (holds passes : K → Map → Type 0) (faults : K → ℕ) (old new : K) where
+  pub unopened_pipes : (key : List ℕ) (left : Option (List ℕ)) (moments : Option Moments) (before after : Option (List ℕ)) (status : ℕ) (why : OpenFault)
+      → Withholds tells holds passes faults old new why → TellsFault why status before after
+      → Pipes tells serves holds passes faults old new key left left moments moments before after status
+  unopened_pipes key left moments before after status why withholds told = inr (refl, refl, (why, withholds, told))

@@ -1,0 +1,32 @@
+use Rattle.std.proofs.Common.{inl}
+use Rattle.fpl_desk.specs.Kept.{Kept}
+use Rattle.fpl_serving.specs.Pipe.{IsSession}
+use Rattle.fpl_replies.specs.Replying.{IsReplyUntil}
+use Rattle.fpl_replies.specs.Whole.{IsKeptReply}
+use Rattle.fpl_serving.proofs.CourseLemmas.{runs_of}
+use Rattle.fpl_serving.proofs.PipeLemmas.{unopened_pipes}
+use Rattle.fpl_serving.proofs.pipe.pipe.Goals as goal
+
+pub returns-in-Ok-clause-session : goal.returns-in-Ok-clause-session
+returns-in-Ok-clause-session g c =
+    let left = g.S.Source.left c.args.input.now in
+    let now = g.S.Source.left c.talk.new.source in
+    let before = g.W.Sink.taken c.args.output.now in
+    let after = g.W.Sink.taken c.talk.new.sink in
+    let ending = c.talk.result in
+    let first : Kept _ = record { host = c.in-Ok.host.host; moments = g.C.Clock.left c.args.clock.now; failed = g.K.Keeper.faults c.opened.new.keeper; keeper = c.opened.new.keeper } in
+    let last : Kept _ = record { host = c.talk.new.host.host; moments = g.C.Clock.left c.talk.new.clock; failed = g.K.Keeper.faults c.talk.new.keeper; keeper = c.talk.new.keeper } in
+    inl (record {
+      ending = ending;
+      is_status = c.ended.ensures.status;
+      exact = c.talk.ensures.exact;
+      runs = runs_of _ g.K.Keeper.tells g.K.Keeper.serves g.K.Keeper.holds g.K.Keeper.passes c.args.keeper.now first last c.args.key.now (g.K.Keeper.faults c.args.keeper.now)
+          c.in-Ok.ensures.opened c.in-Ok.ensures.operator c.in-Ok.ensures.reread (c.in-Ok.ensures.counts (λ is. cc))
+          (IsSession IsReplyUntil left now before after ending) (IsSession IsKeptReply left now before after ending)
+          c.talk.ensures.leads;
+    })
+
+pub returns-in-Err-clause-session : goal.returns-in-Err-clause-session
+returns-in-Err-clause-session g c =
+    unopened_pipes _ g.K.Keeper.tells g.K.Keeper.serves g.K.Keeper.holds g.K.Keeper.passes g.K.Keeper.faults c.args.keeper.now c.opened.new.keeper c.args.key.now (g.S.Source.left c.args.input.now) (g.C.Clock.left c.args.clock.now)
+    (g.W.Sink.taken c.args.output.now) (g.W.Sink.taken c.unopened.new.output) c.unopened.result c.in-Err.fault c.in-Err.ensures.opened c.unopened.ensures.told

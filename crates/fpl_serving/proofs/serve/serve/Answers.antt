@@ -1,0 +1,24 @@
+use Rattle.std.proofs.Common.{inl, inr, refl}
+use Rattle.fpl_desk.specs.Kept.{Kept}
+use Rattle.fpl_serving.specs.Serve.{DoorState, ServesOn}
+use Rattle.fpl_replies.specs.Replying.{IsReplyUntil}
+use Rattle.fpl_replies.specs.Whole.{IsKeptReply}
+use Rattle.fpl_serving.proofs.CourseLemmas.{runs_of}
+use Rattle.fpl_serving.proofs.serve.serve.Goals as goal
+
+pub returns-in-Ok-clause-served : goal.returns-in-Ok-clause-served
+returns-in-Ok-clause-served g c =
+    let served = c.serve_all.new in
+    let before : DoorState = record { coming = g.D.Doors.coming c.args.doors.now; given_back = g.D.Doors.given_back c.args.doors.now; faults = g.D.Doors.faults c.args.doors.now } in
+    let after : DoorState = record { coming = g.D.Doors.coming served.doors; given_back = g.D.Doors.given_back served.doors; faults = g.D.Doors.faults served.doors } in
+    let first : Kept _ = record { host = c.in-Ok.host.host; moments = g.C.Clock.left c.args.clock.now; failed = g.K.Keeper.faults c.opened.new.keeper; keeper = c.opened.new.keeper } in
+    let last : Kept _ = record { host = served.host.host; moments = g.C.Clock.left served.clock; failed = g.K.Keeper.faults served.keeper; keeper = served.keeper } in
+    inl (
+      runs_of _ g.K.Keeper.tells g.K.Keeper.serves g.K.Keeper.holds g.K.Keeper.passes c.args.keeper.now first last c.args.key.now (g.K.Keeper.faults c.args.keeper.now)
+          c.in-Ok.ensures.opened c.in-Ok.ensures.operator c.in-Ok.ensures.reread (c.in-Ok.ensures.counts (λ is. cc))
+          (ServesOn IsReplyUntil c.args.connections before after c.serve_all.result) (ServesOn IsKeptReply c.args.connections before after c.serve_all.result) c.serve_all.ensures.served,
+      refl,
+    )
+
+pub returns-in-Err-clause-served : goal.returns-in-Err-clause-served
+returns-in-Err-clause-served g c = inr (refl, refl, (c.in-Err.fault, c.in-Err.ensures.opened, c.unopened.ensures.told))

@@ -1,0 +1,14 @@
+//! What runs sessions of the season's host, over the input and the output or over connections one after another: it opens
+//! the host over a keeper, and tells why where it cannot be opened.
+#![tactic(auto)]
+
+mod laws;
+mod opening;
+mod pipe;
+mod serve;
+mod talk;
+
+pub use laws::lawful_runs_are_whole;
+pub use opening::unopened;
+pub use pipe::pipe;
+pub use serve::serve;

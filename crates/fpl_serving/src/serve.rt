@@ -1,0 +1,132 @@
+// The command that serves connections, one after another.
+ghost use Rattle.std.specs.Prelude.{◌≡◌, ◌≤◌, ◌<◌, ◌⊎◌, IfSome, MatchOption, None, OnErr, OnOk, length};
+ghost use Rattle.fpl_base.specs.Causes.{Rose};
+ghost use Rattle.fpl_desk.specs.Kept.{LeadsAll, kept_as};
+ghost use Rattle.fpl_replies.specs.Replying.{IsReplyUntil};
+ghost use Rattle.fpl_replies.specs.Whole.{IsKeptReply};
+ghost use Rattle.fpl_serving.specs.Serve.{IsAskedOnce, OneFewer, Serves, ServesOn, doors_as};
+
+use crate::opening::unopened;
+use crate::talk::talk;
+use fpl_asking::status::{DONE, DOORS, MEMORY};
+use fpl_base::{Clock, Doors, Failed, Keeper, Key, Sink, Steps};
+use fpl_desk::{Desk, HostWithScratch, opened};
+use fpl_session::Ending;
+use std::alloc::Global;
+use std::sync::ledger::Ledger;
+
+/// Serves so many connections for the operator with this key, and answers the exit status.
+pub fn serve<W: Sink, C: Clock, K: Keeper, D: Doors, L: Ledger>(
+    alloc: Global,
+    key: &Key,
+    connections: u16,
+    output: &mut W,
+    clock: &mut C,
+    keeper: &mut K,
+    doors: &mut D,
+    steps: &mut Steps<L>,
+) -> u8
+    requires { MatchOption (D.coming doors.old) ((d : D) → D.coming d ≡ None)
+        (λ all. connections ≤ length all) }
+    ensures served { Serves K.tells K.serves K.holds K.passes K.faults keeper.old keeper.new key.now
+        connections
+        (doors_as (D.coming doors.old) (D.given_back doors.old) (D.faults doors.old))
+        (doors_as (D.coming doors.new) (D.given_back doors.new) (D.faults doors.new))
+        (C.left clock.old) (C.left clock.new) (W.taken output.old) (W.taken output.new) result }
+    ensures statuses { (result ≡ 0) ⊎ (result ≡ 3) ⊎ (result ≡ 4) ⊎ (result ≡ 5) ⊎ (result ≡ 6)
+        ⊎ (result ≡ 8) }
+    ensures write { result ≡ 3 → Rose (W.faults output.old) (W.faults output.new) }
+    ensures keeper { result ≡ 4 → Rose (K.faults keeper.old) (K.faults keeper.new) }
+    ensures doors { result ≡ 8 → Rose (D.faults doors.old) (D.faults doors.new) }
+{
+    match opened(alloc, key, keeper, steps) {
+        Ok((desk, mut host)) => serve_all(
+            alloc,
+            &desk,
+            &mut host,
+            connections,
+            clock,
+            keeper,
+            doors,
+            steps,
+        ),
+        Err(fault) => unopened(alloc, fault, output),
+    }
+}
+
+// Serves so many connections, one after another.
+fn serve_all<C: Clock, K: Keeper, D: Doors, L: Ledger>(
+    alloc: Global,
+    desk: &Desk,
+    host: &mut HostWithScratch,
+    connections: u16,
+    clock: &mut C,
+    keeper: &mut K,
+    doors: &mut D,
+    steps: &mut Steps<L>,
+) -> u8
+    requires { MatchOption (D.coming doors.old) ((d : D) → D.coming d ≡ None)
+        (λ all. connections ≤ length all) }
+    ensures served { LeadsAll K.tells K.serves K.holds K.passes
+        (kept_as host.old.host (C.left clock.old) (K.faults keeper.old) keeper.old)
+        (kept_as host.new.host (C.left clock.new) (K.faults keeper.new) keeper.new)
+        (ServesOn IsReplyUntil connections
+        (doors_as (D.coming doors.old) (D.given_back doors.old) (D.faults doors.old))
+        (doors_as (D.coming doors.new) (D.given_back doors.new) (D.faults doors.new)) result)
+        (ServesOn IsKeptReply connections
+        (doors_as (D.coming doors.old) (D.given_back doors.old) (D.faults doors.old))
+        (doors_as (D.coming doors.new) (D.given_back doors.new) (D.faults doors.new)) result) }
+    ensures statuses { (result ≡ 0) ⊎ (result ≡ 6) ⊎ (result ≡ 8) }
+    ensures doors { result ≡ 8 → Rose (D.faults doors.old) (D.faults doors.new) }
+{
+    for _ in 0..connections {
+        match serve_one(alloc, desk, host, clock, keeper, doors, steps) {
+            Ok(ending) => {
+                if ending == Ending::Memory {
+                    return MEMORY;
+                }
+            }
+            Err(Failed) => return DOORS,
+        }
+    }
+    DONE
+}
+
+// Serves the next connection, and gives it back.
+fn serve_one<C: Clock, K: Keeper, D: Doors, L: Ledger>(
+    alloc: Global,
+    desk: &Desk,
+    host: &mut HostWithScratch,
+    clock: &mut C,
+    keeper: &mut K,
+    doors: &mut D,
+    steps: &mut Steps<L>,
+) -> Result<Ending, Failed>
+    requires { IfSome (D.coming doors.old) (λ all. 0 < length all) }
+    ensures served { LeadsAll K.tells K.serves K.holds K.passes
+        (kept_as host.old.host (C.left clock.old) (K.faults keeper.old) keeper.old)
+        (kept_as host.new.host (C.left clock.new) (K.faults keeper.new) keeper.new)
+        (IsAskedOnce IsReplyUntil
+        (doors_as (D.coming doors.old) (D.given_back doors.old) (D.faults doors.old))
+        (doors_as (D.coming doors.new) (D.given_back doors.new) (D.faults doors.new)) result)
+        (IsAskedOnce IsKeptReply
+        (doors_as (D.coming doors.old) (D.given_back doors.old) (D.faults doors.old))
+        (doors_as (D.coming doors.new) (D.given_back doors.new) (D.faults doors.new)) result) }
+    ensures coming { OnOk result (OneFewer (D.coming doors.old) (D.coming doors.new)) }
+    ensures kept { OnOk result (D.faults doors.new ≡ D.faults doors.old) }
+    ensures cause { OnErr result (Rose (D.faults doors.old) (D.faults doors.new)) }
+{
+    let (mut source, mut sink) = doors.next()?;
+    let ending = talk(
+        alloc,
+        desk,
+        host,
+        keeper,
+        &mut source,
+        &mut sink,
+        clock,
+        steps,
+    );
+    doors.give_back(source, sink);
+    Ok(ending)
+}
