@@ -139,7 +139,7 @@ impl KeptCells {
         Ok(())
     }
 
-    /// Follows a moment that locked gameweeks. `first` is how many were locked before.
+    /// Follows a moment that locked gameweeks, and evaluates what hangs on that. `first` is how many were locked before.
     pub fn follow_locks<L: Ledger>(
         &mut self,
         first: u8,
@@ -156,6 +156,13 @@ impl KeptCells {
             (books_seen season.now managers.now leagues.now cups.now) first }
         ensures cells { OnOk result
             (AreCellsOf (books_seen season.now managers.now leagues.now cups.now) self.new) }
+        ensures corrected { OnOk result
+            (IsCorrected before
+            (books_seen season.now managers.now leagues.now cups.now) self.old.cells
+            self.new.cells) }
+        ensures cost { OnOk result
+            (IsCheap before
+            (books_seen season.now managers.now leagues.now cups.now) steps.old steps.new) }
     {
         let books = books_of(season, managers, leagues, cups);
         gameweeks_locked(&mut self.index, &mut self.cells, &books, first)?;

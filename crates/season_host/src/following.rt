@@ -210,6 +210,10 @@ pub fn pass<L: Ledger>(
     ensures stays { result.locks ≡ false → cells.new ≡ cells.old }
     ensures still { result.locks ≡ false → steps.new ≡ steps.old }
     ensures cells { result.followed ≡ true → AreCellsOfHost house.new cells.new }
+    ensures corrected { result.locks ≡ true → result.followed ≡ true
+        → AreCorrected house.old house.new cells.old cells.new }
+    ensures cheap { result.locks ≡ true → result.followed ≡ true
+        → IsCheapNow (running_in house.old) (running_in house.new) steps.old steps.new }
 {
     let first = house.locked();
     if house.pass(now) {
@@ -237,6 +241,8 @@ fn follow_locks<L: Ledger>(
     requires cells { AreCellsNow before cells.old }
     requires locks { LocksNow before running.now first }
     ensures cells { OnOk result (AreCellsNow running.now cells.new) }
+    ensures corrected { OnOk result (AreCorrectedNow before running.now cells.old cells.new) }
+    ensures cheap { OnOk result (IsCheapNow before running.now steps.old steps.new) }
 {
     if let Some(running) = running {
         if let Some(cells) = cells {
@@ -257,6 +263,11 @@ fn follow_locks_in<L: Ledger>(
     requires cells { AreCellsOf (running_seen before) cells.old }
     requires locks { Locks before running.now first }
     ensures cells { OnOk result (AreCellsOf (running_seen running.now) cells.new) }
+    ensures corrected { OnOk result
+        (IsCorrected (running_seen before) (running_seen running.now) cells.old.cells
+        cells.new.cells) }
+    ensures cheap { OnOk result
+        (IsCheap (running_seen before) (running_seen running.now) steps.old steps.new) }
 {
     // The law of what a moment changes, for the prover, and that the calendar is lawful.
     calendar_changes();
