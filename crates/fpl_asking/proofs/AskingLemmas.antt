@@ -5,7 +5,8 @@ use Rattle.fpl_base.specs.Keeping.{Map}
 use Rattle.fpl_base.specs.Moments.{Moments, Tells}
 use Rattle.fpl_base.specs.declared.kinds.Caller.{Caller}
 use Rattle.season_book.specs.Book.{Book}
-use Rattle.season_book.specs.Verdict.{Failures, MayAnswer}
+use Rattle.season_book.specs.Doing.{IsOutLate}
+use Rattle.season_book.specs.Verdict.{Failures, MayAnswer, pass}
 use Rattle.season_book.specs.declared.answer.Answer.{Answer}
 use Rattle.season_book.specs.declared.answer.Answer.TheVariants as answer
 use Rattle.season_book.specs.declared.request.Request.{Request}
@@ -27,6 +28,11 @@ stale_after true book told out keeper = inr (refl, either (out refl))
     either (inl memory) = inr memory
     either (inr failed) = inl failed
 stale_after false book told out keeper = inl (refl, λ is. true≢false (sym (keeper is)))
+
+-- and where nothing is, it is not
+pub fresh_from : (stale : Bool) (book : Book) → stale_from stale book ≡ None → stale ≡ false
+fresh_from true book is = cc
+fresh_from false book is = refl
 
 -- what says that the keeper failed is caused by a count that rose
 pub rose_behind : (failures : Failures) (told : Answer) → IsCaused failures told → told ≡ answer.Keeper → Rose failures.before failures.behind
@@ -103,6 +109,8 @@ module _ (K : Type 0) (tells serves : K → Type 0) (holds passes : K → Map �
       (may_be_stale : new.host.stale ≡ true → (told ≡ answer.Memory) ⊎ (told ≡ answer.Keeper))
       (keeper : told ≡ answer.Keeper → new.host.stale ≡ true)
       (changes : told ≡ answer.Keeper → (book : Book) → StandsIn old.host.rows book → WouldChange old.host.rows.operator book caller now request)
+      (caused : IsCaused (record { before = old.failed; behind = new.failed }) told)
+      (late : new.host.stale ≡ false → (book : Book) → StandsIn old.host.rows book → IsOutLate old.host.rows.operator (pass book now) caller now request told)
       (stops : (book : Book) → StandsIn old.host.rows book → StopsLeave old.host.rows.operator tells holds passes old.keeper new.keeper old.host book caller now request) where
     abbrev behind : Book → Book → Served
     behind book left = with_book new left (stale_from new.host.stale book)
@@ -113,6 +121,8 @@ module _ (K : Type 0) (tells serves : K → Type 0) (holds passes : K → Map �
     heard_in book left stands may = record {
       may = may;
       changes = λ failed. changes failed book stands;
+      caused = caused;
+      late = λ none. late (fresh_from new.host.stale book none) book stands;
       operator = operator;
       moments = same;
       stale = stale_after new.host.stale book told may_be_stale keeper;

@@ -69,7 +69,8 @@ fn report<W: Sink>(alloc: Global, told: &Answer, output: &mut W) -> u8
 
 // Whether there is a report of what is shown.
 fn has_report(shown: &Shown) -> bool
-    ensures { result ≡ true → HasReport shown.now }
+    ensures there { result ≡ true → HasReport shown.now }
+    ensures none { result ≡ false → HasReport shown.now → ⊥ }
 {
     match shown {
         Shown::Season(_)

@@ -1,5 +1,5 @@
 -- Replies to what the host judged.
-use Rattle.std.proofs.Common.{◌≡◌, ◌∙◌, ◌⊎◌, Bool, true, false, true≢false, ap, arith, sym, subst, ℕ, List, None, Result, Ok, Err, IfOk, inl, inr, refl}
+use Rattle.std.proofs.Common.{◌≡◌, ◌≢◌, ◌∙◌, ◌⊎◌, Bool, true, false, true≢false, ap, arith, sym, subst, ℕ, List, None, Result, Ok, Err, IfOk, inl, inr, refl}
 use Rattle.fpl_base.specs.Keeping.{Map}
 use Rattle.fpl_base.specs.declared.kinds.Caller.{Caller}
 use Rattle.fpl_base.specs.declared.memory.Memory.{Memory}
@@ -19,7 +19,7 @@ use Rattle.season_book.specs.declared.request.Request.{Request}
 use Rattle.season_records.specs.Commits.{HoldsLeft}
 use Rattle.season_records.specs.Records.{records}
 use Rattle.season_running.specs.Standing.{StandsIn}
-use Rattle.season_keeping.specs.Answering.{Answers, StopsLeave, WouldChange}
+use Rattle.season_keeping.specs.Answering.{Answers, IsCaused, StopsLeave, WouldChange}
 use Rattle.fpl_desk.specs.Kept.{Kept, Leads}
 use Rattle.fpl_replies.specs.Replying.{IsJudged, IsLeftAt, IsStaleBehind, Judges, Served, reply_of}
 use Rattle.fpl_desk.proofs.KeptLemmas.{agrees_with, served_is, stale_from, stale_is, with_book}
@@ -38,6 +38,21 @@ judged_by : (host : HostState) (failures : Failures) (after : Book) (caller : Ca
     → IsJudged host failures caller now request (answer_in r) after
 judged_by host failures after caller now request answered (Ok reply) may changes e = inl (answered, may, e, changes)
 judged_by host failures after caller now request answered (Err _) may changes e = inr (refl, left_behind host failures after caller now request answered may)
+
+-- behind a reply that says neither that the keeper failed nor that memory was wanting its count is as it was
+counted_by : (failures : Failures) (answered : Answer) (r : Result Reply Memory) → IsCaused failures answered → IfOk r (λ reply. reply_seen reply ≡ reply_of answered)
+    → (answer_in r).0 ≢ 503 → (answer_in r).0 ≢ 507 → failures.behind ≡ failures.before
+counted_by failures answered (Err _) caused e some room = absurd (room refl)
+counted_by failures answered (Ok reply) caused e some room = by answered caused (λ is. some (ap (λ (r : ℕ × List ℕ). r.0) e ∙ ap status_of is))
+  where
+    by : (a : Answer) → IsCaused failures a → (a ≡ answer.Keeper → ⊥) → failures.behind ≡ failures.before
+    by (answer.Done n what) stays other = stays
+    by (answer.Shown s) stays other = stays
+    by (answer.Rule r) stays other = stays
+    by answer.Unknown stays other = stays
+    by answer.Keeper stays other = absurd (other refl)
+    by (answer.Damaged key) stays other = absurd stays
+    by answer.Memory stays other = stays
 
 -- status 503 is that of a keeper that failed alone
 not_503 : (what : Made) → done_status what ≡ 503 → ⊥
@@ -76,6 +91,7 @@ module _ (K : Type 0) (tells serves : K → Type 0) (holds passes : K → Map �
     (may_be_stale : new.host.stale ≡ true → (answered ≡ answer.Memory) ⊎ (answered ≡ answer.Keeper))
     (keeper : answered ≡ answer.Keeper → new.host.stale ≡ true)
     (changes : answered ≡ answer.Keeper → (book : Book) → StandsIn old.host.rows book → WouldChange old.host.rows.operator book caller now request)
+    (caused : IsCaused (record { before = old.failed; behind = new.failed }) answered)
     (stops : (book : Book) → StandsIn old.host.rows book → StopsLeave old.host.rows.operator tells holds passes old.keeper new.keeper old.host book caller now request)
     (written : IfOk r (λ reply. reply_seen reply ≡ reply_of answered)) where
   abbrev behind : Book → Book → Served
@@ -89,6 +105,7 @@ module _ (K : Type 0) (tells serves : K → Type 0) (holds passes : K → Map �
     told = told;
     judged = judged_by (record { operator = old.host.rows.operator; book = book }) (record { before = old.failed; behind = new.failed }) left caller now request answered r may
         (λ failed. changes failed book stands) written;
+    counted = counted_by (record { before = old.failed; behind = new.failed }) answered r caused written;
     operator = operator;
     stale = stale_behind new.host.stale book answered r may_be_stale keeper written;
   }

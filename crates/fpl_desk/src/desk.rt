@@ -1,5 +1,5 @@
 // The host at its desk: what a message asks of it, and the reply.
-ghost use Rattle.std.specs.Prelude.{◌≡◌, ◌≢◌, ◌≤◌, Err, IfOk, IsTrue, MatchResult, Ok, Some, false, ⊤};
+ghost use Rattle.std.specs.Prelude.{◌≡◌, ◌≢◌, ◌≤◌, Err, IfOk, IsTrue, MatchResult, Ok, OnErr, Some, false, ⊤};
 ghost use Rattle.fpl_base.specs.declared.kinds.Caller.{Caller};
 ghost use Rattle.fpl_http.specs.Responses.{is_answer_status};
 ghost use Rattle.fpl_http.specs.Seen.{reply_seen, request_seen};
@@ -8,7 +8,7 @@ ghost use Rattle.fpl_session.specs.Splits.{Both};
 ghost use Rattle.fpl_session.specs.Replies.{answer_in};
 ghost use Rattle.fpl_bodies.specs.Requests.{request_of};
 ghost use Rattle.season_book.specs.Hosts.{IsRequest};
-ghost use Rattle.season_keeping.specs.Opening.{Opens, Withholds};
+ghost use Rattle.season_keeping.specs.Opening.{HoldsOn, Opens, Withholds};
 ghost use Rattle.season_opening.specs.declared.loading.OpenFault.{OpenFault};
 ghost use Rattle.season_opening.specs.declared.loading.OpenFault.TheVariants as fault;
 ghost use Rattle.fpl_desk.specs.Desks.{Asks, IsFaultReply, RepliesAs};
@@ -69,6 +69,7 @@ pub fn opened<K: Keeper, L: Ledger>(
     ensures opened { MatchResult result
         (λ opened. Opens K.tells K.holds K.passes keeper.old keeper.new opened.1.host)
         (Withholds K.tells K.holds K.passes K.faults keeper.old keeper.new) }
+    ensures holds { OnErr result (HoldsOn K.tells K.serves K.holds K.passes keeper.old keeper.new) }
     ensures operator { IfOk result (λ opened. opened.1.host.rows.operator ≡ key.now) }
     ensures reread { IfOk result (λ opened. opened.1.host.reread ≡ false) }
     ensures counts { result ≢ Err fault.Keeper → K.faults keeper.new ≡ K.faults keeper.old }

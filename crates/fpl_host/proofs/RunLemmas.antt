@@ -9,7 +9,8 @@ use Rattle.fpl_words.specs.declared.words.Words.{Words}
 use Rattle.fpl_words.specs.declared.words.Words.TheVariants as order
 use Rattle.season_opening.specs.declared.loading.OpenFault.TheVariants as fault
 use Rattle.fpl_loading.specs.declared.files.LoadFault.TheVariants as load_fault
-use Rattle.fpl_host.specs.Run.{Ends, IsNotReadDue, IsScoreDue, IsUnread, Outside, RunsAs, not_read_text, row_text}
+use Rattle.fpl_serving.proofs.PipeLemmas.{holds_still}
+use Rattle.fpl_host.specs.Run.{Ends, IsNotReadDue, IsScoreDue, IsUnread, LeavesHost, LeavesInput, Outside, RunsAs, not_read_text, row_text}
 
 -- one write of the text for words that are no command
 pub not_read_ends : (status : ℕ) (before after : Option (List ℕ)) (text : List ℕ) → text ≡ not_read_text → Prints text 2 status before after → Ends IsNotReadDue status before after
@@ -40,7 +41,7 @@ runs_as K tells serves holds passes faults said one old new status is runs =
     subst (λ (o : Option Words). RunsAs tells serves holds passes faults o old new status) (sym is) runs
 
 pub runs_none : (K : Type 0) (tells serves : K → Type 0) (holds passes : K → Map → Type 0) (faults : K → ℕ) (said : Option Words) (old new : Outside K) (status : ℕ)
-    → said ≡ None → IsUnread old.taken new.taken status → RunsAs tells serves holds passes faults said old new status
+    → said ≡ None → IsUnread old.taken new.taken status × LeavesInput old new × LeavesHost old new → RunsAs tells serves holds passes faults said old new status
 runs_none K tells serves holds passes faults said old new status is runs =
     subst (λ (o : Option Words). RunsAs tells serves holds passes faults o old new status) (sym is) runs
 
@@ -58,15 +59,18 @@ score_out profile (Some bytes) taken = out_of_memory (IsScoreDue profile bytes) 
 -- there was no memory to read the words, and nothing was done
 pub no_memory : (K : Type 0) (tells serves : K → Type 0) (holds passes : K → Map → Type 0) (faults : K → ℕ) (said : Option Words) (old : Outside K)
     → RunsAs tells serves holds passes faults said old old 6
-no_memory K tells serves holds passes faults None old = (out_of_memory IsNotReadDue old.taken, inr (inr refl))
-no_memory K tells serves holds passes faults (Some (order.Score profile)) old = record {
-  due = score_out profile old.left old.taken;
-  end = λ is. absurd (omega (arith, is));
-  statuses = inr (inr (inr (inl refl)));
-  memory = λ _. kept_none old.taken;
-}
-no_memory K tells serves holds passes faults (Some (order.Pipe key store)) old = inr (refl, refl, (fault.Memory, refl, (refl, refl)))
-no_memory K tells serves holds passes faults (Some (order.Serve key port count store)) old = inr (refl, refl, (fault.Memory, refl, (refl, refl)))
-no_memory K tells serves holds passes faults (Some (order.Load key store folder split profile)) old = inl (load_fault.Memory, tt, (refl, refl), refl, refl)
-no_memory K tells serves holds passes faults (Some (order.Report key store shown)) old = inr (refl, (fault.Memory, refl, (refl, refl)))
-no_memory K tells serves holds passes faults (Some (order.Generate seed store)) old = (inr (refl, (fault.Memory, refl, (refl, refl))), refl)
+no_memory K tells serves holds passes faults None old = ((out_of_memory IsNotReadDue old.taken, inr (inr refl)), refl, (refl, refl, refl, refl))
+no_memory K tells serves holds passes faults (Some (order.Score profile)) old = (
+  record {
+    due = score_out profile old.left old.taken;
+    end = λ is. absurd (omega (arith, is));
+    statuses = inr (inr (inr (inl refl)));
+    memory = λ _. kept_none old.taken;
+  },
+  (refl, refl, refl, refl),
+)
+no_memory K tells serves holds passes faults (Some (order.Pipe key store)) old = (inr (refl, refl, (fault.Memory, refl, holds_still K tells serves holds passes old.keeper, (refl, refl))), refl, refl)
+no_memory K tells serves holds passes faults (Some (order.Serve key port count store)) old = (inr (refl, refl, (fault.Memory, refl, holds_still K tells serves holds passes old.keeper, (refl, refl))), refl, refl)
+no_memory K tells serves holds passes faults (Some (order.Load key store folder split profile)) old = (inl (load_fault.Memory, tt, (refl, refl), refl, refl), refl, refl)
+no_memory K tells serves holds passes faults (Some (order.Report key store shown)) old = (inr (refl, (fault.Memory, refl, holds_still K tells serves holds passes old.keeper, (refl, refl))), refl, refl, refl)
+no_memory K tells serves holds passes faults (Some (order.Generate seed store)) old = (inr (refl, (fault.Memory, refl, holds_still K tells serves holds passes old.keeper, (refl, refl))), refl, refl, refl, refl)

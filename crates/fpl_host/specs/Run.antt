@@ -70,17 +70,39 @@ abbrev pub connections_in : Option Words → ℕ
 connections_in (Some (order.Serve key port connections store)) = connections
 connections_in said = 0
 
+-- a run that was not handed the input, and none but `serve` the doors, left them as they were
+abbrev pub LeavesInput : {K : Type 0} → Outside K → Outside K → Type 0
+LeavesInput old new = new.left ≡ old.left
+
+abbrev pub LeavesDoors : {K : Type 0} → Outside K → Outside K → Type 0
+LeavesDoors old new = new.doors ≡ old.doors
+
+-- no run but that of `load` is handed the files
+abbrev pub LeavesFiles : {K : Type 0} → Outside K → Outside K → Type 0
+LeavesFiles old new = new.files ≡ old.files
+
+-- a run without a host is handed neither the keeper nor the clock
+abbrev pub LeavesHost : {K : Type 0} → Outside K → Outside K → Type 0
+LeavesHost old new = (new.keeper ≡ old.keeper) × (new.moments ≡ old.moments) × LeavesDoors old new × LeavesFiles old new
+
 -- a run by what the words order
 abbrev pub RunsAs : {K : Type 0} → (K → Type 0) → (K → Type 0) → (K → Map → Type 0) → (K → Map → Type 0) → (K → ℕ) → Option Words → Outside K → Outside K → ℕ → Type 0
-RunsAs tells serves holds passes faults (Some (order.Score profile)) old new status = Scored profile old.left new.left old.taken new.taken status
+RunsAs tells serves holds passes faults (Some (order.Score profile)) old new status =
+    Scored profile old.left new.left old.taken new.taken status × LeavesHost old new
 RunsAs tells serves holds passes faults (Some (order.Pipe key store)) old new status =
     Pipes tells serves holds passes faults old.keeper new.keeper key old.left new.left old.moments new.moments old.taken new.taken status
+    × LeavesDoors old new × LeavesFiles old new
 RunsAs tells serves holds passes faults (Some (order.Serve key port connections store)) old new status =
     Serves tells serves holds passes faults old.keeper new.keeper key connections old.doors new.doors old.moments new.moments old.taken new.taken status
+    × LeavesInput old new × LeavesFiles old new
 RunsAs tells serves holds passes faults (Some (order.Load key store folder split profile)) old new status =
     Loads tells serves holds passes faults old.keeper new.keeper key old.files folder split profile old.moments new.moments old.taken new.taken status
+    × LeavesInput old new × LeavesDoors old new
 RunsAs tells serves holds passes faults (Some (order.Report key store shown)) old new status =
     Reports tells serves holds passes faults old.keeper new.keeper key shown old.moments new.moments old.taken new.taken status
+    × LeavesInput old new × LeavesDoors old new × LeavesFiles old new
 RunsAs tells serves holds passes faults (Some (order.Generate seed store)) old new status =
-    Generates tells serves holds passes faults old.keeper new.keeper seed old.moments old.taken new.taken status × (new.moments ≡ old.moments)
-RunsAs tells serves holds passes faults None old new status = IsUnread old.taken new.taken status
+    Generates tells serves holds passes faults old.keeper new.keeper seed old.moments old.taken new.taken status
+    × (new.moments ≡ old.moments) × LeavesInput old new × LeavesDoors old new × LeavesFiles old new
+RunsAs tells serves holds passes faults None old new status =
+    IsUnread old.taken new.taken status × LeavesInput old new × LeavesHost old new

@@ -82,7 +82,7 @@ module _ (law : AnswersAreIsolated) (message : Request) (reply : Reply) (fits : 
           let status : (a : Answer) → told ≡ a → reply.0 ≡ status_of a = λ a at. status_is reply told same ∙ ap status_of at in
           let led = law old.host.operator (failures_in old new) old.host.book caller judges.now request told new.host.book may
           (λ out. fits (status answer.Memory out)) (λ out. kept (status answer.Keeper out)) other.host.book (alike.books caller judges.now new.moments is judges.told) in
-          let left : Served = record { host = record { operator = other.host.operator; book = led.0 }; moments = new.moments; failed = new.failed; stale = None } in (
+          let left : Served = record { host = record { operator = other.host.operator; book = led.0 }; moments = new.moments; failed = other.failed; stale = None } in (
             left,
             record {
               now = judges.now;
@@ -93,6 +93,7 @@ module _ (law : AnswersAreIsolated) (message : Request) (reply : Reply) (fits : 
                 same,
                 λ out. absurd (kept (status answer.Keeper out)),
               );
+              counted = λ some room. refl;
               operator = refl;
               stale = inl (refl, kept);
             },

@@ -29,7 +29,7 @@ abbrev pub RunsThrough : {K : Type 0} → (K → Type 0) → (K → Type 0) → 
     → Option (List ℕ) → Option (List ℕ) → ℕ → (Served → Served → Type 0) → Type 0
 RunsThrough tells serves holds passes faults old new key moments later before after status how =
     Runs tells serves holds passes old new key moments later (faults old) (faults new) (Through how) how
-    ⊎ ((later ≡ moments) × IsUnopened tells holds passes faults old new before after status)
+    ⊎ ((later ≡ moments) × IsUnopened tells serves holds passes faults old new before after status)
 
 -- the view of a report
 abbrev pub view_of : What → View

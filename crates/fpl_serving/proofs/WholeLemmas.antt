@@ -72,8 +72,8 @@ module _ (sessions : SessionsAreWhole) where
         let told = each (opened key book moments (faults old)) behind (record { keepable = keepable; lawful = lawful }) led in
         record { behind = behind; left = left; held = holds_on; whole = told.1; led = told.0 }
 
-    unmade : (before after : Option (List ℕ)) (status : ℕ) → IsUnopened tells holds passes faults old new before after status → IsUnmade before after status
-    unmade before after status (why, withheld, told) = by why withheld told
+    unmade : (before after : Option (List ℕ)) (status : ℕ) → IsUnopened tells serves holds passes faults old new before after status → IsUnmade before after status
+    unmade before after status (why, withheld, holds_on, told) = by why withheld told
       where
         by : (w : OpenFault) → Withholds tells holds passes faults old new w → TellsFault w status before after → IsUnmade before after status
         by fault.Keeper withheld told = (inl told.0, told.1)
@@ -91,7 +91,7 @@ pipes_are_whole sessions K tells serves holds passes faults loads old new key le
           (λ from behind whole session. session_whole sessions left now before after piped.ending from behind whole session) piped.runs,
     )
 pipes_are_whole sessions K tells serves holds passes faults loads old new key left now moments later before after status book tell serve keepable lawful held (inr (same, waits, unopened)) =
-    inr (same, waits, unmade sessions K tells serves holds passes faults old new (loads old new) book tell serve keepable lawful held before after status unopened)
+    inr (same, waits, unopened.2.kept tell serve (records book) held, unmade sessions K tells serves holds passes faults old new (loads old new) book tell serve keepable lawful held before after status unopened)
 
 pub serves_are_whole : SessionsAreWhole → (K : Type 0) (tells serves : K → Type 0) (holds passes : K → Map → Type 0) (faults : K → ℕ)
     → ((old new : K) → LawfulBooksAreWhole (tells new) (holds old) (holds new) (passes new)) → ServesAreWhole tells serves holds passes faults
@@ -103,4 +103,4 @@ serves_are_whole sessions K tells serves holds passes faults loads old new key c
       quiet,
     )
 serves_are_whole sessions K tells serves holds passes faults loads old new key count before after moments later taken takes status book tell serve keepable lawful held (inr (same, waits, unopened)) =
-    inr (same, waits, unmade sessions K tells serves holds passes faults old new (loads old new) book tell serve keepable lawful held taken takes status unopened)
+    inr (same, waits, unopened.2.kept tell serve (records book) held, unmade sessions K tells serves holds passes faults old new (loads old new) book tell serve keepable lawful held taken takes status unopened)

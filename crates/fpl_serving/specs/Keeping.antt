@@ -10,7 +10,7 @@ use Rattle.season_opening.specs.declared.loading.OpenFault.{OpenFault}
 use Rattle.season_opening.specs.declared.loading.OpenFault.TheVariants as fault
 use Rattle.season_records.specs.Records.{records}
 use Rattle.season_running.specs.Standing.{HostRows, StandsIn}
-use Rattle.season_keeping.specs.Opening.{Withholds}
+use Rattle.season_keeping.specs.Opening.{HoldsOn, Withholds}
 use Rattle.fpl_asking.specs.Printing.{PrintsOne}
 use Rattle.fpl_replies.specs.Replying.{IsLeftAt, Served}
 
@@ -57,7 +57,7 @@ TellsFault fault.Keeper status before after = (status ≡ 4) × (after ≡ befor
 TellsFault fault.Memory status before after = (status ≡ 6) × (after ≡ before)
 TellsFault (fault.Damaged key) status before after = PrintsOne (λ text. text ≡ damaged_text key) 5 status before after
 
--- the host was not opened for a fault, which was told
-abbrev pub IsUnopened : {K : Type 0} → (K → Type 0) → (K → Map → Type 0) → (K → Map → Type 0) → (K → ℕ) → K → K → Option (List ℕ) → Option (List ℕ) → ℕ → Type 0
-IsUnopened tells holds passes faults old new before after status =
-    (why : OpenFault) × Withholds tells holds passes faults old new why × TellsFault why status before after
+-- the host was not opened for a fault, which was told, and what the keeper held it holds still
+abbrev pub IsUnopened : {K : Type 0} → (K → Type 0) → (K → Type 0) → (K → Map → Type 0) → (K → Map → Type 0) → (K → ℕ) → K → K → Option (List ℕ) → Option (List ℕ) → ℕ → Type 0
+IsUnopened tells serves holds passes faults old new before after status =
+    (why : OpenFault) × Withholds tells holds passes faults old new why × HoldsOn tells serves holds passes old new × TellsFault why status before after

@@ -43,4 +43,4 @@ abbrev pub Pipes : {K : Type 0} → (K → Type 0) → (K → Type 0) → (K →
     → Option (List ℕ) → Option (List ℕ) → ℕ → Type 0
 Pipes tells serves holds passes faults old new key left now moments later before after status =
     IsPiped tells serves holds passes old new key left now moments later (faults old) (faults new) before after status
-    ⊎ ((now ≡ left) × (later ≡ moments) × IsUnopened tells holds passes faults old new before after status)
+    ⊎ ((now ≡ left) × (later ≡ moments) × IsUnopened tells serves holds passes faults old new before after status)

@@ -65,7 +65,7 @@ abbrev pub Serves : {K : Type 0} → (K → Type 0) → (K → Type 0) → (K �
 Serves tells serves holds passes faults old new key count before after moments later taken takes status =
     (Runs tells serves holds passes old new key moments later (faults old) (faults new)
     (ServesOn IsReplyUntil count before after status) (ServesOn IsKeptReply count before after status) × (takes ≡ taken))
-    ⊎ ((after ≡ before) × (later ≡ moments) × IsUnopened tells holds passes faults old new taken takes status)
+    ⊎ ((after ≡ before) × (later ≡ moments) × IsUnopened tells serves holds passes faults old new taken takes status)
 
 -- one connection fewer is to come, where they are told
 abbrev pub OneFewer : Option (List (List ℕ)) → Option (List (List ℕ)) → Type 0

@@ -33,7 +33,7 @@ PipesAreWhole {K = K} tells serves holds passes faults =
     → Pipes tells serves holds passes faults old new key left now moments later before after status
     → ((ending : Ending) × (status ≡ status_of ending)
     × EndsWhole holds new later (faults new) (IsSession IsWholeReply left now before after ending (opened key book moments (faults old))))
-    ⊎ ((now ≡ left) × (later ≡ moments) × IsUnmade before after status)
+    ⊎ ((now ≡ left) × (later ≡ moments) × holds new (records book) × IsUnmade before after status)
 
 -- the same of connections that are served one after another
 abbrev pub ServesAreWhole : {K : Type 0} → (K → Type 0) → (K → Type 0) → (K → Map → Type 0) → (K → Map → Type 0) → (K → ℕ) → Type 0
@@ -42,4 +42,4 @@ ServesAreWhole {K = K} tells serves holds passes faults =
     → tells new → serves new → IsKeepable book → IsLawful book → holds old (records book)
     → Serves tells serves holds passes faults old new key count before after moments later taken takes status
     → (EndsWhole holds new later (faults new) (ServesOn IsWholeReply count before after status (opened key book moments (faults old))) × (takes ≡ taken))
-    ⊎ ((after ≡ before) × (later ≡ moments) × IsUnmade taken takes status)
+    ⊎ ((after ≡ before) × (later ≡ moments) × holds new (records book) × IsUnmade taken takes status)

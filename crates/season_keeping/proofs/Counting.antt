@@ -1,10 +1,11 @@
--- The reads of a request behind a moment that locks nothing.
-use Rattle.std.proofs.Common.{◌≡◌, ◌∙◌, ◌≤◌, ◌+◌, ◌*◌, ℕ, List, Option, subst}
+-- The reads of a request behind a moment that locks nothing, and what a moment that locks gameweeks evaluates.
+use Rattle.std.proofs.Common.{◌≡◌, ◌∙◌, ◌≤◌, ◌+◌, ◌*◌, ℕ, List, Option, subst, sym}
 use Rattle.fpl_base.specs.declared.kinds.Caller.{Caller}
 use Rattle.season_book.specs.Book.{Book}
 use Rattle.season_book.specs.declared.request.Request.{Request}
 use Rattle.season_book.specs.declared.request.Request.TheVariants as request
-use Rattle.season_host.specs.Cells.{IsCheapCommand, IsCheapNow, lines_in, running_in}
+use Rattle.season_cells.specs.Kept.{CellRows}
+use Rattle.season_host.specs.Cells.{AreCorrected, IsCheapCommand, IsCheapNow, lines_in, running_in}
 use Rattle.season_running.specs.Standing.{HostRows, Running}
 use Rattle.season_keeping.specs.Answering.{CountsFew, IsCheapRequest, LeavesAll, MayRest, WouldAct}
 use Rattle.season_keeping.specs.Housed.{Housed}
@@ -31,3 +32,18 @@ pub leaves_from : (K : Type 0) (asked : Request) (first before after : K) (old m
     → LeavesAll asked before after mid new → LeavesAll asked first after old new
 leaves_from K (request.Command number command) first before after old mid new host keeper leaves = tt
 leaves_from K (request.View view) first before after old mid new host keeper leaves = (leaves.0 ∙ host, leaves.1 ∙ keeper)
+
+-- what a moment corrected and counted, by the rows and the cells that a host shows
+module _ (inside old : Housed) (mid new : HostRows) where
+  pub corrected_at : (mid_cells new_cells : Option CellRows) → inside ≡ old → new ≡ mid → new_cells ≡ mid_cells
+      → AreCorrected inside.rows mid inside.cells mid_cells → AreCorrected old.rows new old.cells new_cells
+  corrected_at mid_cells new_cells is rows cells corrected =
+      subst (λ (h : Housed). AreCorrected h.rows new h.cells new_cells) is
+      (subst (λ (r : HostRows). AreCorrected inside.rows r inside.cells new_cells) (sym rows)
+      (subst (λ (c : Option CellRows). AreCorrected inside.rows mid inside.cells c) (sym cells) corrected))
+
+  pub cheap_at : (first last : ℕ) → inside ≡ old → new ≡ mid
+      → IsCheapNow (running_in inside.rows) (running_in mid) first last → IsCheapNow (running_in old.rows) (running_in new) first last
+  cheap_at first last is rows cheap =
+      subst (λ (h : Housed). IsCheapNow (running_in h.rows) (running_in new) first last) is
+      (subst (λ (r : HostRows). IsCheapNow (running_in inside.rows) (running_in r) first last) (sym rows) cheap)

@@ -1,5 +1,5 @@
 -- What is answered in a book in which the moment's gameweeks are locked, and in the one before.
-use Rattle.std.proofs.Common.{◌≡◌, ◌∙◌, ◌⊎◌, ◌≤◌, ◌+◌, ℕ, List, [], ◌∷◌, Option, Some, None, Ok, Err, Result, arith, ap, inl, inr, refl, subst, sym}
+use Rattle.std.proofs.Common.{◌≡◌, ◌∙◌, ◌⊎◌, ◌≤◌, ◌+◌, ℕ, List, [], ◌∷◌, Option, Some, None, Ok, Err, OnOk, Result, arith, ap, inl, inr, refl, subst, sym}
 use Rattle.std.proofs.lemmas.Bool.Decides.{nat_tests}
 use Rattle.fpl_base.specs.Causes.{Rose}
 use Rattle.fpl_base.specs.Keeping.{HasKeeperCause, Map}
@@ -111,25 +111,29 @@ change_of_act operator book caller now asked acts verdict is same = acts verdict
 
 -- Answers.
 
+-- what holds where a call went well
+pub ok_is : {T E P : Type 0} (result : Result T E) (value : T) → result ≡ Ok value → OnOk result P → P
+ok_is {T = T} {E = E} {P = P} result value is holds = subst (λ (r : Result T E). OnOk r P) is holds
+
 pub fails_by : {T : Type 0} (result : Result T KeeperFault) (why : KeeperFault) (failed fails : ℕ) → result ≡ Err why
     → HasKeeperCause failed fails result → Fails (record { before = failed; behind = fails }) (answer_of_fault why)
 fails_by result fault.Failed failed fails is cause = inr (refl, cause.failed is)
 fails_by result fault.Memory failed fails is cause = inl refl
 
--- an answer that speaks of no store says nothing of its keeper
-pub caused_storeless : (failures : Failures) (reply : Answer) → IsStoreless reply → IsCaused failures reply
-caused_storeless failures (answer.Done number made) is = tt
-caused_storeless failures (answer.Shown shown) is = tt
-caused_storeless failures (answer.Rule rule) is = tt
-caused_storeless failures answer.Unknown is = tt
-caused_storeless failures answer.Keeper is = absurd is
-caused_storeless failures (answer.Damaged key) is = absurd is
-caused_storeless failures answer.Memory is = tt
+-- an answer that speaks of no store is caused where the keeper's count stays
+pub caused_storeless : (failures : Failures) (reply : Answer) → IsStoreless reply → failures.behind ≡ failures.before → IsCaused failures reply
+caused_storeless failures (answer.Done number made) is stays = stays
+caused_storeless failures (answer.Shown shown) is stays = stays
+caused_storeless failures (answer.Rule rule) is stays = stays
+caused_storeless failures answer.Unknown is stays = stays
+caused_storeless failures answer.Keeper is stays = absurd is
+caused_storeless failures (answer.Damaged key) is stays = absurd is
+caused_storeless failures answer.Memory is stays = stays
 
 pub caused_fault : {T : Type 0} (result : Result T KeeperFault) (why : KeeperFault) (failed fails : ℕ) → result ≡ Err why
     → HasKeeperCause failed fails result → IsCaused (record { before = failed; behind = fails }) (answer_of_fault why)
 caused_fault result fault.Failed failed fails is cause = cause.failed is
-caused_fault result fault.Memory failed fails is cause = tt
+caused_fault result fault.Memory failed fails is cause = cause.memory is
 
 -- where a request is granted, want of memory may be answered
 pub late_fault : (operator : List ℕ) (book : Book) (caller : Caller) (now : ℕ) (asked : Request) (why : KeeperFault)
@@ -140,16 +144,6 @@ late_fault operator book caller now asked fault.Memory granted = granted
 -- a count that rose behind some calls rose over all of them
 rose_over : (first middle last : ℕ) → first ≤ middle → Rose middle last → Rose first last
 rose_over first middle last less rose = omega (arith, less, rose)
-
-pub caused_over : (first middle last : ℕ) (reply : Answer) → first ≤ middle → IsCaused (record { before = middle; behind = last }) reply
-    → IsCaused (record { before = first; behind = last }) reply
-caused_over first middle last (answer.Done number made) less is = tt
-caused_over first middle last (answer.Shown shown) less is = tt
-caused_over first middle last (answer.Rule rule) less is = tt
-caused_over first middle last answer.Unknown less is = tt
-caused_over first middle last answer.Keeper less is = rose_over first middle last less is
-caused_over first middle last (answer.Damaged key) less is = absurd is
-caused_over first middle last answer.Memory less is = tt
 
 fails_over : (first middle last : ℕ) (reply : Answer) → first ≤ middle → Fails (record { before = middle; behind = last }) reply
     → Fails (record { before = first; behind = last }) reply

@@ -1,5 +1,5 @@
 -- What a host answers over its keeper, and what both are behind it.
-use Rattle.std.specs.Prelude.{◌≡◌, ◌≤◌, ◌+◌, ◌⊎◌, ℕ, ⊤, true, false, List, OnErr, OnOk, Result, Ok, Err}
+use Rattle.std.specs.Prelude.{◌≡◌, ◌≤◌, ◌+◌, ◌⊎◌, ℕ, ⊤, true, false, List, Option, OnErr, OnOk, Result, Ok, Err}
 use Rattle.fpl_base.specs.Causes.{Rose}
 use Rattle.fpl_base.specs.Keeping.{Map, applied}
 use Rattle.fpl_base.specs.declared.kinds.Caller.{Caller}
@@ -17,7 +17,8 @@ use Rattle.season_records.specs.Records.{records}
 use Rattle.season_records.specs.Touched.{batch}
 use Rattle.season_rows.specs.RowsTold.{told_by}
 use Rattle.season_host.specs.Accepted.{TellItemsBy}
-use Rattle.season_host.specs.Cells.{IsCheapCommand}
+use Rattle.season_cells.specs.Kept.{CellRows}
+use Rattle.season_host.specs.Cells.{AreCorrected, IsCheapCommand, IsCheapNow, running_in}
 use Rattle.season_running.specs.Standing.{HostRows, StandsIn}
 use Rattle.season_views.specs.Reads.{reads_allowed}
 use Rattle.season_keeping.specs.Housed.{Backs, Housed}
@@ -122,6 +123,16 @@ abbrev pub IsCheapRequest : HostRows → HostRows → Request → ℕ → ℕ �
 IsCheapRequest before after (request_of.Command number command) old new = IsCheapCommand before after command old new
 IsCheapRequest before after (request_of.View view) old new = ⊤
 
+-- a moment that locks gameweeks, and then what was asked: each evaluated what it touches and what depends on that, as cells
+-- between the two show, and counted no more reads than by these
+pub record AreCorrectedBoth (before locked after : HostRows) (old new : Option CellRows) (asked : Request) (first last : ℕ) : Type 0 where
+  pub cells : Option CellRows
+  pub reads : ℕ
+  pub locks : AreCorrected before locked old cells
+  pub locks_cheap : IsCheapNow (running_in before) (running_in locked) first reads
+  pub asks : AreCorrected locked after cells new
+  pub asks_cheap : IsCheapRequest locked after asked reads last
+
 -- a command counted at most 8 reads; nothing is said of a view
 abbrev pub CountsFew : Request → ℕ → ℕ → Type 0
 CountsFew (request_of.Command number command) old new = new ≤ old + 8
@@ -137,8 +148,9 @@ abbrev pub ReadsFew : Book → Caller → Request → ℕ → ℕ → Type 0
 ReadsFew book caller (request_of.View view) before behind = behind ≤ before + reads_allowed (view_answer book caller view)
 ReadsFew book caller (request_of.Command number command) before behind = ⊤
 
--- an answer says that the keeper failed only where its count rose meanwhile, and never that a record is damaged
+-- an answer says that the keeper failed where its count rose meanwhile, and behind every other one the count is as it was; none
+-- says that a record is damaged
 abbrev pub IsCaused : Failures → Answer → Type 0
 IsCaused failures answer.Keeper = Rose failures.before failures.behind
 IsCaused failures (answer.Damaged key) = ⊥
-IsCaused failures reply = ⊤
+IsCaused failures reply = failures.behind ≡ failures.before

@@ -20,3 +20,8 @@ abbrev pub Withholds : {K : Type 0} → (K → Type 0) → (K → Map → Type 0
 Withholds tells holds passes faults before after fault.Keeper = Rose (faults before) (faults after)
 Withholds tells holds passes faults before after (fault.Damaged key) = IsDamaged (tells after) (holds before) (holds after) (passes after) key
 Withholds tells holds passes faults before after fault.Memory = faults after ≡ faults before
+
+-- what a keeper that tells and serves holds it holds still, and a stop leaves nothing that it might not have left before
+pub record HoldsOn {K : Type 0} (tells serves : K → Type 0) (holds passes : K → Map → Type 0) (before after : K) : Type 0 where
+  pub kept : tells after → serves after → (m : Map) → holds before m → holds after m
+  pub stops : tells after → (m : Map) → holds before m → (x : Map) → passes after x → passes before x

@@ -13,10 +13,10 @@ ghost use Rattle.season_running.specs.EntryLaws.{IsOrderlyHost};
 ghost use Rattle.season_running.specs.Standing.{StandsIn, keys_in, number_at, passed};
 ghost use Rattle.season_opening.specs.declared.loading.OpenFault.TheVariants as fault;
 ghost use Rattle.season_host.specs.Accepted.{locks_more};
-ghost use Rattle.season_host.specs.Cells.{AreCellsOfHost, AreCorrected, IsCheapCommand, running_in};
-ghost use Rattle.season_keeping.specs.Answering.{Answers, Commits, CountsFew, EndsCommit, IsCaused, IsCheapRequest, LeavesAll, MayEnd, MayRest, ReadsFew, StopsEnding, StopsLeave, StopsCommit, WouldAct, WouldChange, answer_of_fault};
+ghost use Rattle.season_host.specs.Cells.{AreCellsOfHost, AreCorrected, IsCheapCommand, IsCheapNow, running_in};
+ghost use Rattle.season_keeping.specs.Answering.{Answers, AreCorrectedBoth, Commits, CountsFew, EndsCommit, IsCaused, IsCheapRequest, LeavesAll, MayEnd, MayRest, ReadsFew, StopsEnding, StopsLeave, StopsCommit, WouldAct, WouldChange, answer_of_fault};
 ghost use Rattle.season_keeping.specs.Housed.{Backs};
-ghost use Rattle.season_keeping.specs.Opening.{Opens, Withholds};
+ghost use Rattle.season_keeping.specs.Opening.{HoldsOn, Opens, Withholds};
 
 use fpl_base::{Caller, Keeper, KeeperFault, Key, Memory, Moment, Steps};
 use record_codec::Slot;
@@ -71,6 +71,8 @@ impl Host {
     ) -> Result<Host, OpenFault>
         ensures opened { MatchResult result (Opens K.tells K.holds K.passes keeper.old keeper.new)
             (Withholds K.tells K.holds K.passes K.faults keeper.old keeper.new) }
+        ensures holds { OnErr result
+            (HoldsOn K.tells K.serves K.holds K.passes keeper.old keeper.new) }
         ensures operator { IfOk result (λ host. host.rows.operator ≡ operator.now) }
         ensures reread { IfOk result (λ host. host.reread ≡ false) }
         ensures counts { result ≢ Err fault.Keeper → K.faults keeper.new ≡ K.faults keeper.old }
@@ -220,6 +222,9 @@ impl Host {
             → AreCorrected self.old.rows self.new.rows self.old.cells self.new.cells }
         ensures cheap { locks_more self.old.rows.facts now ≡ false → self.new.stale ≡ false
             → IsCheapRequest self.old.rows self.new.rows request.now steps.old steps.new }
+        ensures locked { locks_more self.old.rows.facts now ≡ true → self.new.stale ≡ false
+            → AreCorrectedBoth self.old.rows (passed now self.old.rows) self.new.rows self.old.cells
+            self.new.cells request.now steps.old steps.new }
         ensures refused { locks_more self.old.rows.facts now ≡ false → result ≢ answer_of.Memory
             → (book : Book) → StandsIn self.old.rows book
             → MayRest self.old.rows.operator (pass book now) caller now request.now
@@ -255,6 +260,11 @@ impl Host {
             → (self.new.cells ≡ self.old.cells)
             × (running_in self.new.rows ≡ running_in self.old.rows) }
         ensures still { locks_more self.old.rows.facts now ≡ false → steps.new ≡ steps.old }
+        ensures corrected { locks_more self.old.rows.facts now ≡ true → self.new.stale ≡ false
+            → AreCorrected self.old.rows self.new.rows self.old.cells self.new.cells }
+        ensures cheap { locks_more self.old.rows.facts now ≡ true → self.new.stale ≡ false
+            → IsCheapNow (running_in self.old.rows) (running_in self.new.rows) steps.old
+            steps.new }
         ensures rests { locks_more self.old.rows.facts now ≡ false
             → (self.new ≡ self.old) × (keeper.new ≡ keeper.old) }
         ensures reread { self.new.reread ≡ self.old.reread }

@@ -9,42 +9,43 @@ pub returns-in-Ok-Score-clause-runs : goal.returns-in-Ok-Score-clause-runs
 returns-in-Ok-Score-clause-runs g c =
     let one = c.in-Ok-Score in
     let said = subst (λ (w : Words). ordered c.args.words.now ≡ Some w) one.field-0-is one.ensures.ordered in
-    runs_as _ g.K.Keeper.tells g.K.Keeper.serves g.K.Keeper.holds g.K.Keeper.passes g.K.Keeper.faults (ordered c.args.words.now) (order.Score one.profile) _ _ _ said (record { due = c.score.ensures.score; end = c.score.ensures.end; statuses = c.score.ensures.statuses; memory = c.score.ensures.memory })
+    runs_as _ g.K.Keeper.tells g.K.Keeper.serves g.K.Keeper.holds g.K.Keeper.passes g.K.Keeper.faults (ordered c.args.words.now) (order.Score one.profile) _ _ _ said
+    (record { due = c.score.ensures.score; end = c.score.ensures.end; statuses = c.score.ensures.statuses; memory = c.score.ensures.memory }, (refl, refl, refl, refl))
 
 pub returns-in-Ok-Pipe-clause-runs : goal.returns-in-Ok-Pipe-clause-runs
 returns-in-Ok-Pipe-clause-runs g c =
     let one = c.in-Ok-Pipe in
     let said = subst (λ (w : Words). ordered c.args.words.now ≡ Some w) one.field-0-is one.ensures.ordered in
-    runs_as _ g.K.Keeper.tells g.K.Keeper.serves g.K.Keeper.holds g.K.Keeper.passes g.K.Keeper.faults (ordered c.args.words.now) (order.Pipe one.key one.field-0-1) _ _ _ said c.pipe.ensures.session
+    runs_as _ g.K.Keeper.tells g.K.Keeper.serves g.K.Keeper.holds g.K.Keeper.passes g.K.Keeper.faults (ordered c.args.words.now) (order.Pipe one.key one.field-0-1) _ _ _ said (c.pipe.ensures.session, refl, refl)
 
 pub returns-in-Ok-Serve-clause-runs : goal.returns-in-Ok-Serve-clause-runs
 returns-in-Ok-Serve-clause-runs g c =
     let one = c.in-Ok-Serve in
     let said = subst (λ (w : Words). ordered c.args.words.now ≡ Some w) one.field-0-is one.ensures.ordered in
-    runs_as _ g.K.Keeper.tells g.K.Keeper.serves g.K.Keeper.holds g.K.Keeper.passes g.K.Keeper.faults (ordered c.args.words.now) (order.Serve one.key one.field-0-1 one.connections one.field-0-3) _ _ _ said c.serve.ensures.served
+    runs_as _ g.K.Keeper.tells g.K.Keeper.serves g.K.Keeper.holds g.K.Keeper.passes g.K.Keeper.faults (ordered c.args.words.now) (order.Serve one.key one.field-0-1 one.connections one.field-0-3) _ _ _ said (c.serve.ensures.served, refl, refl)
 
 pub returns-in-Ok-Load-clause-runs : goal.returns-in-Ok-Load-clause-runs
 returns-in-Ok-Load-clause-runs g c =
     let one = c.in-Ok-Load in
     let said = subst (λ (w : Words). ordered c.args.words.now ≡ Some w) one.field-0-is one.ensures.ordered in
-    runs_as _ g.K.Keeper.tells g.K.Keeper.serves g.K.Keeper.holds g.K.Keeper.passes g.K.Keeper.faults (ordered c.args.words.now) (order.Load one.key one.field-0-1 one.dir one.split one.profile) _ _ _ said c.load.ensures.loads
+    runs_as _ g.K.Keeper.tells g.K.Keeper.serves g.K.Keeper.holds g.K.Keeper.passes g.K.Keeper.faults (ordered c.args.words.now) (order.Load one.key one.field-0-1 one.dir one.split one.profile) _ _ _ said (c.load.ensures.loads, refl, refl)
 
 pub returns-in-Ok-Report-clause-runs : goal.returns-in-Ok-Report-clause-runs
 returns-in-Ok-Report-clause-runs g c =
     let one = c.in-Ok-Report in
     let said = subst (λ (w : Words). ordered c.args.words.now ≡ Some w) one.field-0-is one.ensures.ordered in
-    runs_as _ g.K.Keeper.tells g.K.Keeper.serves g.K.Keeper.holds g.K.Keeper.passes g.K.Keeper.faults (ordered c.args.words.now) (order.Report one.key one.field-0-1 one.what) _ _ _ said c.report.ensures.reports
+    runs_as _ g.K.Keeper.tells g.K.Keeper.serves g.K.Keeper.holds g.K.Keeper.passes g.K.Keeper.faults (ordered c.args.words.now) (order.Report one.key one.field-0-1 one.what) _ _ _ said (c.report.ensures.reports, refl, refl, refl)
 
 pub returns-in-Ok-Generate-clause-runs : goal.returns-in-Ok-Generate-clause-runs
 returns-in-Ok-Generate-clause-runs g c =
     let one = c.in-Ok-Generate in
     let said = subst (λ (w : Words). ordered c.args.words.now ≡ Some w) one.field-0-is one.ensures.ordered in
-    runs_as _ g.K.Keeper.tells g.K.Keeper.serves g.K.Keeper.holds g.K.Keeper.passes g.K.Keeper.faults (ordered c.args.words.now) (order.Generate one.seed one.field-0-1) _ _ _ said (c.generate.ensures.generates _, refl)
+    runs_as _ g.K.Keeper.tells g.K.Keeper.serves g.K.Keeper.holds g.K.Keeper.passes g.K.Keeper.faults (ordered c.args.words.now) (order.Generate one.seed one.field-0-1) _ _ _ said (c.generate.ensures.generates _, refl, refl, refl, refl)
 
 pub returns-in-Err-Unread-clause-runs : goal.returns-in-Err-Unread-clause-runs
 returns-in-Err-Unread-clause-runs g c =
     runs_none _ g.K.Keeper.tells g.K.Keeper.serves g.K.Keeper.holds g.K.Keeper.passes g.K.Keeper.faults (ordered c.args.words.now) _ _ _ (c.in-Err-Unread.ensures.ordered c.in-Err-Unread.field-0-is)
-    (not_read_ends _ _ _ _ (c.as_bytes.ensures.value) c.print.ensures.printed, unread_statuses _ c.print.ensures.statuses)
+    ((not_read_ends _ _ _ _ (c.as_bytes.ensures.value) c.print.ensures.printed, unread_statuses _ c.print.ensures.statuses), refl, (refl, refl, refl, refl))
 
 pub returns-clause-runs : goal.returns-clause-runs
 returns-clause-runs g c = no_memory _ g.K.Keeper.tells g.K.Keeper.serves g.K.Keeper.holds g.K.Keeper.passes g.K.Keeper.faults (ordered c.args.words.now) _

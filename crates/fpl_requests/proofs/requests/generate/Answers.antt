@@ -1,6 +1,7 @@
 use Rattle.std.proofs.Common.{List, ℕ, inr, refl, subst}
 use Rattle.season_opening.specs.declared.loading.OpenFault.TheVariants as fault
 use Rattle.fpl_generating.specs.Generating.{IsGenerated}
+use Rattle.fpl_serving.proofs.PipeLemmas.{holds_still}
 use Rattle.fpl_requests.specs.Requests.{RunsThrough}
 use Rattle.fpl_requests.proofs.requests.generate.Goals as goal
 
@@ -12,4 +13,4 @@ returns-in-Ok-clause-generates g c = λ moments.
     (IsGenerated c.args.seed before after c.generate_as.result)) c.in-Ok.ensures (c.generate_as.ensures.generates moments)
 
 pub returns-in-Err-clause-generates : goal.returns-in-Err-clause-generates
-returns-in-Err-clause-generates g c = λ moments. inr (refl, (fault.Memory, refl, (refl, refl)))
+returns-in-Err-clause-generates g c = λ moments. inr (refl, (fault.Memory, refl, holds_still _ g.K.Keeper.tells g.K.Keeper.serves g.K.Keeper.holds g.K.Keeper.passes c.args.keeper.now, (refl, refl)))

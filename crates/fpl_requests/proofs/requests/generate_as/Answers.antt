@@ -13,4 +13,4 @@ returns-in-Ok-clause-generates g c = λ moments.
     (IsGenerated c.args.seed (g.W.Sink.taken c.args.output.now) (g.W.Sink.taken c.generated.new.output) c.generated.result) (c.generated.ensures.generated moments))
 
 pub returns-in-Err-clause-generates : goal.returns-in-Err-clause-generates
-returns-in-Err-clause-generates g c = λ moments. inr (refl, (c.in-Err.fault, c.in-Err.ensures.opened, c.unopened.ensures.told))
+returns-in-Err-clause-generates g c = λ moments. inr (refl, (c.in-Err.fault, c.in-Err.ensures.opened, c.in-Err.ensures.holds, c.unopened.ensures.told))

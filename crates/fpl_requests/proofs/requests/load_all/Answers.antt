@@ -13,4 +13,4 @@ returns-in-Ok-clause-loads g c =
     (IsLoad c.args.commands.items (g.W.Sink.taken c.args.output.now) (g.W.Sink.taken c.loaded.new.output) c.loaded.result) c.loaded.ensures.loaded)
 
 pub returns-in-Err-clause-loads : goal.returns-in-Err-clause-loads
-returns-in-Err-clause-loads g c = inr (refl, (c.in-Err.fault, c.in-Err.ensures.opened, c.unopened.ensures.told))
+returns-in-Err-clause-loads g c = inr (refl, (c.in-Err.fault, c.in-Err.ensures.opened, c.in-Err.ensures.holds, c.unopened.ensures.told))

@@ -18,4 +18,4 @@ returns-in-Ok-clause-reports g c =
     (subst (λ (v : View). Leads g.K.Keeper.tells g.K.Keeper.serves g.K.Keeper.holds g.K.Keeper.passes first last (IsReported v before after c.reported.result)) c.view_of.ensures c.reported.ensures.reported))
 
 pub returns-in-Err-clause-reports : goal.returns-in-Err-clause-reports
-returns-in-Err-clause-reports g c = inr (refl, (c.in-Err.fault, c.in-Err.ensures.opened, c.unopened.ensures.told))
+returns-in-Err-clause-reports g c = inr (refl, (c.in-Err.fault, c.in-Err.ensures.opened, c.in-Err.ensures.holds, c.unopened.ensures.told))

@@ -29,4 +29,4 @@ returns-in-Ok-clause-session g c =
 pub returns-in-Err-clause-session : goal.returns-in-Err-clause-session
 returns-in-Err-clause-session g c =
     unopened_pipes _ g.K.Keeper.tells g.K.Keeper.serves g.K.Keeper.holds g.K.Keeper.passes g.K.Keeper.faults c.args.keeper.now c.opened.new.keeper c.args.key.now (g.S.Source.left c.args.input.now) (g.C.Clock.left c.args.clock.now)
-    (g.W.Sink.taken c.args.output.now) (g.W.Sink.taken c.unopened.new.output) c.unopened.result c.in-Err.fault c.in-Err.ensures.opened c.unopened.ensures.told
+    (g.W.Sink.taken c.args.output.now) (g.W.Sink.taken c.unopened.new.output) c.unopened.result c.in-Err.fault c.in-Err.ensures.opened c.in-Err.ensures.holds c.unopened.ensures.told

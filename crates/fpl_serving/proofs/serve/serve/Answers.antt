@@ -21,4 +21,4 @@ returns-in-Ok-clause-served g c =
     )
 
 pub returns-in-Err-clause-served : goal.returns-in-Err-clause-served
-returns-in-Err-clause-served g c = inr (refl, refl, (c.in-Err.fault, c.in-Err.ensures.opened, c.unopened.ensures.told))
+returns-in-Err-clause-served g c = inr (refl, refl, (c.in-Err.fault, c.in-Err.ensures.opened, c.in-Err.ensures.holds, c.unopened.ensures.told))

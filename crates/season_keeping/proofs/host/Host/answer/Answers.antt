@@ -5,10 +5,10 @@ use Rattle.season_book.specs.declared.answer.Answer.{Answer}
 use Rattle.season_records.specs.Commits.{HoldsLeft}
 use Rattle.season_running.specs.Standing.{HostRows}
 use Rattle.season_host.specs.Accepted.{locks_more}
-use Rattle.season_keeping.specs.Answering.{IsCaused, MayEnd, MayRest, ReadsFew, WouldChange}
+use Rattle.season_keeping.specs.Answering.{AreCorrectedBoth, IsCaused, MayEnd, MayRest, ReadsFew, WouldChange}
 use Rattle.season_keeping.proofs.Counting.{cheap_from, few_from, leaves_from}
 use Rattle.season_keeping.proofs.Acting.{backs_between, left_of_commit, left_of_ending, stands_between, then_leads}
-use Rattle.season_keeping.proofs.Ending.{caused_fault, caused_over, change_of_act, change_of_lock, fails_by, leads_map, may_behind, may_of_lock}
+use Rattle.season_keeping.proofs.Ending.{caused_fault, change_of_act, change_of_lock, fails_by, leads_map, may_behind, may_of_lock, ok_is}
 use Rattle.season_keeping.proofs.Leading.{is_fresh}
 use Rattle.season_keeping.proofs.host.Host.answer.Goals as goal
 
@@ -142,8 +142,8 @@ returns-in-Err-clause-stops g c = λ book stands tell backs x passed.
 
 pub returns-in-Ok-clause-caused : goal.returns-in-Ok-clause-caused
 returns-in-Ok-clause-caused g c =
-    caused_over (g.K.Keeper.faults c.args.keeper.now) (g.K.Keeper.faults c.lock.new.keeper) (g.K.Keeper.faults c.answer_locked.new.keeper) c.answer_locked.result
-    c.lock.ensures.cause.later c.answer_locked.ensures.caused
+    subst (λ (n : ℕ). IsCaused (record { before = n; behind = g.K.Keeper.faults c.answer_locked.new.keeper }) c.answer_locked.result)
+    (ok_is c.lock.result _ c.in-Ok.is c.lock.ensures.cause.ok) c.answer_locked.ensures.caused
 
 pub returns-in-Err-clause-caused : goal.returns-in-Err-clause-caused
 returns-in-Err-clause-caused g c =
@@ -201,3 +201,18 @@ returns-in-Ok-clause-looks g c = λ is.
 
 pub returns-in-Err-clause-looks : goal.returns-in-Err-clause-looks
 returns-in-Err-clause-looks g c = λ is. is_fresh (locks_more c.args.self.now.rows.facts c.args.now) c.in-Err.ensures.more is
+
+pub returns-in-Ok-clause-locked : goal.returns-in-Ok-clause-locked
+returns-in-Ok-clause-locked g c = λ is fresh.
+    let old = c.args.self.now in
+    let mid = c.lock.new.self in
+    let new = c.answer_locked.new.self in
+    subst (λ (rows : HostRows). AreCorrectedBoth old.rows rows new.rows old.cells new.cells c.args.request.now c.args.steps.now c.answer_locked.new.steps) c.lock.ensures.rows
+    (record {
+      cells = mid.cells;
+      reads = c.lock.new.steps;
+      locks = c.lock.ensures.corrected is c.in-Ok.ensures.ok;
+      locks_cheap = c.lock.ensures.cheap is c.in-Ok.ensures.ok;
+      asks = c.answer_locked.ensures.corrected fresh;
+      asks_cheap = c.answer_locked.ensures.cheap fresh;
+    })

@@ -12,7 +12,7 @@ use Rattle.season_running.specs.Standing.{HostRows, StandsIn}
 use Rattle.season_keeping.proofs.Acting.{acted_leads, acted_stops, acts, after_rests, followed, granted_where, none_of, rest_leads, some_of}
 use Rattle.season_keeping.proofs.Committing.{commits_at}
 use Rattle.season_keeping.proofs.Counting.{acts_never_rest}
-use Rattle.season_keeping.proofs.Ending.{caused_fault, caused_storeless, end_of_fault, end_of_may, fails_by, late_fault}
+use Rattle.season_keeping.proofs.Ending.{caused_fault, caused_storeless, end_of_fault, end_of_may, fails_by, late_fault, ok_is}
 use Rattle.season_keeping.proofs.Leading.{is_fresh}
 use Rattle.season_keeping.proofs.Wanting.{wanting_ends, wanting_leads}
 use Rattle.season_keeping.proofs.host.Host.answer_command.Goals as goal
@@ -124,11 +124,12 @@ returns-in-Err-clause-acts g c = λ is book stands.
 
 pub returns-then-is_empty-clause-caused : goal.returns-then-is_empty-clause-caused
 returns-then-is_empty-clause-caused g c =
-    caused_storeless (record { before = g.K.Keeper.faults c.args.keeper.now; behind = g.K.Keeper.faults c.args.keeper.now }) c.answer_command-answered.result.answer c.answer_command-answered.ensures.storeless
+    caused_storeless (record { before = g.K.Keeper.faults c.args.keeper.now; behind = g.K.Keeper.faults c.args.keeper.now }) c.answer_command-answered.result.answer c.answer_command-answered.ensures.storeless refl
 
 pub returns-in-Ok-clause-caused : goal.returns-in-Ok-clause-caused
 returns-in-Ok-clause-caused g c =
     caused_storeless (record { before = g.K.Keeper.faults c.args.keeper.now; behind = g.K.Keeper.faults c.commit.new.keeper }) c.answer_command-answered.result.answer c.answer_command-answered.ensures.storeless
+    (ok_is c.commit.result _ c.in-Ok.is c.commit.ensures.cause.ok)
 
 pub returns-in-Err-clause-caused : goal.returns-in-Err-clause-caused
 returns-in-Err-clause-caused g c =

@@ -29,7 +29,7 @@ returns-in-Command-clause-acts g c = rw c.in-Command.is c.answer_command.ensures
 
 pub returns-in-View-clause-caused : goal.returns-in-View-clause-caused
 returns-in-View-clause-caused g c =
-    caused_storeless (record { before = g.K.Keeper.faults c.args.keeper.now; behind = g.K.Keeper.faults c.args.keeper.now }) c.answer_view.result c.answer_view.ensures.storeless
+    caused_storeless (record { before = g.K.Keeper.faults c.args.keeper.now; behind = g.K.Keeper.faults c.args.keeper.now }) c.answer_view.result c.answer_view.ensures.storeless refl
 
 pub returns-in-View-clause-cheap : goal.returns-in-View-clause-cheap
 returns-in-View-clause-cheap g c = rw c.in-View.is (λ fresh. tt)

@@ -1,8 +1,9 @@
-use Rattle.std.proofs.Common.{◌≡◌, ◌∙◌, ◌⊎◌, true, true≢false, inl, ap, refl, sym}
+use Rattle.std.proofs.Common.{◌≡◌, ◌∙◌, ◌⊎◌, true, true≢false, inl, ap, refl, rules, sym}
 use Rattle.season_book.specs.Verdict.{pass}
 use Rattle.season_host.specs.Accepted.{locks_more}
 use Rattle.season_keeping.specs.Housed.{Housed}
 use Rattle.season_running.specs.Standing.{passed}
+use Rattle.season_keeping.proofs.Counting.{cheap_at, corrected_at}
 use Rattle.season_keeping.proofs.Locking.{host_stays, locked_leads, locked_stops, stays_of, unlocked_leads}
 use Rattle.season_keeping.proofs.Wanting.{wanting_leads}
 use Rattle.season_keeping.proofs.host.Host.lock.Goals as goal
@@ -47,3 +48,15 @@ returns-else-passed-clause-rests g c = λ is.
 pub returns-then-passed-clause-rests : goal.returns-then-passed-clause-rests
 returns-then-passed-clause-rests g c = λ is.
     absurd (true≢false (sym c.if-passed.true ∙ c.pass-passed.ensures.more ∙ ap (λ (h : Housed). locks_more h.rows.facts c.args.now) c.self.view_is ∙ is))
+
+pub returns-then-passed-clause-corrected : goal.returns-then-passed-clause-corrected
+returns-then-passed-clause-corrected g c = λ is fresh.
+    let inside : Housed = record { rows = c.self.inside.house; cells = c.self.inside.cells; stale = c.self.inside.stale; reread = c.self.inside.reread } in
+    corrected_at inside c.args.self.now c.pass-passed.new.house c.commit.new.self.rows c.pass-passed.new.cells c.commit.new.self.cells c.self.view_is
+    c.commit.ensures.commits.rows c.commit.ensures.cells (c.pass-passed.ensures.corrected c.if-passed.true (search rules))
+
+pub returns-then-passed-clause-cheap : goal.returns-then-passed-clause-cheap
+returns-then-passed-clause-cheap g c = λ is fresh.
+    let inside : Housed = record { rows = c.self.inside.house; cells = c.self.inside.cells; stale = c.self.inside.stale; reread = c.self.inside.reread } in
+    cheap_at inside c.args.self.now c.pass-passed.new.house c.commit.new.self.rows c.args.steps.now c.pass-passed.new.steps c.self.view_is
+    c.commit.ensures.commits.rows (c.pass-passed.ensures.cheap c.if-passed.true (search rules))
