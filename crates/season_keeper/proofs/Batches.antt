@@ -116,6 +116,10 @@ pub ok_both : {T E : Type 0} {A : Type 0} {P Q : T → Type 0} (r : Result T E) 
 ok_both (Ok x) a p f = f x a p
 ok_both (Err e) a p f = tt
 
+pub so_ok : {T E : Type 0} {P : Type 0} (r : Result T E) → P → OnOk r P
+so_ok (Ok x) p = p
+so_ok (Err e) p = tt
+
 pub on_err : {T E : Type 0} {P : Type 0} (r : Result T E) → P → OnErr r P
 on_err (Ok x) p = tt
 on_err (Err e) p = p

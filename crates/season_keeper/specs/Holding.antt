@@ -87,6 +87,10 @@ pub record Inside (old now : State) (made : Database → Type 0) : Type 0 where
   pub committed : now.committed ≡ old.committed
   pub makes : made now.now
 
+-- what is seen, and what a stop leaves while the store is open, are as they were
+abbrev pub IsUndone : State → State → Type 0
+IsUndone old new = (new.now ≡ old.now) × (new.committed ≡ old.committed)
+
 pub record HeldKeeper (S : Type 0) : Type 0 where
   pub conn : Held S
   pub faults : ℕ

@@ -1,15 +1,13 @@
 // A keeper over an open connection.
-ghost use Rattle.std.specs.Prelude.{◌≡◌, Bool, true, false, IsTrue, IfOk, IfSome, ◌≤◌};
-ghost use Rattle.sqlite.specs.State.{HasCleanDisk, Survives};
+ghost use Rattle.std.specs.Prelude.{◌≡◌, false, IsTrue, ◌≤◌};
+ghost use Rattle.sqlite.specs.State.{HasCleanDisk};
 ghost use Rattle.sqlite.specs.Held.{state};
 ghost use Rattle.fpl_base.specs.Causes.{Rose};
 ghost use Rattle.fpl_base.specs.declared.outside.KeeperFault.TheVariants as fault;
-ghost use Rattle.fpl_base.specs.Keeping.{Map, KeysRise, map_of};
-ghost use Rattle.season_keeper.specs.Holding.{Store, Finds, Tells, Keeps, Moved, HoldsMap, MayLeave, finds_one};
+ghost use Rattle.season_keeper.specs.Holding.{HoldsMap, MayLeave, finds_one};
 
 use crate::batch::apply;
-use crate::pairs::pairs_of;
-use crate::store::read_all;
+use crate::store::load_pairs;
 use fpl_base::{Bytes, Keeper, KeeperFault, Op, RecordKey};
 use sqlite::{Alter, Connection, Error, ErrorCode};
 use std::alloc::Global;
@@ -60,43 +58,6 @@ impl<S: Alter> SqlKeeper<S> {
         self.faults = self.faults.saturating_add(1);
         KeeperFault::Failed
     }
-}
-
-// All records of the store, of which each table is made where it is not there, and the lines are moved to theirs.
-// `None`: the store cannot be read so.
-fn load_pairs<S: Alter>(
-    conn: &mut Connection<S>,
-    alloc: Global,
-) -> Result<Option<Vec<(RecordKey, Bytes)>>, Error>
-    ensures rise { IfOk result (λ found. IfSome found (λ pairs. KeysRise pairs.items)) }
-    ensures gave { HasCleanDisk (state S.Store conn.new) → Store (state S.Store conn.old).now
-        → IfOk result
-        (λ found. IfSome found
-        (λ pairs. Tells (state S.Store conn.old).now (map_of pairs.items)
-        × Keeps (state S.Store conn.new).now (map_of pairs.items))) }
-    ensures settled { HasCleanDisk (state S.Store conn.new)
-        → IfOk result
-        (λ found. IfSome found
-        (λ pairs. IsTrue (state S.Store conn.new).is_open
-        × ((state S.Store conn.new).in_transaction ≡ false)
-        × ((state S.Store conn.new).committed ≡ (state S.Store conn.new).now))) }
-    ensures whole { IsTrue (state S.Store conn.old).is_open
-        → (state S.Store conn.old).in_transaction ≡ false
-        → (state S.Store conn.old).now ≡ (state S.Store conn.old).committed }
-    ensures autocommit { (state S.Store conn.old).in_transaction ≡ false
-        → (state S.Store conn.new).in_transaction ≡ false }
-    ensures was_open { HasCleanDisk (state S.Store conn.new)
-        → IsTrue (state S.Store conn.new).is_open → IsTrue (state S.Store conn.old).is_open }
-    ensures kept { HasCleanDisk (state S.Store conn.new) → IsTrue (state S.Store conn.new).is_open
-        → (ready : Bool) → (m : Map) → Finds (state S.Store conn.old).now ready m
-        → Finds (state S.Store conn.new).now ready m }
-    ensures crash { Survives (state S.Store conn.old) (state S.Store conn.new)
-        (λ trees. (db : _) × (trees ≡ db.trees) × Moved (state S.Store conn.old).now db) }
-{
-    let Some(rows) = read_all(conn)? else {
-        return Ok(None);
-    };
-    pairs_of(alloc, rows)
 }
 
 impl<S: Alter> Keeper for SqlKeeper<S> {

@@ -1,12 +1,16 @@
-// The records of a store, as rows.
-ghost use Rattle.std.specs.Prelude.{◌≡◌, true, false, IsTrue, None, IfOk, IfSome, OnOk, OnErr};
+// The records of a store.
+ghost use Rattle.std.specs.Prelude.{◌≡◌, Bool, true, false, IsTrue, None, IfOk, IfSome, OnOk, OnErr};
 ghost use Rattle.sqlite.specs.State.{HasCleanDisk, KeepsCommit, Survives};
 ghost use Rattle.sqlite.specs.Held.{state};
+ghost use Rattle.fpl_base.specs.Keeping.{Map, KeysRise, map_of};
 ghost use Rattle.season_keeper.specs.Table.{are_both};
 ghost use Rattle.season_keeper.specs.Rows.{IsReading};
-ghost use Rattle.season_keeper.specs.Holding.{Store, records_of, lines_of, Grows, Moves, Moved, Inside};
+ghost use Rattle.season_keeper.specs.Holding.{Store, records_of, lines_of, Finds, Tells, Keeps, Grows, Moves, Moved, Inside, IsUndone};
 
+use crate::pairs::pairs_of;
+use fpl_base::{Bytes, RecordKey};
 use sqlite::{Alter, Connection, Error, Row, Transaction};
+use std::alloc::Global;
 
 // Makes each of the two tables that is not there.
 fn make_tables<S: Alter>(tx: &mut Transaction<'_, S>) -> Result<usize, Error>
@@ -108,19 +112,52 @@ fn load_rows<S: Alter>(tx: &mut Transaction<'_, S>) -> Result<Vec<Row>, Error>
     read_rows(tx)
 }
 
-// Makes each table that is not there, moves the lines and reads all rows, in one transaction. `None`: a transaction is
-// open, and nothing was done.
-pub fn read_all<S: Alter>(conn: &mut Connection<S>) -> Result<Option<Vec<Row>>, Error>
-    ensures read { HasCleanDisk (state S.Store conn.new)
-        → (was : Store (state S.Store conn.old).now)
+// Makes the tables, moves the lines and reads all records. `None`: a number is out of its range, or a key comes twice.
+fn load_records<S: Alter>(
+    tx: &mut Transaction<'_, S>,
+    alloc: Global,
+) -> Result<Option<Vec<(RecordKey, Bytes)>>, Error>
+    ensures same_reference { tx.new.conn.ghost_name ≡ tx.old.conn.ghost_name }
+    ensures made { HasCleanDisk (state S.Store tx.new.conn.now)
+        → IsTrue (state S.Store tx.old.conn.now).in_transaction
+        → OnOk result
+        (Inside (state S.Store tx.old.conn.now) (state S.Store tx.new.conn.now)
+        (Moved (state S.Store tx.old.conn.now).now)) }
+    ensures rise { IfOk result (λ found. IfSome found (λ pairs. KeysRise pairs.items)) }
+    ensures gave { HasCleanDisk (state S.Store tx.new.conn.now)
+        → IsTrue (state S.Store tx.old.conn.now).in_transaction
+        → Store (state S.Store tx.old.conn.now).now
         → IfOk result
         (λ found. IfSome found
-        (λ rows. (it : Moves (state S.Store conn.old).now (state S.Store conn.new).now was)
-        × IsReading (records_of it.store) (lines_of it.store) rows.items)) }
+        (λ pairs. Tells (state S.Store tx.old.conn.now).now (map_of pairs.items)
+        × Keeps (state S.Store tx.new.conn.now).now (map_of pairs.items))) }
+    ensures undone { HasCleanDisk (state S.Store tx.new.conn.now)
+        → IsTrue (state S.Store tx.old.conn.now).in_transaction
+        → OnErr result
+        (KeepsCommit (state S.Store tx.old.conn.now) (state S.Store tx.new.conn.now)) }
+    ensures survives { Survives (state S.Store tx.old.conn.now) (state S.Store tx.new.conn.now)
+        (λ _. ⊥) }
+{
+    let rows = load_rows(tx)?;
+    pairs_of(alloc, rows)
+}
+
+// All records of the store, of which each table is made where it is not there, and the lines are moved to theirs, in one
+// transaction, which is committed only where there is an answer. `None`: the store cannot be read so.
+pub fn load_pairs<S: Alter>(
+    conn: &mut Connection<S>,
+    alloc: Global,
+) -> Result<Option<Vec<(RecordKey, Bytes)>>, Error>
+    ensures rise { IfOk result (λ found. IfSome found (λ pairs. KeysRise pairs.items)) }
+    ensures gave { HasCleanDisk (state S.Store conn.new) → Store (state S.Store conn.old).now
+        → IfOk result
+        (λ found. IfSome found
+        (λ pairs. Tells (state S.Store conn.old).now (map_of pairs.items)
+        × Keeps (state S.Store conn.new).now (map_of pairs.items))) }
     ensures settled { HasCleanDisk (state S.Store conn.new)
         → IfOk result
         (λ found. IfSome found
-        (λ rows. IsTrue (state S.Store conn.new).is_open
+        (λ pairs. IsTrue (state S.Store conn.new).is_open
         × ((state S.Store conn.new).in_transaction ≡ false)
         × ((state S.Store conn.new).committed ≡ (state S.Store conn.new).now))) }
     ensures whole { IsTrue (state S.Store conn.old).is_open
@@ -130,13 +167,18 @@ pub fn read_all<S: Alter>(conn: &mut Connection<S>) -> Result<Option<Vec<Row>>, 
         → (state S.Store conn.new).in_transaction ≡ false }
     ensures was_open { HasCleanDisk (state S.Store conn.new)
         → IsTrue (state S.Store conn.new).is_open → IsTrue (state S.Store conn.old).is_open }
-    ensures none { IfOk result
+    ensures none { HasCleanDisk (state S.Store conn.new) → IsTrue (state S.Store conn.new).is_open
+        → IfOk result
         (λ found. found ≡ None
-        → ((state S.Store conn.old).in_transaction ≡ true) × (conn.new ≡ conn.old)) }
+        → IsUndone (state S.Store conn.old) (state S.Store conn.new)) }
     ensures undone { HasCleanDisk (state S.Store conn.new) → IsTrue (state S.Store conn.new).is_open
-        → OnErr result
-        (((state S.Store conn.new).now ≡ (state S.Store conn.old).now)
-        × ((state S.Store conn.new).committed ≡ (state S.Store conn.old).committed)) }
+        → OnErr result (IsUndone (state S.Store conn.old) (state S.Store conn.new)) }
+    ensures unsaved { IfOk result
+        (λ found. found ≡ None
+        → Survives (state S.Store conn.old) (state S.Store conn.new) (λ _. ⊥)) }
+    ensures kept { HasCleanDisk (state S.Store conn.new) → IsTrue (state S.Store conn.new).is_open
+        → (ready : Bool) → (m : Map) → Finds (state S.Store conn.old).now ready m
+        → Finds (state S.Store conn.new).now ready m }
     ensures crash { Survives (state S.Store conn.old) (state S.Store conn.new)
         (λ trees. (db : _) × (trees ≡ db.trees) × Moved (state S.Store conn.old).now db) }
 {
@@ -144,7 +186,9 @@ pub fn read_all<S: Alter>(conn: &mut Connection<S>) -> Result<Option<Vec<Row>>, 
         return Ok(None);
     }
     let mut tx = conn.transaction();
-    let rows = load_rows(&mut tx)?;
+    let Some(pairs) = load_records(&mut tx, alloc)? else {
+        return Ok(None);
+    };
     tx.commit()?;
-    Ok(Some(rows))
+    Ok(Some(pairs))
 }

@@ -1,0 +1,1 @@
+INSERT INTO record VALUES (10, 1, 4294967296, 0, x'');
