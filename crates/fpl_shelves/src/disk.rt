@@ -1,5 +1,6 @@
 // A shelf of the files of this machine, the trusted edge: it counts each error and tells no bytes.
-ghost use Rattle.std.specs.Prelude.{◌≡◌, ◌≤◌, Err, IfOk, None, length};
+ghost use Rattle.std.specs.Prelude.{◌≡◌, ◌≤◌, ◌<◌, Err, IfOk, IfSome, None, length};
+ghost use Rattle.std.specs.Io.KnownBytes.{Consumes, IsAtEnd};
 ghost use Rattle.fpl_base.specs.declared.outside.ShelfFault.TheVariants as fault;
 
 use crate::LONGEST;
@@ -40,8 +41,13 @@ impl<'a, R: Files> Disk<'a, R> {
 }
 
 // All bytes that a reader has.
-fn whole(alloc: Global, file: &mut impl Read) -> Result<Bytes, ShelfFault>
-    ensures { IfOk result (λ bytes. length bytes ≤ 4194304) }
+fn whole<R: Read>(alloc: Global, file: &mut R) -> Result<Bytes, ShelfFault>
+    ensures all { IfOk result
+        (λ bytes. Consumes (R.remaining file.old) (R.remaining file.new) bytes
+        × IsAtEnd (R.remaining file.new)) }
+    ensures few { IfOk result (λ bytes. length bytes ≤ 4194304) }
+    ensures long { result ≡ Err fault.Long
+        → IfSome (R.remaining file.old) (λ bytes. 4194304 < length bytes) }
 {
     let mut place = [0; PIECE];
     let mut bytes = Vec::new(alloc);
