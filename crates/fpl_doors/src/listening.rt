@@ -1,4 +1,4 @@
-// Doors over a port of this machine, the trusted edge: they count each error and tell no bytes.
+// Doors over a port of this machine, the trusted edge: they count each error and tell no connections.
 ghost use Rattle.std.specs.Prelude.{◌≡◌, None, IfOk, ⊤};
 
 use fpl_base::{Doors, Failed, Sink, Source, Writing};
@@ -27,7 +27,9 @@ pub struct Listening<'a, R: Net> {
 
 impl<'a, R: Net> Listening<'a, R> {
     /// Doors over this port, which is not bound yet.
-    pub fn at(rt: &'a R, port: u16) -> Self {
+    pub fn at(rt: &'a R, port: u16) -> Self
+        ensures { ⟦<Listening<'a, R> as Doors>⟧.faults result ≡ 0 }
+    {
         Listening {
             rt,
             port,
@@ -125,7 +127,7 @@ pub struct Hearing<T> {
 }
 
 impl<T: Read> Source for Hearing<T> {
-    ghost left = { λ _. None };
+    ghost left = { λ s. T.remaining s.stream };
 
     ghost faults = { λ s. s.faults };
 
