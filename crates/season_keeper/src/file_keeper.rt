@@ -1,5 +1,5 @@
 // A keeper over a file.
-ghost use Rattle.std.specs.Prelude.{◌≡◌, ◌≤◌};
+ghost use Rattle.std.specs.Prelude.{◌≡◌, ◌≤◌, false, None, IfOk, IfSome, IsErr};
 ghost use Rattle.fpl_base.specs.Causes.{Rose};
 ghost use Rattle.fpl_base.specs.declared.outside.KeeperFault.TheVariants as cause;
 
@@ -34,15 +34,14 @@ impl<'a> FileKeeper<'a> {
     // The keeper over the open file.
     fn opened(&mut self) -> Result<SqlKeeper<FileStore<File>>, KeeperFault>
         ensures faults { self.new.faults ≡ self.old.faults }
+        ensures taken { IfSome self.old.open (λ keeper. result ≡ Ok keeper) }
+        ensures anew { self.old.open ≡ None
+            → IfOk result (λ keeper. (keeper.faults ≡ 0) × (keeper.ready ≡ false)) }
     {
         if let Some(keeper) = self.open.take() {
             return Ok(keeper);
         }
-        match Connection::open(self.rt, self.path.text()) {
-            Ok(connection) => Ok(SqlKeeper::over(connection)),
-            Err(Error::SqliteFailure(ErrorCode::OutOfMemory)) => Err(KeeperFault::Memory),
-            Err(_) => Err(KeeperFault::Failed),
-        }
+        keeper_over(Connection::open(self.rt, self.path.text()))
     }
 
     // Counts a fault, unless memory ran out.
@@ -56,6 +55,22 @@ impl<'a> FileKeeper<'a> {
             self.faults = self.faults.saturating_add(1);
         }
         fault
+    }
+}
+
+// The keeper over a file that was opened, or why it was not.
+fn keeper_over(
+    opened: Result<Connection<FileStore<File>>, Error>,
+) -> Result<SqlKeeper<FileStore<File>>, KeeperFault>
+    ensures over { IfOk result
+        (λ keeper. (opened ≡ Ok keeper.conn) × (keeper.faults ≡ 0) × (keeper.ready ≡ false)) }
+    ensures lack { result ≡ Err cause.Memory → opened ≡ Err (Error.SqliteFailure ErrorCode.OutOfMemory) }
+    ensures failed { IsErr result → IsErr opened }
+{
+    match opened {
+        Ok(connection) => Ok(SqlKeeper::over(connection)),
+        Err(Error::SqliteFailure(ErrorCode::OutOfMemory)) => Err(KeeperFault::Memory),
+        Err(_) => Err(KeeperFault::Failed),
     }
 }
 

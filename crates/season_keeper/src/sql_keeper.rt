@@ -1,10 +1,11 @@
 // A keeper over an open connection.
-ghost use Rattle.std.specs.Prelude.{◌≡◌, false, IsTrue, ◌≤◌};
+ghost use Rattle.std.specs.Prelude.{◌≡◌, false, IsTrue, Some, IfOk, OnOk, OnErr, ◌≤◌};
 ghost use Rattle.sqlite.specs.State.{HasCleanDisk};
 ghost use Rattle.sqlite.specs.Held.{state};
 ghost use Rattle.fpl_base.specs.Causes.{Rose};
 ghost use Rattle.fpl_base.specs.declared.outside.KeeperFault.TheVariants as fault;
-ghost use Rattle.season_keeper.specs.Holding.{HoldsMap, MayLeave, finds_one};
+ghost use Rattle.fpl_base.specs.Keeping.{Map, KeysRise, HasKeeperCause, map_of};
+ghost use Rattle.season_keeper.specs.Holding.{Store, Tells, Keeps, HoldsMap, MayLeave, IsUndone, finds_one};
 
 use crate::batch::apply;
 use crate::store::load_pairs;
@@ -51,6 +52,8 @@ impl<S: Alter> SqlKeeper<S> {
         ensures memory { result ≡ fault.Memory → self.new.faults ≡ self.old.faults }
         ensures conn { self.new.conn ≡ self.old.conn }
         ensures ready { self.new.ready ≡ self.old.ready }
+        ensures lack { result ≡ fault.Memory
+            → error ≡ Some (Error.SqliteFailure ErrorCode.OutOfMemory) }
     {
         if let Some(Error::SqliteFailure(ErrorCode::OutOfMemory)) = error {
             return KeeperFault::Memory;
@@ -73,7 +76,46 @@ impl<S: Alter> Keeper for SqlKeeper<S> {
 
     ghost one_map = { λ k m n p q. finds_one _ k.ready m n p.finds q.finds };
 
-    fn load(&mut self, alloc: Global) -> Result<Vec<(RecordKey, Bytes)>, KeeperFault> {
+    fn load(&mut self, alloc: Global) -> Result<Vec<(RecordKey, Bytes)>, KeeperFault>
+        ensures rise { IfOk result (λ pairs. KeysRise pairs.items) }
+        ensures gave { IfOk result
+            (λ pairs. HasCleanDisk (state S.Store self.new.conn) → (m : Map)
+            → HoldsMap (state S.Store self.old.conn) self.old.ready m → m ≡ map_of pairs.items) }
+        ensures alone { OnOk result
+            (HasCleanDisk (state S.Store self.new.conn) → (m : Map)
+            → HoldsMap (state S.Store self.old.conn) self.old.ready m → (x : Map)
+            → MayLeave (state S.Store self.new.conn) x → x ≡ m) }
+        ensures done { OnOk result
+            (HasCleanDisk (state S.Store self.new.conn) → (m : Map)
+            → HoldsMap (state S.Store self.old.conn) self.old.ready m
+            → HoldsMap (state S.Store self.new.conn) self.new.ready m) }
+        ensures kept { OnErr result
+            (HasCleanDisk (state S.Store self.new.conn)
+            → IsTrue (state S.Store self.new.conn).is_open → (m : Map)
+            → HoldsMap (state S.Store self.old.conn) self.old.ready m
+            → HoldsMap (state S.Store self.new.conn) self.new.ready m) }
+        ensures stops { HasCleanDisk (state S.Store self.new.conn) → (m : Map)
+            → HoldsMap (state S.Store self.old.conn) self.old.ready m → (x : Map)
+            → MayLeave (state S.Store self.new.conn) x → MayLeave (state S.Store self.old.conn) x }
+        ensures told { HasCleanDisk (state S.Store self.new.conn)
+            → HasCleanDisk (state S.Store self.old.conn) }
+        ensures served { HasCleanDisk (state S.Store self.new.conn)
+            → IsTrue (state S.Store self.new.conn).is_open
+            → IsTrue (state S.Store self.old.conn).is_open }
+        ensures serves { OnOk result
+            (HasCleanDisk (state S.Store self.new.conn)
+            → IsTrue (state S.Store self.new.conn).is_open) }
+        ensures cause { HasKeeperCause self.old.faults self.new.faults result }
+        ensures only_told { HasCleanDisk (state S.Store self.new.conn)
+            → Store (state S.Store self.old.conn).now
+            → IfOk result
+            (λ pairs. Tells (state S.Store self.old.conn).now (map_of pairs.items)
+            × Keeps (state S.Store self.new.conn).now (map_of pairs.items)) }
+        ensures undone { HasCleanDisk (state S.Store self.new.conn)
+            → IsTrue (state S.Store self.new.conn).is_open
+            → OnErr result
+            (IsUndone (state S.Store self.old.conn) (state S.Store self.new.conn)) }
+    {
         match load_pairs(&mut self.conn, alloc) {
             Ok(Some(pairs)) => {
                 self.ready = true;

@@ -3,7 +3,7 @@ use Rattle.sqlite.specs.State.{HasCleanDisk}
 use Rattle.sqlite.specs.Held.{Held, state}
 use Rattle.sqlite.specs.Effect.{Database}
 use Rattle.fpl_base.specs.Keeping.{map_of}
-use Rattle.season_keeper.specs.Holding.{Keeps, HoldsMap, MayLeave, finds_tells, tells_one}
+use Rattle.season_keeper.specs.Holding.{Store, Tells, Keeps, HoldsMap, MayLeave, finds_tells, tells_one}
 use Rattle.season_keeper.proofs.Keeping.{alone_of, gave_keeps, reading_stops}
 use Rattle.season_keeper.proofs.sql_keeper.SqlKeeperKeeper.load.Goals as goal
 
@@ -75,3 +75,11 @@ returns-in-Err-clause-stops g c clean m held x left =
     let trees : old.now.trees ≡ old.committed.trees = ap (λ (d : Database). d.trees) (c.load_pairs.ensures.whole it.open_ it.autocommit) in
     let settled = subst old.may_leave (sym trees) (g.met.S.Store.stays c.self.inside.conn.store it.open_) in
     reading_stops old new m c.load_pairs.ensures.crash clean_1 settled (finds_tells old.now c.args.self.now.ready m it.finds) x left_1) held
+
+pub returns-in-Ok-Some-clause-only_told : goal.returns-in-Ok-Some-clause-only_told
+returns-in-Ok-Some-clause-only_told g c clean store =
+    let new = state g.S.Store c.load_pairs.new.conn in
+    let same : c.self.inside.conn ≡ c.args.self.now.conn = search rules in
+    let m = map_of c.in-Ok-Some.pairs.items in
+    let P = λ (h : Held g.row.S.Denot). Store (state g.S.Store h).now → Tells (state g.S.Store h).now m × Keeps new.now m in
+    subst P same (λ was. rw c.in-Ok-Some.field-0-is at (c.in-Ok-Some.ensures.gave clean was)) store
