@@ -4,18 +4,24 @@ use Rattle.fpl_base.specs.Doors.{Ended}
 use Rattle.outside_forms.specs.Plans.{Pieces, Planned, PlannedSink}
 use Rattle.fpl_doors.specs.declared.memory.Past.{Past, Empty, Last'}
 
--- the connections still to come and those given back, and how many bytes a source gives at a time
+-- the connections still to come and those given back, how many bytes a source gives at a time, and the room of a sink
 pub record KnownDoors : Type 0 where
   pub coming : List (List ℕ)
   pub given_back : List Ended
   pub piece : ℕ
+  pub room : ℕ
 
 -- the same, opened by calls of which some fail
 pub record PlannedDoors : Type 0 where
   pub coming : List (List ℕ)
   pub given_back : List Ended
   pub piece : ℕ
+  pub room : ℕ
   pub plan : Planned
+
+-- a sink that took no bytes yet, of whose calls none is to fail
+abbrev pub fresh_sink : ℕ → PlannedSink
+fresh_sink room = record { taken = []; room = room; plan = record { failing = []; calls = 0; faults = 0 } }
 
 -- a connection over memory as it was given back: its source never fails
 abbrev pub ended_with : Pieces → PlannedSink → Ended

@@ -1,9 +1,9 @@
 // Doors over memory: a form that never fails, and one that fails at calls that are listed.
-ghost use Rattle.std.specs.Prelude.{◌≡◌, ◌++◌, ◌∷◌, ◌↔◌, ◌<◌, [], Some, IfOk, IsErr, IsOk, IsTrue, MatchOption, OnErr, map, length};
+ghost use Rattle.std.specs.Prelude.{◌≡◌, ◌++◌, ◌∷◌, ◌↔◌, ◌<◌, ℕ, [], Some, IfOk, IsErr, IsOk, IsTrue, MatchOption, OnErr, map, length};
 ghost use Rattle.fpl_base.specs.Causes.{HasCause};
-ghost use Rattle.fpl_base.specs.Doors.{Opens};
+ghost use Rattle.fpl_base.specs.Doors.{GivesBack, Opens};
 ghost use Rattle.outside_forms.specs.Plans.{after_call, fails_next};
-ghost use Rattle.fpl_doors.specs.Forms.{ended_in, ended_with};
+ghost use Rattle.fpl_doors.specs.Forms.{ended_with, fresh_sink};
 
 use fpl_base::{Doors, Failed, Memory, Sink, Source};
 use outside_forms::{FaultySink, FaultySource, MemorySource, Plan};
@@ -31,7 +31,7 @@ impl<'a> Model for MemorySink<'a> {
 impl<'a> MemorySink<'a> {
     // A sink that took no bytes yet. It takes memory for all that it has room for.
     fn new(alloc: Global, room: usize) -> Result<Self, Memory>
-        ensures fresh { IfOk result (λ s. (s.taken ≡ []) × (s.plan.faults ≡ 0)) }
+        ensures fresh { IfOk result (λ s. s ≡ fresh_sink room) }
     {
         let sink = FaultySink::new(alloc, room, Plan::new(Vec::new(alloc)))?;
         let place = Box::new(alloc, Past::Empty)?;
@@ -68,7 +68,6 @@ enum Past<'a> {
 struct Visitor<'a> {
     bytes: &'a [u8],
     sink: MemorySink<'a>,
-    ghost fresh: { (sink.taken ≡ []) × (sink.plan.faults ≡ 0) },
 }
 
 /// Doors that never fail, with connections that are known beforehand. They tell which are still to come, and what became
@@ -78,11 +77,12 @@ pub struct MemoryDoors<'a> {
     coming: VecDeque<Visitor<'a>>,
     past: Past<'a>,
     piece: usize,
+    room: usize,
 }
 
 impl<'a> Model for MemoryDoors<'a> {
-    ghost use Rattle.std.specs.Prelude.{map};
-    ghost use Rattle.fpl_doors.specs.Forms.{KnownDoors, ended_in};
+    ghost use Rattle.std.specs.Prelude.{◌≡◌, All, map};
+    ghost use Rattle.fpl_doors.specs.Forms.{KnownDoors, ended_in, fresh_sink};
 
     ghost Value = { KnownDoors };
 
@@ -91,7 +91,10 @@ impl<'a> Model for MemoryDoors<'a> {
           coming = map (λ v. v.bytes.now) d.coming.items;
           given_back = ended_in d.past;
           piece = d.piece;
+          room = d.room;
         } };
+
+    ghost invariant = { λ d. All (λ v. v.sink ≡ fresh_sink d.room) d.coming.items };
 }
 
 impl<'a> MemoryDoors<'a> {
@@ -108,6 +111,7 @@ impl<'a> MemoryDoors<'a> {
               coming = map (λ c. c.now) connections.now;
               given_back = [];
               piece = piece;
+              room = room;
             }) }
     {
         let mut coming = VecDeque::new(alloc);
@@ -122,6 +126,7 @@ impl<'a> MemoryDoors<'a> {
             coming,
             past: Past::Empty,
             piece,
+            room,
         })
     }
 
@@ -129,6 +134,7 @@ impl<'a> MemoryDoors<'a> {
     pub fn take_last(&mut self) -> Option<(MemorySource<'a>, FaultySink)>
         ensures coming { self.new.coming ≡ self.old.coming }
         ensures piece { self.new.piece ≡ self.old.piece }
+        ensures room { self.new.room ≡ self.old.room }
         ensures last { MatchOption result ((self.old.given_back ≡ []) × (self.new.given_back ≡ []))
             (λ ends. self.old.given_back ≡ self.new.given_back ++ ended_with ends.0 ends.1 ∷ []) }
     {
@@ -165,7 +171,9 @@ impl<'a> Doors for MemoryDoors<'a> {
         ensures back { Some self.new.given_back ≡ Some self.old.given_back }
         ensures cause { HasCause 0 0 result }
         ensures piece { self.new.piece ≡ self.old.piece }
+        ensures room { self.new.room ≡ self.old.room }
         ensures pieces { IfOk result (λ ends. ends.0.piece ≡ self.old.piece) }
+        ensures sinks { IfOk result (λ ends. ends.1 ≡ fresh_sink self.old.room) }
         ensures ok { IsOk result }
     {
         match self.coming.pop_front() {
@@ -174,7 +182,14 @@ impl<'a> Doors for MemoryDoors<'a> {
         }
     }
 
-    fn give_back(&mut self, source: MemorySource<'a>, sink: MemorySink<'a>) {
+    fn give_back(&mut self, source: MemorySource<'a>, sink: MemorySink<'a>)
+        ensures back { GivesBack (Some self.old.given_back) (Some self.new.given_back)
+            (ended_with source.entry sink.entry) }
+        ensures coming { Some self.new.coming ≡ Some self.old.coming }
+        ensures faults { ◌≡◌ {A = ℕ} 0 0 }
+        ensures piece { self.new.piece ≡ self.old.piece }
+        ensures room { self.new.room ≡ self.old.room }
+    {
         let MemorySink { sink, mut place } = sink;
         *place = mem::replace(&mut self.past, Past::Empty);
         self.past = Past::Last(Visit { source, sink }, place);
@@ -199,6 +214,7 @@ impl<'a> Model for FaultyDoors<'a> {
           coming = d.doors.coming;
           given_back = d.doors.given_back;
           piece = d.doors.piece;
+          room = d.doors.room;
           plan = d.calls.plan;
         } };
 }
@@ -210,6 +226,7 @@ impl<'a> FaultyDoors<'a> {
               coming = doors.entry.coming;
               given_back = doors.entry.given_back;
               piece = doors.entry.piece;
+              room = doors.entry.room;
               plan = plan;
             } }
     {
@@ -223,6 +240,7 @@ impl<'a> FaultyDoors<'a> {
     pub fn take_last(&mut self) -> Option<(MemorySource<'a>, FaultySink)>
         ensures coming { self.new.coming ≡ self.old.coming }
         ensures piece { self.new.piece ≡ self.old.piece }
+        ensures room { self.new.room ≡ self.old.room }
         ensures plan { self.new.plan ≡ self.old.plan }
         ensures last { MatchOption result ((self.old.given_back ≡ []) × (self.new.given_back ≡ []))
             (λ ends. self.old.given_back ≡ self.new.given_back ++ ended_with ends.0 ends.1 ∷ []) }
@@ -254,7 +272,9 @@ impl<'a> Doors for FaultyDoors<'a> {
         ensures back { Some self.new.given_back ≡ Some self.old.given_back }
         ensures cause { HasCause self.old.plan.faults self.new.plan.faults result }
         ensures piece { self.new.piece ≡ self.old.piece }
+        ensures room { self.new.room ≡ self.old.room }
         ensures pieces { IfOk result (λ ends. ends.0.piece ≡ self.old.piece) }
+        ensures sinks { IfOk result (λ ends. ends.1 ≡ fresh_sink self.old.room) }
         ensures plan { self.new.plan ≡ after_call self.old.plan }
         ensures fails { IsErr result ↔ IsTrue (fails_next self.old.plan) }
     {
@@ -264,7 +284,15 @@ impl<'a> Doors for FaultyDoors<'a> {
         self.doors.next()
     }
 
-    fn give_back(&mut self, source: MemorySource<'a>, sink: MemorySink<'a>) {
+    fn give_back(&mut self, source: MemorySource<'a>, sink: MemorySink<'a>)
+        ensures back { GivesBack (Some self.old.given_back) (Some self.new.given_back)
+            (ended_with source.entry sink.entry) }
+        ensures coming { Some self.new.coming ≡ Some self.old.coming }
+        ensures faults { self.new.plan.faults ≡ self.old.plan.faults }
+        ensures piece { self.new.piece ≡ self.old.piece }
+        ensures room { self.new.room ≡ self.old.room }
+        ensures plan { self.new.plan ≡ self.old.plan }
+    {
         self.doors.give_back(source, sink);
     }
 }

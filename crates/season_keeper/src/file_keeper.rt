@@ -64,7 +64,8 @@ fn keeper_over(
 ) -> Result<SqlKeeper<FileStore<File>>, KeeperFault>
     ensures over { IfOk result
         (λ keeper. (opened ≡ Ok keeper.conn) × (keeper.faults ≡ 0) × (keeper.ready ≡ false)) }
-    ensures lack { result ≡ Err cause.Memory → opened ≡ Err (Error.SqliteFailure ErrorCode.OutOfMemory) }
+    ensures lack { result ≡ Err cause.Memory
+        → opened ≡ Err (Error.SqliteFailure ErrorCode.OutOfMemory) }
     ensures failed { IsErr result → IsErr opened }
 {
     match opened {
