@@ -20,9 +20,10 @@ use Rattle.fpl_bodies.specs.declared.field.FieldName.{FieldName}
 use Rattle.fpl_bodies.specs.declared.field.FieldName.TheVariants as field
 use Rattle.fpl_bodies.specs.declared.field.ReadFault.{ReadFault}
 use Rattle.fpl_bodies.specs.declared.field.ReadFault.TheVariants as fault
+use Rattle.json_tree.specs.declared.tree.Items.{Items as Held}
 use Rattle.json_tree.specs.declared.tree.Tree.{Tree}
 use Rattle.fpl_bodies.specs.FieldNames.{name_of}
-use Rattle.json_tree.specs.Trees.{items_view, view}
+use Rattle.json_tree.specs.Trees.{seen, view}
 
 -- The first wrong member.
 
@@ -164,6 +165,10 @@ profile_in which d = option_map_or (λ one. or_wrong which (profile_of one)) (me
 
 -- Lists.
 
+-- a number in a range, as an item of the list of this name
+abbrev pub in_list : FieldName → ℕ → ℕ → Option ℕ → Result ℕ FieldName
+in_list which low high n = or_wrong which (option_and_then (in_range low high) n)
+
 -- a whole number in a range, as an item of the list of this name
 abbrev pub entry : FieldName → ℕ → ℕ → Data → Result ℕ FieldName
 entry which low high d = or_wrong which (number_in low high d)
@@ -217,9 +222,9 @@ GivesText (Ok bytes) given = given ≡ Ok bytes.now
 GivesText (Err e) given = FailsWith e given
 
 -- the same of items, seen as their data
-abbrev pub GivesTrees : Result (Bor (List Tree)) ReadFault → Result Items FieldName → Type 0
-GivesTrees (Ok trees) given = given ≡ Ok (items_view trees.now)
-GivesTrees (Err e) given = FailsWith e given
+abbrev pub GivesHeld : Result Held ReadFault → Result Items FieldName → Type 0
+GivesHeld (Ok held) given = given ≡ Ok (seen held)
+GivesHeld (Err e) given = FailsWith e given
 
 -- the same of a tree, seen as its data
 abbrev pub GivesObject : Result Tree ReadFault → Result Data FieldName → Type 0

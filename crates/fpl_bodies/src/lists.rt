@@ -1,20 +1,22 @@
 // Readers of the lists that commands hold.
-ghost use Rattle.std.specs.Prelude.{All, ◌≡◌, ◌≤◌, ◌==◌, ◌&&◌, IfOk, Result, length, nat_le};
+ghost use Rattle.std.specs.Prelude.{All, ◌≡◌, ◌≤◌, ◌==◌, ◌&&◌, IfOk, MatchResult, ℕ, Result, length, nat_le};
 ghost use Rattle.std.specs.List.{list_any};
 ghost use Rattle.season_book.specs.Commands.{club_ids};
 ghost use Rattle.rule_book.specs.Ranks.{AllDiffer};
 ghost use Rattle.fpl_bodies.specs.declared.field.FieldName.{FieldName};
 ghost use Rattle.fpl_bodies.specs.declared.field.FieldName.TheVariants as field;
+ghost use Rattle.fpl_bodies.specs.declared.field.ReadFault.TheVariants as fault;
 ghost use Rattle.fpl_bodies.specs.Members.{Gives, GivesItems, each, entry, last_moment, under};
 ghost use Rattle.fpl_bodies.specs.Requests.{club, clubs, coins, deadlines, differ, fifteen, line, lines, order, player_line, slots, swap, swaps};
-ghost use Rattle.json_tree.specs.Trees.{items_view, view};
+ghost use Rattle.json_tree.specs.Trees.{items_view, seen, view};
+ghost use Rattle.serde_json.specs.Data.{Items as Listed, item, number, unsigned};
 
 use crate::members::{
     club_id, drawn_entry, entry, items, moment_entry, player_entry, player_id, title, wrong,
 };
 use crate::{FieldName, ReadFault};
 use fpl_base::{ClubId, Name, PlayerId};
-use json_tree::Tree;
+use json_tree::{Items, Tree};
 use rule_book::{Line, Swap};
 use season_book::{Clubs, Coins, Lines, Moments, Order, Slots, Swaps};
 use std::alloc::Global;
@@ -36,6 +38,24 @@ fn is_long(count: usize, low: usize, high: usize) -> bool
     low <= count && count <= high
 }
 
+// The items of a list of objects; a number has no member, and so not the first that is read of each.
+fn objects<'t, 'a>(values: Items<'t, 'a>, first: FieldName) -> Result<&'t [Tree<'a>], ReadFault>
+    ensures { MatchResult result (λ ts. seen values.entry ≡ items_view ts.now)
+        (λ e. (n : ℕ) × (ds : Listed) × (seen values.entry ≡ item (number (unsigned n)) ds)
+        × (e ≡ fault.Malformed first)) }
+{
+    match values {
+        Items::Trees(trees) => Ok(trees),
+        Items::Numbers(numbers) => {
+            if numbers.is_empty() {
+                Ok(&[])
+            } else {
+                Err(wrong(first))
+            }
+        }
+    }
+}
+
 /// The deadlines of a season.
 pub(crate) fn deadlines(alloc: Global, value: &Tree<'_>) -> Result<Moments, ReadFault>
     ensures gives { Gives result (deadlines (view value.now)) }
@@ -50,11 +70,12 @@ pub(crate) fn deadlines(alloc: Global, value: &Tree<'_>) -> Result<Moments, Read
     }
 }
 
-fn each_moment(alloc: Global, values: &[Tree<'_>]) -> Result<Moments, ReadFault>
-    ensures { Gives result (each (entry field.Deadlines 0 last_moment) (items_view values.now)) }
+fn each_moment(alloc: Global, values: Items<'_, '_>) -> Result<Moments, ReadFault>
+    ensures { Gives result (each (entry field.Deadlines 0 last_moment) (seen values.entry)) }
 {
     let mut list = Moments::new(alloc);
-    for value in values {
+    let mut rest = values;
+    'items: while let Some(value) = rest.next_number() {
         let one = moment_entry(value, FieldName::Deadlines)?;
         list.push(one)?;
     }
@@ -76,11 +97,11 @@ pub(crate) fn clubs(alloc: Global, value: &Tree<'_>) -> Result<Clubs, ReadFault>
     }
 }
 
-fn each_club(alloc: Global, values: &[Tree<'_>]) -> Result<Clubs, ReadFault>
-    ensures { Gives result (each club (items_view values.now)) }
+fn each_club(alloc: Global, values: Items<'_, '_>) -> Result<Clubs, ReadFault>
+    ensures { Gives result (each club (seen values.entry)) }
 {
     let mut list = Clubs::new(alloc);
-    for value in values {
+    for value in objects(values, FieldName::Id)? {
         let one = club(alloc, value)?;
         list.push(one)?;
     }
@@ -137,11 +158,12 @@ fn line(alloc: Global, value: &Tree<'_>) -> Result<Line, ReadFault>
     }
 }
 
-fn each_figure(alloc: Global, values: &[Tree<'_>]) -> Result<Vec<u16>, ReadFault>
-    ensures { GivesItems result (each (entry field.Figures 0 65535) (items_view values.now)) }
+fn each_figure(alloc: Global, values: Items<'_, '_>) -> Result<Vec<u16>, ReadFault>
+    ensures { GivesItems result (each (entry field.Figures 0 65535) (seen values.entry)) }
 {
     let mut list = Vec::with_capacity(alloc, values.len().min(28))?;
-    for value in values {
+    let mut rest = values;
+    'items: while let Some(value) = rest.next_number() {
         let one = entry(value, FieldName::Figures, 0, 65_535)?;
         list.push(one as u16)?;
     }
@@ -162,11 +184,11 @@ pub(crate) fn lines(alloc: Global, value: &Tree<'_>) -> Result<Lines, ReadFault>
     }
 }
 
-fn each_line(alloc: Global, values: &[Tree<'_>]) -> Result<Lines, ReadFault>
-    ensures { Gives result (each player_line (items_view values.now)) }
+fn each_line(alloc: Global, values: Items<'_, '_>) -> Result<Lines, ReadFault>
+    ensures { Gives result (each player_line (seen values.entry)) }
 {
     let mut list = Lines::with_room(alloc, values.len().min(100))?;
-    for value in values {
+    for value in objects(values, FieldName::Player)? {
         let one = player_line(alloc, value)?;
         list.push(one)?;
     }
@@ -186,11 +208,12 @@ pub(crate) fn fifteen(alloc: Global, value: &Tree<'_>) -> Result<[PlayerId; 15],
     }
 }
 
-fn each_player(alloc: Global, values: &[Tree<'_>]) -> Result<Vec<PlayerId>, ReadFault>
-    ensures { GivesItems result (each (entry field.Players 1 999999) (items_view values.now)) }
+fn each_player(alloc: Global, values: Items<'_, '_>) -> Result<Vec<PlayerId>, ReadFault>
+    ensures { GivesItems result (each (entry field.Players 1 999999) (seen values.entry)) }
 {
     let mut list = Vec::with_capacity(alloc, values.len().min(15))?;
-    for value in values {
+    let mut rest = values;
+    'items: while let Some(value) = rest.next_number() {
         let one = player_entry(value, FieldName::Players)?;
         list.push(one)?;
     }
@@ -211,11 +234,11 @@ pub(crate) fn swaps(alloc: Global, value: &Tree<'_>) -> Result<Swaps, ReadFault>
     }
 }
 
-fn each_swap(alloc: Global, values: &[Tree<'_>]) -> Result<Swaps, ReadFault>
-    ensures { Gives result (each swap (items_view values.now)) }
+fn each_swap(alloc: Global, values: Items<'_, '_>) -> Result<Swaps, ReadFault>
+    ensures { Gives result (each swap (seen values.entry)) }
 {
     let mut list = Swaps::new(alloc);
-    for value in values {
+    for value in objects(values, FieldName::Out)? {
         let one = swap(value)?;
         list.push(one)?;
     }
@@ -244,11 +267,12 @@ pub(crate) fn order(alloc: Global, value: &Tree<'_>) -> Result<Order, ReadFault>
     }
 }
 
-fn each_entry(alloc: Global, values: &[Tree<'_>]) -> Result<Order, ReadFault>
-    ensures { Gives result (each (entry field.Order 1 4294967295) (items_view values.now)) }
+fn each_entry(alloc: Global, values: Items<'_, '_>) -> Result<Order, ReadFault>
+    ensures { Gives result (each (entry field.Order 1 4294967295) (seen values.entry)) }
 {
     let mut list = Order::with_room(alloc, values.len().min(64))?;
-    for value in values {
+    let mut rest = values;
+    'items: while let Some(value) = rest.next_number() {
         let one = drawn_entry(value, FieldName::Order)?;
         list.push(one)?;
     }
@@ -269,11 +293,12 @@ pub(crate) fn slots(alloc: Global, value: &Tree<'_>) -> Result<Slots, ReadFault>
     }
 }
 
-fn each_slot(alloc: Global, values: &[Tree<'_>]) -> Result<Slots, ReadFault>
-    ensures { Gives result (each (entry field.Slots 0 4294967295) (items_view values.now)) }
+fn each_slot(alloc: Global, values: Items<'_, '_>) -> Result<Slots, ReadFault>
+    ensures { Gives result (each (entry field.Slots 0 4294967295) (seen values.entry)) }
 {
     let mut list = Slots::with_room(alloc, values.len().min(1024))?;
-    for value in values {
+    let mut rest = values;
+    'items: while let Some(value) = rest.next_number() {
         let one = entry(value, FieldName::Slots, 0, 4_294_967_295)?;
         list.push(one as u32)?;
     }
@@ -295,11 +320,12 @@ pub(crate) fn coins(alloc: Global, value: &Tree<'_>) -> Result<Coins, ReadFault>
     }
 }
 
-fn each_coin(alloc: Global, values: &[Tree<'_>]) -> Result<Coins, ReadFault>
-    ensures { Gives result (each (entry field.Coins 0 1) (items_view values.now)) }
+fn each_coin(alloc: Global, values: Items<'_, '_>) -> Result<Coins, ReadFault>
+    ensures { Gives result (each (entry field.Coins 0 1) (seen values.entry)) }
 {
     let mut list = Coins::with_room(alloc, values.len().min(1024))?;
-    for value in values {
+    let mut rest = values;
+    'items: while let Some(value) = rest.next_number() {
         let one = entry(value, FieldName::Coins, 0, 1)?;
         list.push(one as u8)?;
     }

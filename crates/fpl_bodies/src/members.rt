@@ -1,15 +1,15 @@
 // Readers of members, each by its name. A fault names the member.
-ghost use Rattle.std.specs.Prelude.{◌≡◌, ◌≢◌, ◌≤◌, IfOk, IfSome};
+ghost use Rattle.std.specs.Prelude.{◌≡◌, ◌≢◌, ◌≤◌, IfOk, IfSome, option_and_then};
 ghost use Rattle.fpl_base.specs.declared.kinds.Chip.TheVariants.{None as NoChip};
 ghost use Rattle.fpl_bodies.specs.declared.field.ReadFault.TheVariants as fault;
-ghost use Rattle.fpl_bodies.specs.Members.{Gives, GivesText, GivesTrees, chip_in, chip_of, club_id, code, entry, fixture_id, gameweek, items, key, kind_in, kind_of, last_moment, moment, number_in, place, place_in, player_id, position_in, position_of, price, profile_in, profile_of, text, title, truth, whole};
+ghost use Rattle.fpl_bodies.specs.Members.{Gives, GivesText, GivesHeld, chip_in, chip_of, club_id, code, fixture_id, gameweek, in_list, in_range, items, key, kind_in, kind_of, last_moment, moment, number_in, place, place_in, player_id, position_in, position_of, price, profile_in, profile_of, text, title, truth, whole};
 ghost use Rattle.json_tree.specs.Trees.{view};
 
 use crate::{FieldName, ReadFault};
 use fpl_base::{
     Chip, ClubId, Code, EntryId, FixtureId, Gw, Key, Moment, Name, PlayerId, Position, Profile,
 };
-use json_tree::Tree;
+use json_tree::{Items, Tree};
 use rule_book::LeagueKind;
 use std::alloc::Global;
 
@@ -22,11 +22,16 @@ pub(crate) fn wrong(which: FieldName) -> ReadFault
 // Numbers.
 
 // The whole number that a value is, where it is in the range.
-#[inline(always)]
 fn number_in(value: &Tree<'_>, low: u64, high: u64) -> Option<u64>
     ensures { result ≡ number_in low high (view value.now) }
 {
-    let n = value.as_u64()?;
+    in_range(value.as_u64(), low, high)
+}
+
+fn in_range(value: Option<u64>, low: u64, high: u64) -> Option<u64>
+    ensures { result ≡ option_and_then (in_range low high) value }
+{
+    let n = value?;
     if low <= n && n <= high { Some(n) } else { None }
 }
 
@@ -88,43 +93,42 @@ pub(crate) fn moment(value: &Tree<'_>, which: FieldName) -> Result<Moment, ReadF
     Moment::new(n).ok_or(wrong(which))
 }
 
-/// The moment that a value is, as an item of the list of this name.
-pub(crate) fn moment_entry(value: &Tree<'_>, list: FieldName) -> Result<Moment, ReadFault>
-    ensures { Gives result (entry list 0 last_moment (view value.now)) }
+/// The moment that an item of this list is.
+pub(crate) fn moment_entry(value: Option<u64>, list: FieldName) -> Result<Moment, ReadFault>
+    ensures { Gives result (in_list list 0 last_moment value) }
 {
     let n = entry(value, list, 0, 253_402_300_799)?;
     Moment::new(n).ok_or(wrong(list))
 }
 
-/// The player that a value names, as an item of the list of this name.
-pub(crate) fn player_entry(value: &Tree<'_>, list: FieldName) -> Result<PlayerId, ReadFault>
-    ensures { Gives result (entry list 1 999999 (view value.now)) }
+/// The player that an item of this list names.
+pub(crate) fn player_entry(value: Option<u64>, list: FieldName) -> Result<PlayerId, ReadFault>
+    ensures { Gives result (in_list list 1 999999 value) }
 {
     let n = entry(value, list, 1, 999_999)?;
     PlayerId::new(n as u32).ok_or(wrong(list))
 }
 
-/// The entry that a value names, as an item of the list of this name.
-pub(crate) fn drawn_entry(value: &Tree<'_>, list: FieldName) -> Result<EntryId, ReadFault>
-    ensures { Gives result (entry list 1 4294967295 (view value.now)) }
+/// The entry that an item of this list names.
+pub(crate) fn drawn_entry(value: Option<u64>, list: FieldName) -> Result<EntryId, ReadFault>
+    ensures { Gives result (in_list list 1 4294967295 value) }
 {
     let n = entry(value, list, 1, 4_294_967_295)?;
     EntryId::new(n as u32).ok_or(wrong(list))
 }
 
-/// The number that a value is, as an item of the list of this name.
-#[inline(always)]
+/// The number that an item of this list is, if it is one.
 pub(crate) fn entry(
-    value: &Tree<'_>,
+    value: Option<u64>,
     list: FieldName,
     low: u64,
     high: u64,
 ) -> Result<u64, ReadFault>
-    ensures gives { Gives result (entry list low high (view value.now)) }
+    ensures gives { Gives result (in_list list low high value) }
     ensures low { IfOk result (λ n. low ≤ n) }
     ensures high { IfOk result (λ n. n ≤ high) }
 {
-    number_in(value, low, high).ok_or(wrong(list))
+    in_range(value, low, high).ok_or(wrong(list))
 }
 
 /// A gameweek, or null for none.
@@ -278,8 +282,8 @@ fn kind_of(name: &str) -> Option<LeagueKind>
 pub(crate) fn items<'t, 'a>(
     value: &'t Tree<'a>,
     which: FieldName,
-) -> Result<&'t [Tree<'a>], ReadFault>
-    ensures { GivesTrees result (items which (view value.now)) }
+) -> Result<Items<'t, 'a>, ReadFault>
+    ensures { GivesHeld result (items which (view value.now)) }
 {
     match value.get(which.name()) {
         Some(one) => one.as_array().ok_or(wrong(which)),

@@ -9,4 +9,4 @@ mod tree;
 pub use json::Scratch;
 pub use number::Number;
 pub use parser::{ParseFault, parse};
-pub use tree::Tree;
+pub use tree::{Items, Tree};

@@ -1,11 +1,11 @@
 // From a text to its tree, in one pass over the tokens.
-ghost use Rattle.std.specs.Prelude.{◌≡◌, ◌<◌, Err, IfOk, OnOk, length, None, Some};
-ghost use Rattle.json.specs.Json.{value, items, members};
-ghost use Rattle.serde_json.specs.Data.{no_members};
+ghost use Rattle.std.specs.Prelude.{◌≡◌, ◌<◌, ◌≤◌, ◌∷◌, ◌++◌, [], ℕ, Err, IfOk, OnOk, length, None, Some};
+ghost use Rattle.json.specs.Json.{value, items, members, parse_map};
+ghost use Rattle.serde_json.specs.Data.{array, no_members};
 ghost use Rattle.serde_json.specs.Read.{converted, of_items, of_json, of_members, read as read_text};
-ghost use Rattle.json_tree.specs.Trees.{items_view, members_view, view};
+ghost use Rattle.json_tree.specs.Trees.{items_before, items_view, members_view, view, wholes};
 
-use crate::number::number_of;
+use crate::number::{Number, number_of};
 use crate::tree::Tree;
 use json::{Reader, Scratch, Token};
 use std::alloc::{AllocError, AllocFailed, Global};
@@ -97,7 +97,7 @@ fn read<'a>(alloc: Global, reader: &mut Reader<'a>, depth: usize) -> Result<Tree
             if depth == 0 {
                 return Err(ParseFault::Invalid);
             }
-            Ok(Tree::List(read_items(alloc, reader, depth - 1)?))
+            read_items(alloc, reader, depth - 1)
         }
         Token::BeginObject => {
             if depth == 0 {
@@ -108,33 +108,78 @@ fn read<'a>(alloc: Global, reader: &mut Reader<'a>, depth: usize) -> Result<Tree
     }
 }
 
+// A list: of numbers alone as long as nothing else comes.
 #[cycle(read)]
 #[inline(never)]
 fn read_items<'a>(
     alloc: Global,
     reader: &mut Reader<'a>,
     depth: usize,
-) -> Result<Vec<Tree<'a>>, ParseFault>
+) -> Result<Tree<'a>, ParseFault>
     ensures ok { IfOk result
-        (λ v. converted of_items (items (value depth) (length reader.old) reader.old)
-        ≡ Some (items_view v.items, reader.new)) }
+        (λ t. parse_map array
+        (converted of_items (items (value depth) (length reader.old) reader.old))
+        ≡ Some (view t, reader.new)) }
     ensures shorter { OnOk result (length reader.new < length reader.old) }
     ensures invalid { result ≡ Err ParseFault.Invalid
         → converted of_items (items (value depth) (length reader.old) reader.old) ≡ None }
 {
-    let mut found = Vec::new(alloc);
+    let mut numbers = Vec::new(alloc);
+    'numbers: while !reader.take_end_array() {
+        let item = read(alloc, reader, depth)?;
+        let Some(n) = item.as_u64() else {
+            let mut found = trees_of(alloc, numbers)?;
+            found.push(item)?;
+            read_others(alloc, reader, depth, &mut found)?;
+            return Ok(Tree::List(found));
+        };
+        make_room(&mut numbers)?;
+        numbers.push(n)?;
+    }
+    give_back(&mut numbers);
+    Ok(Tree::Numbers(numbers))
+}
+
+// The rest of a list, behind what was found of it.
+#[cycle(read)]
+#[inline(never)]
+fn read_others<'a>(
+    alloc: Global,
+    reader: &mut Reader<'a>,
+    depth: usize,
+    found: &mut Vec<Tree<'a>>,
+) -> Result<(), ParseFault>
+    ensures ok { OnOk result ((n : ℕ) → length reader.old ≤ n
+        → parse_map (items_before found.old.items)
+        (converted of_items (items (value depth) n reader.old))
+        ≡ Some (items_view found.new.items, reader.new)) }
+    ensures shorter { OnOk result (length reader.new < length reader.old) }
+    ensures invalid { result ≡ Err ParseFault.Invalid → (n : ℕ) → length reader.old ≤ n
+        → parse_map (items_before found.old.items)
+        (converted of_items (items (value depth) n reader.old)) ≡ None }
+{
     'items: while !reader.take_end_array() {
         let item = read(alloc, reader, depth)?;
-        make_room(&mut found)?;
         found.push(item)?;
     }
-    give_back(&mut found);
+    give_back(found);
+    Ok(())
+}
+
+// Numbers as trees, with room for more.
+fn trees_of<'a>(alloc: Global, numbers: Vec<u64>) -> Result<Vec<Tree<'a>>, AllocError>
+    ensures { IfOk result (λ v. v.items ≡ wholes numbers.items) }
+{
+    let mut found = Vec::with_capacity(alloc, numbers.len().max(FIRST_ROOM))?;
+    for n in numbers.as_slice() {
+        found.push(Tree::Number(Number::Whole(*n)))?;
+    }
     Ok(found)
 }
 
 // Room for the first items of a list at once, so that they do not move while it grows.
 #[inline(always)]
-fn make_room(found: &mut Vec<Tree<'_>>) -> Result<(), AllocError>
+fn make_room<T>(found: &mut Vec<T>) -> Result<(), AllocError>
     ensures { found.new.items ≡ found.old.items }
 {
     if found.is_empty() {
@@ -147,7 +192,7 @@ fn make_room(found: &mut Vec<Tree<'_>>) -> Result<(), AllocError>
 // Gives back what a short list leaves of its first room: else a list of one item, which may be three bytes long, keeps it
 // all.
 #[inline(always)]
-fn give_back(found: &mut Vec<Tree<'_>>)
+fn give_back<T>(found: &mut Vec<T>)
     ensures { found.new.items ≡ found.old.items }
 {
     if found.len() < FIRST_ROOM / 2 {

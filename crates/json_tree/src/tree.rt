@@ -1,7 +1,8 @@
 // JSON as trees. Strings are borrowed, and an object is the list of its members in the order of the text.
-ghost use Rattle.std.specs.Prelude.{◌≡◌, is_some, option_and_then, option_map};
+ghost use Rattle.std.specs.Prelude.{◌≡◌, ◌<◌, IfSome, MatchOption, is_some, option_and_then, option_map};
+ghost use Rattle.serde_json.specs.Data.{Data, item, no_items};
 ghost use Rattle.serde_json.specs.Find.{as_array, as_bool, as_null, as_number, as_object, as_str, as_u64, get, get_member};
-ghost use Rattle.json_tree.specs.Trees.{items_view, members_view, view};
+ghost use Rattle.json_tree.specs.Trees.{left, members_view, seen, view};
 
 use crate::number::Number;
 
@@ -12,8 +13,52 @@ pub enum Tree<'a> {
     Bool(bool),
     Number(Number),
     Text(&'a str),
+    /// A list of whole numbers from 0 and nothing else.
+    Numbers(Vec<u64>),
+    /// Any list.
     List(Vec<Tree<'a>>),
     Object(Vec<(&'a str, Tree<'a>)>),
+}
+
+/// The items of a list, as they are held.
+#[derive(Clone, Copy, Drop)]
+pub enum Items<'t, 'a> {
+    Numbers(&'t [u64]),
+    Trees(&'t [Tree<'a>]),
+}
+
+impl<'t, 'a> Items<'t, 'a> {
+    /// How many are left.
+    pub fn len(&self) -> usize
+        ensures { result ≡ left self.now }
+    {
+        match self {
+            Items::Numbers(numbers) => numbers.len(),
+            Items::Trees(trees) => trees.len(),
+        }
+    }
+
+    /// The next item, or none at the end: the number that it is, or none where it is no whole number from 0.
+    #[inline(always)]
+    pub fn next_number(&mut self) -> Option<Option<u64>>
+        ensures next { MatchOption result (seen self.old ≡ no_items)
+            (λ n. (d : Data) × (seen self.old ≡ item d (seen self.new))
+            × (n ≡ option_and_then as_u64 (as_number d))) }
+        ensures fewer { IfSome result (λ _. left self.new < left self.old) }
+    {
+        match *self {
+            Items::Numbers(numbers) => {
+                let (first, rest) = numbers.split_first()?;
+                *self = Items::Numbers(rest);
+                Some(Some(*first))
+            }
+            Items::Trees(trees) => {
+                let (first, rest) = trees.split_first()?;
+                *self = Items::Trees(rest);
+                Some(first.as_u64())
+            }
+        }
+    }
 }
 
 impl<'a> Tree<'a> {
@@ -51,7 +96,6 @@ impl<'a> Tree<'a> {
     }
 
     /// A whole number from 0 that is written without a point or an exponent.
-    #[inline(always)]
     pub fn as_u64(&self) -> Option<u64>
         ensures { result ≡ option_and_then as_u64 (as_number (view self.now)) }
     {
@@ -73,13 +117,13 @@ impl<'a> Tree<'a> {
     }
 
     /// The items of a list.
-    pub fn as_array(&self) -> Option<&[Tree<'a>]>
-        ensures { option_map (λ ts. items_view ts.now) result ≡ as_array (view self.now) }
+    pub fn as_array(&self) -> Option<Items<'_, 'a>>
+        ensures { option_map seen result ≡ as_array (view self.now) }
     {
-        if let Tree::List(items) = self {
-            Some(items.as_slice())
-        } else {
-            None
+        match self {
+            Tree::Numbers(numbers) => Some(Items::Numbers(numbers.as_slice())),
+            Tree::List(trees) => Some(Items::Trees(trees.as_slice())),
+            _ => None,
         }
     }
 }

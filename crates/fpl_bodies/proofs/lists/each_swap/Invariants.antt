@@ -8,5 +8,5 @@ use Rattle.fpl_bodies.proofs.lists.each_swap.Given as goal
 -- the transfers so far and those of what is left are those of all
 abbrev pub invariant-loop-value : goal.invariant-loop-value
 invariant-loop-value l =
-    with_front l.list (each swap (items_view (drop l.value-index l.values)))
-    ≡ each swap (items_view l.values)
+    with_front l.list (each swap (items_view (drop l.value-index l.value-items)))
+    ≡ each swap (items_view l.value-items)

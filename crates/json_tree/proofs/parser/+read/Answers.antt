@@ -5,10 +5,10 @@ use Rattle.json.specs.Reads.{token_of}
 use Rattle.json.proofs.Grammar.{value_is, value-begin_array, value-begin_object, read_key-shorter}
 use Rattle.serde_json.specs.Data.{null, boolean, number, string, array, object, put}
 use Rattle.serde_json.specs.Read.{of_json, of_items, of_members, converted}
-use Rattle.json_tree.proofs.ReadingLemmas.{converted-array, converted-object, item_read, item_refused, items_over, member_read, member_refused, key_refused, members_over, unmapped}
+use Rattle.json_tree.proofs.ReadingLemmas.{converted-array, converted-object, item_refused, items_over, member_read, member_refused, key_refused, members_over}
 use Rattle.json_tree.specs.declared.tree.Tree.{Bool, Null, Number, Text, the_lemmas}
-use Rattle.json_tree.specs.Trees.{items_view, members_view, number_view, view}
-use Rattle.json_tree.proofs.TreeLemmas.{view-List, view-Object, items_before, items_before-no_items, one_more_item, members_view-push}
+use Rattle.json_tree.specs.Trees.{items_before, items_view, members_view, number_view, numbers_view, view, wholes}
+use Rattle.json_tree.proofs.TreeLemmas.{view-List, view-Numbers, view-Object, items_before-no_items, members_view-push, numbers_view-wholes, number_read, one_read}
 use Rattle.json_tree.proofs.parser.+read.Goals as goal
 
 pub read-returns-in_err-token-clause-invalid : goal.read-returns-in_err-token-clause-invalid
@@ -30,8 +30,8 @@ read-returns-then-depth-eq0-2-clause-invalid t c never =
     let none : c.args.depth ≡ 0 = omega arith in
     ap (converted of_json) (ap₂ value none (first ∙ ap (λ k. token_of k ∷ c.next.new.self) c.in-BeginObject.is))
 
-pub read-returns-in_err-read_items-in-BeginArray-clause-invalid : goal.read-returns-in_err-read_items-in-BeginArray-clause-invalid
-read-returns-in_err-read_items-in-BeginArray-clause-invalid t c refused =
+pub read-returns-else-depth-eq0-clause-invalid : goal.read-returns-else-depth-eq0-clause-invalid
+read-returns-else-depth-eq0-clause-invalid t c refused =
     let first : c.args.reader.now ≡ token_of c.in_ok-token.token ∷ c.next.new.self = grind arith in
     let opened = ap (converted of_json) (ap (value c.args.depth) (first ∙ ap (λ k. token_of k ∷ c.next.new.self) c.in-BeginArray.is) ∙ value-begin_array c.args.depth c.next.new.self (omega arith)) ∙ converted-array (items (value (c.args.depth - 1)) (length c.next.new.self) c.next.new.self) in
     opened ∙ ap (parse_map array) (c.read_items.ensures.invalid (grind arith))
@@ -82,12 +82,11 @@ read-returns-in-EndObject-clause-invalid t c refused =
     let none : value c.args.depth c.args.reader.now ≡ None = rw (value_is c.args.depth c.args.reader.now, first) (grind arith) in
     ap (converted of_json) none
 
-pub read-returns-in_ok-read_items-in-BeginArray-clause-ok : goal.read-returns-in_ok-read_items-in-BeginArray-clause-ok
-read-returns-in_ok-read_items-in-BeginArray-clause-ok t c =
+pub read-returns-else-depth-eq0-clause-ok : goal.read-returns-else-depth-eq0-clause-ok
+read-returns-else-depth-eq0-clause-ok t c =
     let first : c.args.reader.now ≡ token_of c.in_ok-token.token ∷ c.next.new.self = grind arith in
     let opened = ap (converted of_json) (ap (value c.args.depth) (first ∙ ap (λ k. token_of k ∷ c.next.new.self) c.in-BeginArray.is) ∙ value-begin_array c.args.depth c.next.new.self (omega arith)) ∙ converted-array (items (value (c.args.depth - 1)) (length c.next.new.self) c.next.new.self) in
-    let found = c.in_ok-read_items-in-BeginArray in
-    opened ∙ ap (parse_map array) found.ensures.ok ∙ ap (λ d. Some (d, c.read_items.new.reader)) (sym (view-List found.field-0))
+    rw opened c.read_items.ensures.ok
 
 pub read-returns-in_ok-read_members-in-BeginObject-clause-ok : goal.read-returns-in_ok-read_members-in-BeginObject-clause-ok
 read-returns-in_ok-read_members-in-BeginObject-clause-ok t c =
@@ -96,45 +95,108 @@ read-returns-in_ok-read_members-in-BeginObject-clause-ok t c =
     let found = c.in_ok-read_members-in-BeginObject in
     opened ∙ ap (parse_map object) found.ensures.ok ∙ ap (λ d. Some (d, c.read_members.new.reader)) (sym (view-Object found.field-0))
 
-pub read_items-items-init : goal.read_items-items-init
-read_items-items-init t c =
-    let all = converted of_items (items (value c.args.depth) (length c.args.reader.now) c.args.reader.now) in
-    (length c.args.reader.now, omega arith, unmapped all ∙ ap (λ vs. parse_map (items_before vs) all) (sym c.new-found.ensures.items), omega arith)
-
 pub read_items-returns-in_err-item-clause-invalid : goal.read_items-returns-in_err-item-clause-invalid
 read_items-returns-in_err-item-clause-invalid t c refused =
     let p = value c.args.depth in
-    let l = c.items in
+    let l = c.numbers in
     let n = l.invariant.0 in
     let going : (after_end_array l.reader ≡ None) × (c.take_end_array.new.self ≡ l.reader) = grind arith in
-    l.invariant.2 ∙ ap (parse_map (items_before l.found.items)) (item_refused p n l.reader going.0 (rw (← going.1) (c.read.ensures.invalid (grind arith))))
+    l.invariant.2 ∙ ap (parse_map (items_before (wholes l.numbers.items))) (item_refused p n l.reader going.0 (rw (← going.1) (c.read.ensures.invalid (grind arith))))
 
-pub read_items-items-preserved : goal.read_items-items-preserved
-read_items-items-preserved t c =
+pub read_items-numbers-preserved : goal.read_items-numbers-preserved
+read_items-numbers-preserved t c =
     let p = value c.args.depth in
-    let l = c.items in
+    let l = c.numbers in
+    let n = l.invariant.0 in
+    let going : (after_end_array l.reader ≡ None) × (c.take_end_array.new.self ≡ l.reader) = grind arith in
+    let done = c.in_ok-item.ensures in
+    let k = c.in-Some.n in
+    let r = c.read.new.reader in
+    let less : length r < length l.reader = rw (← going.1) done.shorter in (
+      n - 1,
+      omega (arith, l.invariant.1),
+      l.invariant.2 ∙ number_read p l.numbers.items (view c.in_ok-item.item) k n l.reader r (omega (arith, l.invariant.1)) going.0 (rw (← going.1) done.ok) (sym c.as_u64.ensures ∙ c.in-Some.is)
+          ∙ ap (λ ns. parse_map (items_before (wholes (ns ++ k ∷ []))) (converted of_items (items p (n - 1) r))) (sym c.make_room.ensures)
+          ∙ ap (λ ns. parse_map (items_before (wholes ns)) (converted of_items (items p (n - 1) r))) (sym c.in_ok-push-2.ensures.items),
+      omega (arith, l.invariant.3),
+    )
+
+pub read_items-returns-in_err-read_others-clause-invalid : goal.read_items-returns-in_err-read_others-clause-invalid
+read_items-returns-in_err-read_others-clause-invalid t c refused =
+    let p = value c.args.depth in
+    let l = c.numbers in
     let n = l.invariant.0 in
     let going : (after_end_array l.reader ≡ None) × (c.take_end_array.new.self ≡ l.reader) = grind arith in
     let done = c.in_ok-item.ensures in
     let v = c.in_ok-item.item in
     let r = c.read.new.reader in
     let less : length r < length l.reader = rw (← going.1) done.shorter in
-    let turn = item_read p n l.reader r (view v) (omega (arith, l.invariant.1)) going.0 (rw (← going.1) done.ok) in (
-      n - 1,
-      omega (arith, l.invariant.1),
-      l.invariant.2 ∙ ap (parse_map (items_before l.found.items)) turn ∙ one_more_item l.found.items v _
-          ∙ ap (λ vs. parse_map (items_before (vs ++ v ∷ [])) (converted of_items (items p (n - 1) r))) (sym c.make_room.ensures)
-          ∙ ap (λ vs. parse_map (items_before vs) (converted of_items (items p (n - 1) r))) (sym c.in_ok-push.ensures.items),
-      omega (arith, l.invariant.3),
-    )
+    let found : c.push.new.self.items ≡ wholes l.numbers.items ++ v ∷ [] = c.in_ok-push.ensures.items ∙ ap (λ ts. ts ++ v ∷ []) c.in_ok-found.ensures in
+    l.invariant.2 ∙ one_read p (wholes l.numbers.items) v n l.reader r (omega (arith, l.invariant.1)) going.0 (rw (← going.1) done.ok)
+    ∙ ap (λ vs. parse_map (items_before vs) (converted of_items (items p (n - 1) r))) (sym found)
+    ∙ c.read_others.ensures.invalid (grind arith) (n - 1) (omega (arith, l.invariant.1))
+
+pub read_items-returns-in_default-clause-ok : goal.read_items-returns-in_default-clause-ok
+read_items-returns-in_default-clause-ok t c =
+    let p = value c.args.depth in
+    let l = c.numbers in
+    let n = l.invariant.0 in
+    let going : (after_end_array l.reader ≡ None) × (c.take_end_array.new.self ≡ l.reader) = grind arith in
+    let done = c.in_ok-item.ensures in
+    let v = c.in_ok-item.item in
+    let r = c.read.new.reader in
+    let less : length r < length l.reader = rw (← going.1) done.shorter in
+    let found : c.push.new.self.items ≡ wholes l.numbers.items ++ v ∷ [] = c.in_ok-push.ensures.items ∙ ap (λ ts. ts ++ v ∷ []) c.in_ok-found.ensures in
+    ap (parse_map array) (
+    l.invariant.2 ∙ one_read p (wholes l.numbers.items) v n l.reader r (omega (arith, l.invariant.1)) going.0 (rw (← going.1) done.ok)
+    ∙ ap (λ vs. parse_map (items_before vs) (converted of_items (items p (n - 1) r))) (sym found)
+    ∙ c.in_ok-read_others.ensures.ok (n - 1) (omega (arith, l.invariant.1))
+    ) ∙ ap (λ d. Some (d, c.read_others.new.reader)) (sym (view-List c.read_others.new.found))
 
 pub read_items-returns-clause-ok : goal.read_items-returns-clause-ok
 read_items-returns-clause-ok t c =
     let p = value c.args.depth in
-    let l = c.items in
+    let l = c.numbers in
     let n = l.invariant.0 in
     let r = c.take_end_array.new.self in
-    l.invariant.2 ∙ ap (parse_map (items_before l.found.items)) (items_over p n l.reader r l.invariant.1 (grind arith)) ∙ ap (λ ds. Some (ds, r)) (items_before-no_items l.found.items)
+    let all = items_before-no_items (wholes l.numbers.items) ∙ numbers_view-wholes l.numbers.items ∙ ap numbers_view (sym c.give_back.ensures) in
+    ap (parse_map array) (l.invariant.2 ∙ ap (parse_map (items_before (wholes l.numbers.items))) (items_over p n l.reader r l.invariant.1 (grind arith)) ∙ ap (λ ds. Some (ds, r)) all)
+    ∙ ap (λ d. Some (d, r)) (sym (view-Numbers c.give_back.new.found))
+
+pub read_others-returns-in_err-item-clause-invalid : goal.read_others-returns-in_err-item-clause-invalid
+read_others-returns-in_err-item-clause-invalid t c refused m enough =
+    let p = value c.args.depth in
+    let l = c.items in
+    let (n, most, is) = l.invariant.0 m enough in
+    let going : (after_end_array l.reader ≡ None) × (c.take_end_array.new.self ≡ l.reader) = grind arith in
+    is ∙ ap (parse_map (items_before l.found.items)) (item_refused p n l.reader going.0 (rw (← going.1) (c.read.ensures.invalid (grind arith))))
+
+pub read_others-items-preserved : goal.read_others-items-preserved
+read_others-items-preserved t c =
+    let p = value c.args.depth in
+    let l = c.items in
+    let going : (after_end_array l.reader ≡ None) × (c.take_end_array.new.self ≡ l.reader) = grind arith in
+    let done = c.in_ok-item.ensures in
+    let v = c.in_ok-item.item in
+    let r = c.read.new.reader in
+    let less : length r < length l.reader = rw (← going.1) done.shorter in (
+      λ m enough.
+          let (n, most, is) = l.invariant.0 m enough in (
+            n - 1,
+            omega (arith, most),
+            is ∙ one_read p l.found.items v n l.reader r (omega (arith, most)) going.0 (rw (← going.1) done.ok)
+                ∙ ap (λ vs. parse_map (items_before vs) (converted of_items (items p (n - 1) r))) (sym c.in_ok-push.ensures.items),
+          ),
+      omega (arith, l.invariant.1),
+    )
+
+pub read_others-returns-clause-ok : goal.read_others-returns-clause-ok
+read_others-returns-clause-ok t c m enough =
+    let p = value c.args.depth in
+    let l = c.items in
+    let (n, most, is) = l.invariant.0 m enough in
+    let r = c.take_end_array.new.self in
+    is ∙ ap (parse_map (items_before l.found.items)) (items_over p n l.reader r most (grind arith)) ∙ ap (λ ds. Some (ds, r)) (items_before-no_items l.found.items)
     ∙ ap (λ items. Some (items_view items, r)) (sym c.give_back.ensures)
 
 pub read_members-members-init : goal.read_members-members-init

@@ -2,28 +2,41 @@ use Rattle.std.proofs.Common.{◌≡◌, ℕ, ◌+◌, ◌*◌, ◌≤◌, lengt
 use Rattle.json.specs.Json.{items, members, value, parse_map}
 use Rattle.serde_json.specs.Data.{no_members}
 use Rattle.serde_json.specs.Read.{of_items, of_members, converted}
-use Rattle.json_tree.specs.Trees.{members_view}
-use Rattle.json_tree.proofs.TreeLemmas.{items_before}
+use Rattle.json_tree.specs.Trees.{items_before, members_view, wholes}
 use Rattle.json_tree.proofs.parser.+read.Given as goal
 
 abbrev pub decreases-read : goal.decreases-read
-decreases-read l = 2 * l.depth
+decreases-read l = 3 * l.depth
 
 abbrev pub decreases-read_items : goal.decreases-read_items
-decreases-read_items l = 2 * l.depth + 1
+decreases-read_items l = 3 * l.depth + 2
 
 abbrev pub decreases-read_members : goal.decreases-read_members
-decreases-read_members l = 2 * l.depth + 1
+decreases-read_members l = 3 * l.depth + 1
 
--- the items so far and those that are still to come are those of all
-abbrev pub invariant-read_items-items : goal.invariant-read_items-items
-invariant-read_items-items l =
+abbrev pub decreases-read_others : goal.decreases-read_others
+decreases-read_others l = 3 * l.depth + 1
+
+-- the numbers so far and the items that are still to come are the items of all
+abbrev pub invariant-read_items-numbers : goal.invariant-read_items-numbers
+invariant-read_items-numbers l =
     (n : ℕ) × (length l.reader ≤ n)
-    × (converted of_items (items (value l.depth) (length l.initial.reader) l.initial.reader) ≡ parse_map (items_before l.found.items) (converted of_items (items (value l.depth) n l.reader)))
+    × (converted of_items (items (value l.depth) (length l.initial.reader) l.initial.reader) ≡ parse_map (items_before (wholes l.numbers.items)) (converted of_items (items (value l.depth) n l.reader)))
     × (length l.reader ≤ length l.initial.reader)
 
-abbrev pub decreases-read_items-items : goal.decreases-read_items-items
-decreases-read_items-items l = length l.reader
+abbrev pub decreases-read_items-numbers : goal.decreases-read_items-numbers
+decreases-read_items-numbers l = length l.reader
+
+-- the items so far and those that are still to come are those of all
+abbrev pub invariant-read_others-items : goal.invariant-read_others-items
+invariant-read_others-items l =
+    ((m : ℕ) → length l.initial.reader ≤ m
+    → (n : ℕ) × (length l.reader ≤ n)
+    × (parse_map (items_before l.initial.found.items) (converted of_items (items (value l.depth) m l.initial.reader)) ≡ parse_map (items_before l.found.items) (converted of_items (items (value l.depth) n l.reader))))
+    × (length l.reader ≤ length l.initial.reader)
+
+abbrev pub decreases-read_others-items : goal.decreases-read_others-items
+decreases-read_others-items l = length l.reader
 
 -- the members so far and those that are still to come are those of all
 abbrev pub invariant-read_members-members : goal.invariant-read_members-members
