@@ -7,12 +7,12 @@ ghost use Rattle.fpl_generating.specs.Generating.{IsGenerated};
 ghost use Rattle.fpl_loading.specs.Loading.{IsLoad};
 ghost use Rattle.fpl_requests.specs.Requests.{Generates, Loads, Reports, RunsThrough, made_up_key, view_of};
 
-use fpl_serving::unopened;
 use fpl_asking::reported;
 use fpl_asking::status::MEMORY;
 use fpl_base::{Clock, Keeper, Key, Memory, Profile, Shelf, Sink, Steps, Text};
 use fpl_generating::generated;
 use fpl_loading::{loaded, ordered_by, unloaded};
+use fpl_serving::unopened;
 use fpl_words::What;
 use season_book::{Command, View};
 use season_keeping::Host;

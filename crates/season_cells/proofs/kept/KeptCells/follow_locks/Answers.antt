@@ -45,7 +45,7 @@ returns-clause-corrected g c =
     let old = c.self.inside.cells in
     let mid = held c.gameweeks_locked.new.cells in
     let marked = marked_by g.before x (held old) mid _ c.in_ok-gameweeks_locked.ensures.nodes
-        (c.in_ok-gameweeks_locked.ensures.sound g.before kept.season season differ) (c.in_ok-gameweeks_locked.ensures.exact g.before kept.season season differ) in
+    (c.in_ok-gameweeks_locked.ensures.sound g.before kept.season season differ) (c.in_ok-gameweeks_locked.ensures.exact g.before kept.season season differ) in
     subst (λ (k : CellRows). IsCorrected g.before (books_seen c.args.season.now c.args.managers.now c.args.leagues.now c.args.cups.now) k.cells c.settle_season.new.cells) c.self.view_is
     (subst (λ (f : SeasonFacts). IsCorrected g.before f old c.settle_season.new.cells) same
     (is_corrected g.before x old c.settle_season.new.cells mid c.in_ok-settle_season.field-0.evaluated kept.evaluated marked c.in_ok-settle_season.ensures.settled c.in_ok-settle_season.ensures.remains))
@@ -60,6 +60,6 @@ returns-clause-cost g c =
     let old = c.self.inside.cells in
     let mid = held c.gameweeks_locked.new.cells in
     let marked = marked_by g.before x (held old) mid _ c.in_ok-gameweeks_locked.ensures.nodes
-        (c.in_ok-gameweeks_locked.ensures.sound g.before kept.season season differ) (c.in_ok-gameweeks_locked.ensures.exact g.before kept.season season differ) in
+    (c.in_ok-gameweeks_locked.ensures.sound g.before kept.season season differ) (c.in_ok-gameweeks_locked.ensures.exact g.before kept.season season differ) in
     subst (λ (f : SeasonFacts). IsCheap g.before f c.args.steps.now c.settle_season.new.steps) same
     (is_cheap g.before x old c.settle_season.new.cells mid c.in_ok-settle_season.field-0.evaluated kept.evaluated marked c.in_ok-settle_season.ensures.settled c.args.steps.now c.settle_season.new.steps c.in_ok-settle_season.ensures.cost)
