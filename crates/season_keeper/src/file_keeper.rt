@@ -14,7 +14,7 @@ use std::alloc::Global;
 pub struct FileKeeper<'a> {
     rt: &'a HostRuntime,
     path: Text,
-    open: Option<SqlKeeper<FileStore<File>>>,
+    store: Option<SqlKeeper<FileStore<File>>>,
     faults: u64,
 }
 
@@ -26,7 +26,7 @@ impl<'a> FileKeeper<'a> {
         FileKeeper {
             rt,
             path,
-            open: None,
+            store: None,
             faults: 0,
         }
     }
@@ -34,11 +34,11 @@ impl<'a> FileKeeper<'a> {
     // The keeper over the open file.
     fn opened(&mut self) -> Result<SqlKeeper<FileStore<File>>, KeeperFault>
         ensures faults { self.new.faults ≡ self.old.faults }
-        ensures taken { IfSome self.old.open (λ keeper. result ≡ Ok keeper) }
-        ensures anew { self.old.open ≡ None
+        ensures taken { IfSome self.old.store (λ keeper. result ≡ Ok keeper) }
+        ensures anew { self.old.store ≡ None
             → IfOk result (λ keeper. (keeper.faults ≡ 0) × (keeper.ready ≡ false)) }
     {
-        if let Some(keeper) = self.open.take() {
+        if let Some(keeper) = self.store.take() {
             return Ok(keeper);
         }
         keeper_over(Connection::open(self.rt, self.path.text()))
@@ -97,7 +97,7 @@ impl<'a> Keeper for FileKeeper<'a> {
         };
         match keeper.load(alloc) {
             Ok(pairs) => {
-                self.open = Some(keeper);
+                self.store = Some(keeper);
                 Ok(pairs)
             }
             Err(fault) => Err(self.counted(fault)),
@@ -105,12 +105,12 @@ impl<'a> Keeper for FileKeeper<'a> {
     }
 
     fn commit(&mut self, alloc: Global, ops: &[Op]) -> Result<(), KeeperFault> {
-        let Some(mut keeper) = self.open.take() else {
+        let Some(mut keeper) = self.store.take() else {
             return Err(self.counted(KeeperFault::Failed));
         };
         match keeper.commit(alloc, ops) {
             Ok(()) => {
-                self.open = Some(keeper);
+                self.store = Some(keeper);
                 Ok(())
             }
             Err(fault) => Err(self.counted(fault)),
