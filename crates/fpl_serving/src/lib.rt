@@ -4,11 +4,9 @@
 
 mod laws;
 mod opening;
-mod pipe;
-mod serve;
+pub mod pipe;
+pub mod serve;
 mod talk;
 
 pub use laws::lawful_runs_are_whole;
 pub use opening::unopened;
-pub use pipe::pipe;
-pub use serve::serve;
