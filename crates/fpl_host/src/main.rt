@@ -8,13 +8,14 @@ mod score;
 
 ghost use Rattle.std.specs.Prelude.{◌≡◌, ◌<◌, None};
 
+use file_keeper::{FileKeeper, file_at};
 use fpl_asking::status::MEMORY;
 use fpl_base::{Doors, Keeper, Memory, Reading, Shelf, Steps, SystemClock, Text, Writing};
 use fpl_doors::Listening;
 use fpl_shelves::Disk;
 use fpl_words::{WordFault, Words, words_of};
 use outside_forms::Quiet;
-use season_keeper::FileKeeper;
+use sqlite::{File, FileStore, Unknown};
 use std::alloc::Global;
 use std::io;
 use std::marker::Brand;
@@ -63,13 +64,14 @@ fn outside(rt: &HostRuntime, alloc: Global, words: &[Text]) -> u8 {
             &mut Quiet,
             store,
         ),
-        Ok(Words::Load { store, .. }) => kept(
+        // The store is opened behind the files, so that a season which cannot be read makes none.
+        Ok(Words::Load { store, .. }) => over_file(
             rt,
             alloc,
             words,
+            FileKeeper::shut(rt, store),
             &mut Quiet,
             &mut Disk::new(rt),
-            Some(store),
         ),
         Ok(Words::Report { store, .. }) => {
             kept(rt, alloc, words, &mut Quiet, &mut Quiet, Some(store))
@@ -95,18 +97,7 @@ fn kept<D: Doors, F: Shelf>(
     requires untold { (d : D) → D.coming d ≡ None }
 {
     match store {
-        Some(path) => {
-            let mut keeper = FileKeeper::at(rt, path);
-            counted::<FileKeeper<'_>, D, F, Brand>(
-                rt,
-                alloc,
-                words,
-                &mut keeper,
-                doors,
-                shelf,
-                Blank::new(1),
-            )
-        }
+        Some(path) => over_file(rt, alloc, words, file_at(rt, path, Unknown), doors, shelf),
         None => {
             let mut keeper = TreeKeeper::new(alloc);
             counted::<TreeKeeper, D, F, Brand>(
@@ -120,6 +111,28 @@ fn kept<D: Doors, F: Shelf>(
             )
         }
     }
+}
+
+// Runs over a store in a file, with these doors and this shelf.
+fn over_file<D: Doors, F: Shelf>(
+    rt: &HostRuntime,
+    alloc: Global,
+    words: &[Text],
+    mut keeper: FileKeeper<'_, FileStore<File>>,
+    doors: &mut D,
+    shelf: &mut F,
+) -> u8
+    requires untold { (d : D) → D.coming d ≡ None }
+{
+    counted::<FileKeeper<'_, FileStore<File>>, D, F, Brand>(
+        rt,
+        alloc,
+        words,
+        &mut keeper,
+        doors,
+        shelf,
+        Blank::new(1),
+    )
 }
 
 // Runs with this keeper, these doors and this shelf, a counter that nobody reads, and nothing else outside but input, output

@@ -2,10 +2,8 @@
 #![tactic(auto)]
 
 mod batch;
-mod file_keeper;
 mod pairs;
 mod sql_keeper;
 mod store;
 
-pub use file_keeper::FileKeeper;
 pub use sql_keeper::SqlKeeper;

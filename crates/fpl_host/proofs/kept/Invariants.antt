@@ -2,6 +2,3 @@ use Rattle.fpl_host.proofs.kept.Given as goal
 
 abbrev pub ghosts-counted : goal.ghosts-counted
 ghosts-counted a b = record { name = b.blank.name; parts = b.blank.parts }
-
-abbrev pub ghosts-counted-2 : goal.ghosts-counted-2
-ghosts-counted-2 a b = record { name = b.blank.name; parts = b.blank.parts }
