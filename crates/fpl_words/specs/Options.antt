@@ -1,8 +1,10 @@
 -- The commands with their options, as clap sees them.
-use Rattle.std.specs.Prelude.{◌≡◌, ℕ, List, [], ◌∷◌, codes, Option, Some, None, Result, MatchResult, true}
+use Rattle.std.specs.Prelude.{◌≡◌, ℕ, Bool, List, [], ◌∷◌, ◌++◌, codes, map, Option, Some, None, Result, MatchResult, false, true}
 use Rattle.clap.specs.Kinds.{Kinds}
-use Rattle.clap.specs.Words.{App, Row, Rule, Text, fault_of, new_app, new_rule, subcommand_of, subcommand_rows_of, with_rule, with_subcommand}
+use Rattle.clap.specs.Words.{App, Row, Rule, Text, app_of, fault_of, new_app, new_rule, subcommand_of, subcommand_rows_of, with_rule, with_subcommand}
 use Rattle.clap.specs.Simple.{on_top}
+use Rattle.clap.specs.declared.builder.command.Command.{Command}
+use Rattle.clap.specs.declared.builder.command.Command.TheViews.{out-Command}
 use Rattle.clap.specs.declared.parser.matches.ArgMatches.{ArgMatches}
 use Rattle.fpl_words.specs.declared.words.WordFault.{WordFault}
 use Rattle.fpl_words.specs.declared.words.WordFault.TheVariants as fault
@@ -14,6 +16,18 @@ wanted name = record (new_rule name) { long = Some name; required = true }
 -- an option that may be left out
 abbrev pub offered : List ℕ → Rule
 offered name = record (new_rule name) { long = Some name }
+
+-- an option that has to be given, or may be left out
+abbrev pub option : Bool → List ℕ → Rule
+option required name = record (new_rule name) { long = Some name; required = required }
+
+-- a command with these options, each of which has to be given, or may be left out
+abbrev pub with_options : App → Bool → List (List ℕ) → App
+with_options a required names = on_top (λ s. record s { rules = s.rules ++ map (option required) names }) a
+
+-- a command of this name, with the options that have to be given and those that may be left out
+abbrev pub command_of : List ℕ → List (List ℕ) → List (List ℕ) → App
+command_of name wanted offered = with_options (with_options (new_app name) true wanted) false offered
 
 -- score [--profile N]
 abbrev pub score : App
@@ -57,6 +71,11 @@ abbrev pub season_host : App
 season_host =
     let front = with_subcommand (with_subcommand (with_subcommand bare score.top) pipe.top) serve.top in
     with_subcommand (with_subcommand (with_subcommand front load.top) report.top) generate.top
+
+-- clap has this command, and none of its options counts for the commands below it
+pub record IsCommand (a : App) (c : Command) : Type 0 where
+  pub app : app_of c ≡ a
+  pub local : (out-Command c).has_globals ≡ false
 
 -- what is said where there is no fault
 abbrev pub unless_faulty : {T : Type 0} → Kinds → Option T → Option T

@@ -1,8 +1,8 @@
 // The commands and their options, as `clap` knows them.
 ghost use Rattle.std.specs.Prelude.{◌≡◌, IfOk, false, map, option_map};
-ghost use Rattle.clap.specs.Words.{app_of, first_of, found_of, rows_of, rule_of, subcommand_rows_of, with_rule, with_subcommand};
+ghost use Rattle.clap.specs.Words.{app_of, first_of, found_of, rows_of, rule_of, subcommand_rows_of, with_subcommand};
 ghost use Rattle.clap.specs.declared.builder.command.Command.TheViews.{out-Command};
-ghost use Rattle.fpl_words.specs.Options.{IsParsed, wanted, offered, bare, season_host, score, pipe, serve, load, report, generate};
+ghost use Rattle.fpl_words.specs.Options.{IsCommand, IsParsed, bare, command_of, option, season_host, with_options};
 
 use crate::words::WordFault;
 use clap::error::ErrorKind;
@@ -23,31 +23,23 @@ pub fn parse<'a>(alloc: Global, words: &'a [&'a str]) -> Result<ArgMatches<'a>, 
     }
 }
 
+// The host with its commands: the options of each that have to be given, and then those that may be left out.
 fn host_command<'a>(alloc: Global) -> Result<Command<'a>, AllocError>
-    ensures app { IfOk result (λ c. app_of c ≡ season_host) }
-    ensures local { IfOk result (λ c. (out-Command c).has_globals ≡ false) }
+    ensures { IfOk result (IsCommand season_host) }
 {
-    let command = front_command(alloc)?;
-    let command = with_command(command, load_command(alloc)?)?;
-    let command = with_command(command, report_command(alloc)?)?;
-    with_command(command, generate_command(alloc)?)
-}
-
-fn front_command<'a>(alloc: Global) -> Result<Command<'a>, AllocError>
-    ensures app { IfOk result
-        (λ c. app_of c
-        ≡ with_subcommand (with_subcommand (with_subcommand bare score.top) pipe.top) serve.top) }
-    ensures local { IfOk result (λ c. (out-Command c).has_globals ≡ false) }
-{
-    let command = bare_command(alloc);
-    let command = with_command(command, score_command(alloc)?)?;
-    let command = with_command(command, pipe_command(alloc)?)?;
-    with_command(command, serve_command(alloc)?)
+    let command = with_command(alloc, bare_command(alloc), "score", &[], &["profile"])?;
+    let command = with_command(alloc, command, "pipe", &["key"], &["store"])?;
+    let wanted = &["key", "port", "connections"];
+    let command = with_command(alloc, command, "serve", wanted, &["store"])?;
+    let wanted = &["key", "store", "dir", "split"];
+    let command = with_command(alloc, command, "load", wanted, &["profile"])?;
+    let wanted = &["key", "store", "what"];
+    let command = with_command(alloc, command, "report", wanted, &["id", "gameweek"])?;
+    with_command(alloc, command, "generate", &["seed"], &["store"])
 }
 
 fn bare_command<'a>(alloc: Global) -> Command<'a>
-    ensures app { app_of result ≡ bare }
-    ensures local { (out-Command result).has_globals ≡ false }
+    ensures { IsCommand bare result }
 {
     Command::new(alloc, "kowhirupe")
         .no_binary_name(true)
@@ -57,112 +49,60 @@ fn bare_command<'a>(alloc: Global) -> Command<'a>
         .subcommand_required(true)
 }
 
-fn score_command<'a>(alloc: Global) -> Result<Command<'a>, AllocError>
-    ensures app { IfOk result (λ c. app_of c ≡ score) }
-    ensures local { IfOk result (λ c. (out-Command c).has_globals ≡ false) }
-{
-    offering(alloc, Command::new(alloc, "score"), "profile")
-}
-
-fn pipe_command<'a>(alloc: Global) -> Result<Command<'a>, AllocError>
-    ensures app { IfOk result (λ c. app_of c ≡ pipe) }
-    ensures local { IfOk result (λ c. (out-Command c).has_globals ≡ false) }
-{
-    let command = wanting(alloc, Command::new(alloc, "pipe"), "key")?;
-    offering(alloc, command, "store")
-}
-
-fn serve_command<'a>(alloc: Global) -> Result<Command<'a>, AllocError>
-    ensures app { IfOk result (λ c. app_of c ≡ serve) }
-    ensures local { IfOk result (λ c. (out-Command c).has_globals ≡ false) }
-{
-    let command = wanting(alloc, Command::new(alloc, "serve"), "key")?;
-    let command = wanting(alloc, command, "port")?;
-    let command = wanting(alloc, command, "connections")?;
-    offering(alloc, command, "store")
-}
-
-fn load_command<'a>(alloc: Global) -> Result<Command<'a>, AllocError>
-    ensures app { IfOk result (λ c. app_of c ≡ load) }
-    ensures local { IfOk result (λ c. (out-Command c).has_globals ≡ false) }
-{
-    let command = wanting(alloc, Command::new(alloc, "load"), "key")?;
-    let command = wanting(alloc, command, "store")?;
-    let command = wanting(alloc, command, "dir")?;
-    let command = wanting(alloc, command, "split")?;
-    offering(alloc, command, "profile")
-}
-
-fn report_command<'a>(alloc: Global) -> Result<Command<'a>, AllocError>
-    ensures app { IfOk result (λ c. app_of c ≡ report) }
-    ensures local { IfOk result (λ c. (out-Command c).has_globals ≡ false) }
-{
-    let command = wanting(alloc, Command::new(alloc, "report"), "key")?;
-    let command = wanting(alloc, command, "store")?;
-    let command = wanting(alloc, command, "what")?;
-    let command = offering(alloc, command, "id")?;
-    offering(alloc, command, "gameweek")
-}
-
-fn generate_command<'a>(alloc: Global) -> Result<Command<'a>, AllocError>
-    ensures app { IfOk result (λ c. app_of c ≡ generate) }
-    ensures local { IfOk result (λ c. (out-Command c).has_globals ≡ false) }
-{
-    let command = wanting(alloc, Command::new(alloc, "generate"), "seed")?;
-    offering(alloc, command, "store")
-}
-
-// The command with an option that has to be given.
-fn wanting<'a>(
+// The command with one more below it, of this name and with these options.
+fn with_command<'a>(
     alloc: Global,
     command: Command<'a>,
     name: &'a str,
+    wanted: &[&'a str],
+    offered: &[&'a str],
 ) -> Result<Command<'a>, AllocError>
-    ensures app { IfOk result
-        (λ c. app_of c ≡ with_rule (app_of command.entry) (wanted name.entry.now)) }
-    ensures local { IfOk result
-        (λ c. (out-Command c).has_globals ≡ (out-Command command.entry).has_globals) }
+    requires { (out-Command command).has_globals ≡ false }
+    ensures { IfOk result (IsCommand (with_subcommand (app_of command.entry) (command_of
+        name.entry.now (map (λ n. n.now) wanted.now) (map (λ n. n.now) offered.now)).top)) }
 {
-    command.arg(wanted_option(alloc, name))
-}
-
-// The command with an option that may be left out.
-fn offering<'a>(
-    alloc: Global,
-    command: Command<'a>,
-    name: &'a str,
-) -> Result<Command<'a>, AllocError>
-    ensures app { IfOk result
-        (λ c. app_of c ≡ with_rule (app_of command.entry) (offered name.entry.now)) }
-    ensures local { IfOk result
-        (λ c. (out-Command c).has_globals ≡ (out-Command command.entry).has_globals) }
-{
-    command.arg(offered_option(alloc, name))
-}
-
-fn wanted_option<'a>(alloc: Global, name: &'a str) -> Arg<'a>
-    ensures rule { rule_of result ≡ wanted name.entry.now }
-    ensures local { result.global ≡ false }
-{
-    Arg::new(alloc, name).long(name).required(true)
-}
-
-fn offered_option<'a>(alloc: Global, name: &'a str) -> Arg<'a>
-    ensures rule { rule_of result ≡ offered name.entry.now }
-    ensures local { result.global ≡ false }
-{
-    Arg::new(alloc, name).long(name)
-}
-
-// The command with one more command below it.
-fn with_command<'a>(command: Command<'a>, other: Command<'a>) -> Result<Command<'a>, AllocError>
-    requires plain { (out-Command other).has_globals ≡ false }
-    ensures app { IfOk result
-        (λ c. app_of c ≡ with_subcommand (app_of command.entry) (app_of other.entry).top) }
-    ensures local { IfOk result
-        (λ c. (out-Command c).has_globals ≡ (out-Command command.entry).has_globals) }
-{
+    let other = command_of(alloc, name, wanted, offered)?;
     command.subcommand(other)
+}
+
+// A command of this name with these options.
+fn command_of<'a>(
+    alloc: Global,
+    name: &'a str,
+    wanted: &[&'a str],
+    offered: &[&'a str],
+) -> Result<Command<'a>, AllocError>
+    ensures { IfOk result (IsCommand
+        (command_of name.entry.now (map (λ n. n.now) wanted.now) (map (λ n. n.now) offered.now))) }
+{
+    let command = with_options(alloc, Command::new(alloc, name), true, wanted)?;
+    with_options(alloc, command, false, offered)
+}
+
+// The command with these options, each of which has to be given, or may be left out.
+fn with_options<'a>(
+    alloc: Global,
+    command: Command<'a>,
+    required: bool,
+    names: &[&'a str],
+) -> Result<Command<'a>, AllocError>
+    requires { (out-Command command).has_globals ≡ false }
+    ensures { IfOk result (IsCommand (with_options (app_of command.entry) required
+        (map (λ n. n.now) names.now))) }
+{
+    let mut command = command;
+    for name in names {
+        command = command.arg(option(alloc, name, required))?;
+    }
+    Ok(command)
+}
+
+// The option `--name`, which has to be given, or may be left out.
+fn option<'a>(alloc: Global, name: &'a str, required: bool) -> Arg<'a>
+    ensures rule { rule_of result ≡ option required name.entry.now }
+    ensures local { result.global ≡ false }
+{
+    Arg::new(alloc, name).long(name).required(required)
 }
 
 /// The value of an option among what `clap` found for a command; `None` where it was not given.

@@ -1,7 +1,0 @@
-use Rattle.std.proofs.Common.{◌∙◌}
-use Rattle.std.proofs.lemmas.Result.{IfOk-weaker}
-use Rattle.fpl_words.proofs.OptionLemmas.{or_not}
-use Rattle.fpl_words.proofs.options.offering.Goals as goal
-
-pub returns-clause-local : goal.returns-clause-local
-returns-clause-local c = IfOk-weaker c.arg.result _ _ (λ m h. h.globals ∙ or_not _ _ c.offered_option.ensures.local) c.arg.ensures
