@@ -31,7 +31,7 @@ pub(crate) fn number_of(text: &str) -> Option<Number>
 
 // The value of digits, where there is nothing else and it is far from the end of its type.
 #[inline(always)]
-fn few_digits(bytes: &[u8]) -> Option<u64>
+pub(crate) fn few_digits(bytes: &[u8]) -> Option<u64>
     ensures { IfSome result
         (λ n. IsNumeral 10 bytes.now × (digits_value 10 bytes.now ≡ n)) }
 {

@@ -1,11 +1,13 @@
 // From a text to its tree, in one pass over the tokens.
-ghost use Rattle.std.specs.Prelude.{◌≡◌, ◌<◌, ◌≤◌, ◌∷◌, ◌++◌, [], ℕ, Err, IfOk, OnOk, length, None, Some};
+ghost use Rattle.std.specs.Prelude.{◌≡◌, ◌<◌, ◌≤◌, ◌∷◌, ◌++◌, [], ℕ, List, Err, IfOk, IfSome, OnOk, length, None, Some};
 ghost use Rattle.json.specs.Json.{value, items, members, parse_map};
-ghost use Rattle.serde_json.specs.Data.{array, no_members};
+ghost use Rattle.json.specs.Reads.{token_of};
+ghost use Rattle.json.specs.Token.{Token as JsonToken};
+ghost use Rattle.serde_json.specs.Data.{array, no_members, number, unsigned};
 ghost use Rattle.serde_json.specs.Read.{converted, of_items, of_json, of_members, read as read_text};
 ghost use Rattle.json_tree.specs.Trees.{items_before, items_view, members_view, view, wholes};
 
-use crate::number::{Number, number_of};
+use crate::number::{Number, few_digits, number_of};
 use crate::tree::Tree;
 use json::{Reader, Scratch, Token};
 use std::alloc::{AllocError, AllocFailed, Global};
@@ -84,6 +86,24 @@ fn read<'a>(alloc: Global, reader: &mut Reader<'a>, depth: usize) -> Result<Tree
         → converted of_json (value depth reader.old) ≡ None }
 {
     let token = reader.next().ok_or(ParseFault::Invalid)?;
+    read_from(alloc, reader, depth, token)
+}
+
+// The tree that begins with a token.
+#[cycle(read)]
+#[inline(always)]
+fn read_from<'a>(
+    alloc: Global,
+    reader: &mut Reader<'a>,
+    depth: usize,
+    token: Token<'a>,
+) -> Result<Tree<'a>, ParseFault>
+    ensures ok { IfOk result (λ t. converted of_json (value depth (token_of token.entry ∷ reader.old))
+        ≡ Some (view t, reader.new)) }
+    ensures shorter { OnOk result (length reader.new ≤ length reader.old) }
+    ensures invalid { result ≡ Err ParseFault.Invalid
+        → converted of_json (value depth (token_of token.entry ∷ reader.old)) ≡ None }
+{
     match token {
         Token::String(text) => Ok(Tree::Text(text)),
         Token::Number(text) => match number_of(text) {
@@ -126,8 +146,9 @@ fn read_items<'a>(
 {
     let mut numbers = Vec::new(alloc);
     'numbers: while !reader.take_end_array() {
-        let item = read(alloc, reader, depth)?;
-        let Some(n) = item.as_u64() else {
+        let token = reader.next().ok_or(ParseFault::Invalid)?;
+        let Some(n) = few_in(&token) else {
+            let item = read_from(alloc, reader, depth, token)?;
             let mut found = trees_of(alloc, numbers)?;
             found.push(item)?;
             read_others(alloc, reader, depth, &mut found)?;
@@ -138,6 +159,22 @@ fn read_items<'a>(
     }
     give_back(&mut numbers);
     Ok(Tree::Numbers(numbers))
+}
+
+// The whole number of a few digits that a token is.
+#[inline(always)]
+fn few_in(token: &Token<'_>) -> Option<u64>
+    ensures { IfSome result (λ n. (depth : ℕ) (rest : List JsonToken)
+        → converted of_json (value depth (token_of token.now ∷ rest))
+        ≡ Some (number (unsigned n), rest)) }
+{
+    let Token::Number(text) = token else {
+        return None;
+    };
+    match few_digits(text.as_bytes()) {
+        Some(n) => Some(n),
+        None => None,
+    }
 }
 
 // The rest of a list, behind what was found of it.

@@ -1,9 +1,8 @@
-use Rattle.std.proofs.Common.{◌≡◌, ◌-◌, ◌<◌, [], ◌∷◌, ◌++◌, length, Some, None, sym, ap, ap₂, ◌∙◌, arith, rules}
-use Rattle.json.specs.Token.{Token}
+use Rattle.std.proofs.Common.{◌≡◌, ◌-◌, ◌<◌, [], ◌∷◌, ◌++◌, length, Some, None, refl, sym, ap, ap₂, ◌∙◌, arith, rules}
 use Rattle.json.specs.Json.{parse_map, after_end_array, read_key, items, members, value}
 use Rattle.json.specs.Reads.{token_of}
 use Rattle.json.proofs.Grammar.{value_is, value-begin_array, value-begin_object, read_key-shorter}
-use Rattle.serde_json.specs.Data.{null, boolean, number, string, array, object, put}
+use Rattle.serde_json.specs.Data.{null, boolean, number, string, unsigned, array, object, put}
 use Rattle.serde_json.specs.Read.{of_json, of_items, of_members, converted}
 use Rattle.json_tree.proofs.ReadingLemmas.{converted-array, converted-object, item_refused, items_over, member_read, member_refused, key_refused, members_over}
 use Rattle.json_tree.specs.declared.tree.Tree.{Bool, Null, Number, Text, the_lemmas}
@@ -16,84 +15,90 @@ read-returns-in_err-token-clause-invalid t c refused =
     let empty : c.args.reader.now ≡ [] = grind arith in
     ap (converted of_json) (ap (value c.args.depth) empty ∙ value_is c.args.depth [])
 
-pub read-returns-then-depth-eq0-clause-invalid : goal.read-returns-then-depth-eq0-clause-invalid
-unfolding value
-read-returns-then-depth-eq0-clause-invalid t c never =
+pub read-returns-clause-ok : goal.read-returns-clause-ok
+read-returns-clause-ok t c =
     let first : c.args.reader.now ≡ token_of c.in_ok-token.token ∷ c.next.new.self = grind arith in
-    let none : c.args.depth ≡ 0 = omega arith in
-    ap (converted of_json) (ap₂ value none (first ∙ ap (λ k. token_of k ∷ c.next.new.self) c.in-BeginArray.is))
+    rw first c.read_from.ensures.ok
 
-pub read-returns-then-depth-eq0-2-clause-invalid : goal.read-returns-then-depth-eq0-2-clause-invalid
-unfolding value
-read-returns-then-depth-eq0-2-clause-invalid t c never =
+pub read-returns-clause-invalid : goal.read-returns-clause-invalid
+read-returns-clause-invalid t c refused =
     let first : c.args.reader.now ≡ token_of c.in_ok-token.token ∷ c.next.new.self = grind arith in
-    let none : c.args.depth ≡ 0 = omega arith in
-    ap (converted of_json) (ap₂ value none (first ∙ ap (λ k. token_of k ∷ c.next.new.self) c.in-BeginObject.is))
+    ap (converted of_json) (ap (value c.args.depth) first) ∙ c.read_from.ensures.invalid refused
 
-pub read-returns-else-depth-eq0-clause-invalid : goal.read-returns-else-depth-eq0-clause-invalid
-read-returns-else-depth-eq0-clause-invalid t c refused =
-    let first : c.args.reader.now ≡ token_of c.in_ok-token.token ∷ c.next.new.self = grind arith in
-    let opened = ap (converted of_json) (ap (value c.args.depth) (first ∙ ap (λ k. token_of k ∷ c.next.new.self) c.in-BeginArray.is) ∙ value-begin_array c.args.depth c.next.new.self (omega arith)) ∙ converted-array (items (value (c.args.depth - 1)) (length c.next.new.self) c.next.new.self) in
+pub read_from-returns-then-depth-eq0-clause-invalid : goal.read_from-returns-then-depth-eq0-clause-invalid
+unfolding value
+read_from-returns-then-depth-eq0-clause-invalid t c never =
+    let none : c.args.depth ≡ 0 = omega arith in
+    ap (converted of_json) (ap₂ value none (ap (λ k. token_of k ∷ c.args.reader.now) c.in-BeginArray.is))
+
+pub read_from-returns-then-depth-eq0-2-clause-invalid : goal.read_from-returns-then-depth-eq0-2-clause-invalid
+unfolding value
+read_from-returns-then-depth-eq0-2-clause-invalid t c never =
+    let none : c.args.depth ≡ 0 = omega arith in
+    ap (converted of_json) (ap₂ value none (ap (λ k. token_of k ∷ c.args.reader.now) c.in-BeginObject.is))
+
+pub read_from-returns-else-depth-eq0-clause-invalid : goal.read_from-returns-else-depth-eq0-clause-invalid
+read_from-returns-else-depth-eq0-clause-invalid t c refused =
+    let r = c.args.reader.now in
+    let opened = ap (converted of_json) (ap (value c.args.depth) (ap (λ k. token_of k ∷ r) c.in-BeginArray.is) ∙ value-begin_array c.args.depth r (omega arith)) ∙ converted-array (items (value (c.args.depth - 1)) (length r) r) in
     opened ∙ ap (parse_map array) (c.read_items.ensures.invalid (grind arith))
 
-pub read-returns-in_err-read_members-in-BeginObject-clause-invalid : goal.read-returns-in_err-read_members-in-BeginObject-clause-invalid
-read-returns-in_err-read_members-in-BeginObject-clause-invalid t c refused =
-    let first : c.args.reader.now ≡ token_of c.in_ok-token.token ∷ c.next.new.self = grind arith in
-    let opened = ap (converted of_json) (ap (value c.args.depth) (first ∙ ap (λ k. token_of k ∷ c.next.new.self) c.in-BeginObject.is) ∙ value-begin_object c.args.depth c.next.new.self (omega arith)) ∙ converted-object (members (value (c.args.depth - 1)) (length c.next.new.self) c.next.new.self) in
+pub read_from-returns-in_err-read_members-in-BeginObject-clause-invalid : goal.read_from-returns-in_err-read_members-in-BeginObject-clause-invalid
+read_from-returns-in_err-read_members-in-BeginObject-clause-invalid t c refused =
+    let r = c.args.reader.now in
+    let opened = ap (converted of_json) (ap (value c.args.depth) (ap (λ k. token_of k ∷ r) c.in-BeginObject.is) ∙ value-begin_object c.args.depth r (omega arith)) ∙ converted-object (members (value (c.args.depth - 1)) (length r) r) in
     opened ∙ ap (parse_map object) (c.read_members.ensures.invalid (grind arith))
 
-pub read-returns-in-String-clause-ok : goal.read-returns-in-String-clause-ok
-read-returns-in-String-clause-ok t c =
-    let first : c.args.reader.now ≡ token_of c.in_ok-token.token ∷ c.next.new.self = grind arith in
-    let is : c.args.reader.now ≡ Token.string c.in-String.text.now ∷ c.next.new.self = grind (arith, first) in
+pub read_from-returns-in-String-clause-ok : goal.read_from-returns-in-String-clause-ok
+read_from-returns-in-String-clause-ok t c =
     let seen : view (Text c.in-String.text) ≡ string c.in-String.text.now = search (rules, the_lemmas) in
-    ap (converted of_json) (ap (value c.args.depth) is ∙ value_is c.args.depth _) ∙ ap (λ d. Some (d, c.next.new.self)) (sym seen)
+    ap (converted of_json) (ap (value c.args.depth) (ap (λ k. token_of k ∷ c.args.reader.now) c.in-String.is) ∙ value_is c.args.depth _) ∙ ap (λ d. Some (d, c.args.reader.now)) (sym seen)
 
-pub read-returns-in-Bool-clause-ok : goal.read-returns-in-Bool-clause-ok
-read-returns-in-Bool-clause-ok t c =
-    let first : c.args.reader.now ≡ token_of c.in_ok-token.token ∷ c.next.new.self = grind arith in
-    let is : c.args.reader.now ≡ Token.boolean c.in-Bool.b ∷ c.next.new.self = grind (arith, first) in
+pub read_from-returns-in-Bool-clause-ok : goal.read_from-returns-in-Bool-clause-ok
+read_from-returns-in-Bool-clause-ok t c =
     let seen : view (Bool c.in-Bool.b) ≡ boolean c.in-Bool.b = search (rules, the_lemmas) in
-    ap (converted of_json) (ap (value c.args.depth) is ∙ value_is c.args.depth _) ∙ ap (λ d. Some (d, c.next.new.self)) (sym seen)
+    ap (converted of_json) (ap (value c.args.depth) (ap (λ k. token_of k ∷ c.args.reader.now) c.in-Bool.is) ∙ value_is c.args.depth _) ∙ ap (λ d. Some (d, c.args.reader.now)) (sym seen)
 
-pub read-returns-in-Null-clause-ok : goal.read-returns-in-Null-clause-ok
-read-returns-in-Null-clause-ok t c =
-    let first : c.args.reader.now ≡ token_of c.in_ok-token.token ∷ c.next.new.self = grind arith in
-    let is : c.args.reader.now ≡ Token.null ∷ c.next.new.self = grind (arith, first) in
+pub read_from-returns-in-Null-clause-ok : goal.read_from-returns-in-Null-clause-ok
+read_from-returns-in-Null-clause-ok t c =
     let seen : view (Null) ≡ null = search (rules, the_lemmas) in
-    ap (converted of_json) (ap (value c.args.depth) is ∙ value_is c.args.depth _) ∙ ap (λ d. Some (d, c.next.new.self)) (sym seen)
+    ap (converted of_json) (ap (value c.args.depth) (ap (λ k. token_of k ∷ c.args.reader.now) c.in-Null.is) ∙ value_is c.args.depth _) ∙ ap (λ d. Some (d, c.args.reader.now)) (sym seen)
 
-pub read-returns-in-Some-clause-ok : goal.read-returns-in-Some-clause-ok
-read-returns-in-Some-clause-ok t c =
-    let first : c.args.reader.now ≡ token_of c.in_ok-token.token ∷ c.next.new.self = grind arith in
-    let is : c.args.reader.now ≡ Token.number c.in-Number.text.now ∷ c.next.new.self = grind (arith, first) in
+pub read_from-returns-in-Some-clause-ok : goal.read_from-returns-in-Some-clause-ok
+read_from-returns-in-Some-clause-ok t c =
     let seen : view (Number c.in-Some.number) ≡ number (number_view c.in-Some.number) = search (rules, the_lemmas) in
-    ap (converted of_json) (ap (value c.args.depth) is ∙ value_is c.args.depth _) ∙ rw (← c.in-Some.ensures, seen)
+    ap (converted of_json) (ap (value c.args.depth) (ap (λ k. token_of k ∷ c.args.reader.now) c.in-Number.is) ∙ value_is c.args.depth _) ∙ rw (← c.in-Some.ensures, seen)
 
-pub read-returns-in-None-clause-invalid : goal.read-returns-in-None-clause-invalid
-read-returns-in-None-clause-invalid t c refused =
-    let first : c.args.reader.now ≡ token_of c.in_ok-token.token ∷ c.next.new.self = grind arith in
-    let is : c.args.reader.now ≡ Token.number c.in-Number.text.now ∷ c.next.new.self = grind (arith, first) in
-    ap (converted of_json) (ap (value c.args.depth) is ∙ value_is c.args.depth _) ∙ rw (← c.in-None.ensures)
+pub read_from-returns-in-None-clause-invalid : goal.read_from-returns-in-None-clause-invalid
+read_from-returns-in-None-clause-invalid t c refused =
+    ap (converted of_json) (ap (value c.args.depth) (ap (λ k. token_of k ∷ c.args.reader.now) c.in-Number.is) ∙ value_is c.args.depth _) ∙ rw (← c.in-None.ensures)
 
-pub read-returns-in-EndObject-clause-invalid : goal.read-returns-in-EndObject-clause-invalid
-read-returns-in-EndObject-clause-invalid t c refused =
-    let first : c.args.reader.now ≡ token_of c.in_ok-token.token ∷ c.next.new.self = grind arith in
-    let none : value c.args.depth c.args.reader.now ≡ None = rw (value_is c.args.depth c.args.reader.now, first) (grind arith) in
+pub read_from-returns-in-EndObject-clause-invalid : goal.read_from-returns-in-EndObject-clause-invalid
+read_from-returns-in-EndObject-clause-invalid t c refused =
+    let none : value c.args.depth (token_of c.args.token ∷ c.args.reader.now) ≡ None = rw (value_is c.args.depth (token_of c.args.token ∷ c.args.reader.now)) (grind arith) in
     ap (converted of_json) none
 
-pub read-returns-else-depth-eq0-clause-ok : goal.read-returns-else-depth-eq0-clause-ok
-read-returns-else-depth-eq0-clause-ok t c =
-    let first : c.args.reader.now ≡ token_of c.in_ok-token.token ∷ c.next.new.self = grind arith in
-    let opened = ap (converted of_json) (ap (value c.args.depth) (first ∙ ap (λ k. token_of k ∷ c.next.new.self) c.in-BeginArray.is) ∙ value-begin_array c.args.depth c.next.new.self (omega arith)) ∙ converted-array (items (value (c.args.depth - 1)) (length c.next.new.self) c.next.new.self) in
+pub read_from-returns-else-depth-eq0-clause-ok : goal.read_from-returns-else-depth-eq0-clause-ok
+read_from-returns-else-depth-eq0-clause-ok t c =
+    let r = c.args.reader.now in
+    let opened = ap (converted of_json) (ap (value c.args.depth) (ap (λ k. token_of k ∷ r) c.in-BeginArray.is) ∙ value-begin_array c.args.depth r (omega arith)) ∙ converted-array (items (value (c.args.depth - 1)) (length r) r) in
     rw opened c.read_items.ensures.ok
 
-pub read-returns-in_ok-read_members-in-BeginObject-clause-ok : goal.read-returns-in_ok-read_members-in-BeginObject-clause-ok
-read-returns-in_ok-read_members-in-BeginObject-clause-ok t c =
-    let first : c.args.reader.now ≡ token_of c.in_ok-token.token ∷ c.next.new.self = grind arith in
-    let opened = ap (converted of_json) (ap (value c.args.depth) (first ∙ ap (λ k. token_of k ∷ c.next.new.self) c.in-BeginObject.is) ∙ value-begin_object c.args.depth c.next.new.self (omega arith)) ∙ converted-object (members (value (c.args.depth - 1)) (length c.next.new.self) c.next.new.self) in
+pub read_from-returns-in_ok-read_members-in-BeginObject-clause-ok : goal.read_from-returns-in_ok-read_members-in-BeginObject-clause-ok
+read_from-returns-in_ok-read_members-in-BeginObject-clause-ok t c =
+    let r = c.args.reader.now in
+    let opened = ap (converted of_json) (ap (value c.args.depth) (ap (λ k. token_of k ∷ r) c.in-BeginObject.is) ∙ value-begin_object c.args.depth r (omega arith)) ∙ converted-object (members (value (c.args.depth - 1)) (length r) r) in
     let found = c.in_ok-read_members-in-BeginObject in
     opened ∙ ap (parse_map object) found.ensures.ok ∙ ap (λ d. Some (d, c.read_members.new.reader)) (sym (view-Object found.field-0))
+
+pub read_items-returns-in_err-token-clause-invalid : goal.read_items-returns-in_err-token-clause-invalid
+read_items-returns-in_err-token-clause-invalid t c refused =
+    let p = value c.args.depth in
+    let l = c.numbers in
+    let n = l.invariant.0 in
+    let going : (after_end_array l.reader ≡ None) × (c.take_end_array.new.self ≡ l.reader) = grind arith in
+    let empty : l.reader ≡ [] = grind arith in
+    l.invariant.2 ∙ ap (parse_map (items_before (wholes l.numbers.items))) (item_refused p n l.reader going.0 (ap (converted of_json) (ap p empty ∙ value_is c.args.depth [])))
 
 pub read_items-returns-in_err-item-clause-invalid : goal.read_items-returns-in_err-item-clause-invalid
 read_items-returns-in_err-item-clause-invalid t c refused =
@@ -101,7 +106,8 @@ read_items-returns-in_err-item-clause-invalid t c refused =
     let l = c.numbers in
     let n = l.invariant.0 in
     let going : (after_end_array l.reader ≡ None) × (c.take_end_array.new.self ≡ l.reader) = grind arith in
-    l.invariant.2 ∙ ap (parse_map (items_before (wholes l.numbers.items))) (item_refused p n l.reader going.0 (rw (← going.1) (c.read.ensures.invalid (grind arith))))
+    let first : l.reader ≡ token_of c.in_ok-token.token ∷ c.next.new.self = grind arith in
+    l.invariant.2 ∙ ap (parse_map (items_before (wholes l.numbers.items))) (item_refused p n l.reader going.0 (ap (λ ts. converted of_json (p ts)) first ∙ c.read_from.ensures.invalid (grind arith)))
 
 pub read_items-numbers-preserved : goal.read_items-numbers-preserved
 read_items-numbers-preserved t c =
@@ -109,13 +115,13 @@ read_items-numbers-preserved t c =
     let l = c.numbers in
     let n = l.invariant.0 in
     let going : (after_end_array l.reader ≡ None) × (c.take_end_array.new.self ≡ l.reader) = grind arith in
-    let done = c.in_ok-item.ensures in
     let k = c.in-Some.n in
-    let r = c.read.new.reader in
-    let less : length r < length l.reader = rw (← going.1) done.shorter in (
+    let r = c.next.new.self in
+    let first : l.reader ≡ token_of c.in_ok-token.token ∷ r = grind arith in
+    let less : length r < length l.reader = rw first (omega arith) in (
       n - 1,
       omega (arith, l.invariant.1),
-      l.invariant.2 ∙ number_read p l.numbers.items (view c.in_ok-item.item) k n l.reader r (omega (arith, l.invariant.1)) going.0 (rw (← going.1) done.ok) (sym c.as_u64.ensures ∙ c.in-Some.is)
+      l.invariant.2 ∙ number_read p l.numbers.items (number (unsigned k)) k n l.reader r (omega (arith, l.invariant.1)) going.0 (ap (λ ts. converted of_json (p ts)) first ∙ c.in-Some.ensures c.args.depth r) refl
           ∙ ap (λ ns. parse_map (items_before (wholes (ns ++ k ∷ []))) (converted of_items (items p (n - 1) r))) (sym c.make_room.ensures)
           ∙ ap (λ ns. parse_map (items_before (wholes ns)) (converted of_items (items p (n - 1) r))) (sym c.in_ok-push-2.ensures.items),
       omega (arith, l.invariant.3),
@@ -127,12 +133,13 @@ read_items-returns-in_err-read_others-clause-invalid t c refused =
     let l = c.numbers in
     let n = l.invariant.0 in
     let going : (after_end_array l.reader ≡ None) × (c.take_end_array.new.self ≡ l.reader) = grind arith in
+    let first : l.reader ≡ token_of c.in_ok-token.token ∷ c.next.new.self = grind arith in
     let done = c.in_ok-item.ensures in
     let v = c.in_ok-item.item in
-    let r = c.read.new.reader in
-    let less : length r < length l.reader = rw (← going.1) done.shorter in
+    let r = c.read_from.new.reader in
+    let less : length r < length l.reader = rw first (omega (arith, done.shorter)) in
     let found : c.push.new.self.items ≡ wholes l.numbers.items ++ v ∷ [] = c.in_ok-push.ensures.items ∙ ap (λ ts. ts ++ v ∷ []) c.in_ok-found.ensures in
-    l.invariant.2 ∙ one_read p (wholes l.numbers.items) v n l.reader r (omega (arith, l.invariant.1)) going.0 (rw (← going.1) done.ok)
+    l.invariant.2 ∙ one_read p (wholes l.numbers.items) v n l.reader r (omega (arith, l.invariant.1)) going.0 (ap (λ ts. converted of_json (p ts)) first ∙ done.ok)
     ∙ ap (λ vs. parse_map (items_before vs) (converted of_items (items p (n - 1) r))) (sym found)
     ∙ c.read_others.ensures.invalid (grind arith) (n - 1) (omega (arith, l.invariant.1))
 
@@ -142,13 +149,14 @@ read_items-returns-in_default-clause-ok t c =
     let l = c.numbers in
     let n = l.invariant.0 in
     let going : (after_end_array l.reader ≡ None) × (c.take_end_array.new.self ≡ l.reader) = grind arith in
+    let first : l.reader ≡ token_of c.in_ok-token.token ∷ c.next.new.self = grind arith in
     let done = c.in_ok-item.ensures in
     let v = c.in_ok-item.item in
-    let r = c.read.new.reader in
-    let less : length r < length l.reader = rw (← going.1) done.shorter in
+    let r = c.read_from.new.reader in
+    let less : length r < length l.reader = rw first (omega (arith, done.shorter)) in
     let found : c.push.new.self.items ≡ wholes l.numbers.items ++ v ∷ [] = c.in_ok-push.ensures.items ∙ ap (λ ts. ts ++ v ∷ []) c.in_ok-found.ensures in
     ap (parse_map array) (
-    l.invariant.2 ∙ one_read p (wholes l.numbers.items) v n l.reader r (omega (arith, l.invariant.1)) going.0 (rw (← going.1) done.ok)
+    l.invariant.2 ∙ one_read p (wholes l.numbers.items) v n l.reader r (omega (arith, l.invariant.1)) going.0 (ap (λ ts. converted of_json (p ts)) first ∙ done.ok)
     ∙ ap (λ vs. parse_map (items_before vs) (converted of_items (items p (n - 1) r))) (sym found)
     ∙ c.in_ok-read_others.ensures.ok (n - 1) (omega (arith, l.invariant.1))
     ) ∙ ap (λ d. Some (d, c.read_others.new.reader)) (sym (view-List c.read_others.new.found))

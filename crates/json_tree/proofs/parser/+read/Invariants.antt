@@ -6,16 +6,19 @@ use Rattle.json_tree.specs.Trees.{items_before, members_view, wholes}
 use Rattle.json_tree.proofs.parser.+read.Given as goal
 
 abbrev pub decreases-read : goal.decreases-read
-decreases-read l = 3 * l.depth
+decreases-read l = 4 * l.depth + 1
+
+abbrev pub decreases-read_from : goal.decreases-read_from
+decreases-read_from l = 4 * l.depth
 
 abbrev pub decreases-read_items : goal.decreases-read_items
-decreases-read_items l = 3 * l.depth + 2
+decreases-read_items l = 4 * l.depth + 3
 
 abbrev pub decreases-read_members : goal.decreases-read_members
-decreases-read_members l = 3 * l.depth + 1
+decreases-read_members l = 4 * l.depth + 2
 
 abbrev pub decreases-read_others : goal.decreases-read_others
-decreases-read_others l = 3 * l.depth + 1
+decreases-read_others l = 4 * l.depth + 2
 
 -- the numbers so far and the items that are still to come are the items of all
 abbrev pub invariant-read_items-numbers : goal.invariant-read_items-numbers
