@@ -1,9 +1,10 @@
 // Lists of slots.
-ghost use Rattle.std.specs.Prelude.{◌≡◌, ◌<◌, ◌+◌, ◌++◌, [], ◌∷◌, IfOk, OnOk, map};
-ghost use Rattle.std.specs.List.{range_with_len};
+ghost use Rattle.std.specs.Prelude.{◌≡◌, ◌==◌, ◌<◌, ◌+◌, ◌++◌, [], ◌∷◌, IfOk, OnOk, map};
+ghost use Rattle.std.specs.List.{list_any, range_with_len};
 ghost use Rattle.rule_book.specs.MatchFacts.{players_in};
 ghost use Rattle.season_book.specs.Commands.{club_ids};
 ghost use Rattle.record_codec.specs.declared.slot.Slot.TheVariants as slot;
+ghost use Rattle.season_records.specs.Touched.{players_left};
 
 use fpl_base::{ClubId, Memory, Name, PlayerId};
 use record_codec::Slot;
@@ -51,15 +52,52 @@ pub fn add_clubs(slots: &mut Vec<Slot>, clubs: &[(ClubId, Name)]) -> Result<(), 
     Ok(())
 }
 
-// Those of the lines of players in a fixture, behind others.
-pub fn add_players(slots: &mut Vec<Slot>, fixture: u32, players: &[PlayerId]) -> Result<(), Memory>
+// Those of the lines of players in a fixture who have none among these lines, behind others.
+pub fn add_left(
+    slots: &mut Vec<Slot>,
+    fixture: u32,
+    players: &[PlayerId],
+    lines: &[(PlayerId, Line)],
+) -> Result<(), Memory>
     ensures { OnOk result
-        (slots.new.items ≡ slots.old.items ++ map (slot.Line fixture) players.now) }
+        (slots.new.items
+        ≡ slots.old.items
+        ++ map (slot.Line fixture) (players_left players.now (players_in lines.now))) }
 {
     'players: for player in players {
+        add_if_left(slots, fixture, *player, lines)?;
+    }
+    Ok(())
+}
+
+// That of a player's line in a fixture where he has none among these lines, behind others.
+fn add_if_left(
+    slots: &mut Vec<Slot>,
+    fixture: u32,
+    player: PlayerId,
+    lines: &[(PlayerId, Line)],
+) -> Result<(), Memory>
+    ensures { OnOk result
+        (slots.new.items
+        ≡ slots.old.items
+        ++ map (slot.Line fixture) (players_left (player ∷ []) (players_in lines.now))) }
+{
+    if !has_line(lines, player) {
         slots.push(Slot::Line(fixture, player.get()))?;
     }
     Ok(())
+}
+
+// Whether a player has one of these lines.
+fn has_line(lines: &[(PlayerId, Line)], player: PlayerId) -> bool
+    ensures { result ≡ list_any (λ p. p == player) (players_in lines.now) }
+{
+    'lines: for line in lines {
+        if line.0 == player {
+            return true;
+        }
+    }
+    false
 }
 
 // Those of lines in a fixture, behind others.

@@ -14,7 +14,7 @@ ghost use Rattle.season_entries.specs.Entries.{AreEntries};
 ghost use Rattle.record_codec.specs.declared.slot.Slot.TheVariants as slot;
 ghost use Rattle.season_records.specs.Touched as records;
 
-use crate::listing::{add_clubs, add_lines, add_players, add_transfers, one, three, two};
+use crate::listing::{add_clubs, add_left, add_lines, add_transfers, one, three, two};
 use crate::seeking::sheet_at;
 use classic_leagues::Leagues;
 use cup_rounds::Cups;
@@ -77,7 +77,7 @@ pub fn season_slots(alloc: Global, last: Slot, clubs: &Clubs) -> Result<Vec<Slot
     Ok(slots)
 }
 
-// Those of a sheet: its fixture, and the lines of the players who had one and of those who have one now.
+// Those of a sheet: its fixture, and the lines of the players who had one and have none now, and of those who have one now.
 fn sheet_slots(
     alloc: Global,
     last: Slot,
@@ -89,10 +89,16 @@ fn sheet_slots(
         (λ slots. slots.items
         ≡ last ∷ slot.Fixture fixture
         ∷ map (slot.Line fixture)
-        (players_in (lines_of matches.now fixture) ++ players_in lines.now)) }
+        (records.players_left (players_in (lines_of matches.now fixture)) (players_in lines.now)
+        ++ players_in lines.now)) }
 {
     let mut slots = two(alloc, last, Slot::Fixture(fixture))?;
-    add_players(&mut slots, fixture, players_before(matches, fixture))?;
+    add_left(
+        &mut slots,
+        fixture,
+        players_before(matches, fixture),
+        lines.as_slice(),
+    )?;
     add_lines(&mut slots, fixture, lines.as_slice())?;
     Ok(slots)
 }

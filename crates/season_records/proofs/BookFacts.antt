@@ -20,7 +20,7 @@ use Rattle.record_codec.specs.Keys.{key_of}
 use Rattle.record_codec.specs.declared.slot.Slot.{Slot}
 use Rattle.record_codec.specs.declared.slot.Slot.TheVariants as slot
 use Rattle.season_records.specs.Records.{last_item, told, told_in}
-use Rattle.season_records.specs.Touched.{touched_by}
+use Rattle.season_records.specs.Touched.{players_left, touched_by}
 use Rattle.season_records.proofs.FactCommands.{FactsKeep, club_keeps, deadline_keeps, drop_keeps, finished_keeps, fixture_keeps, gone_keeps, line_keeps, move_keeps, player_keeps, price_keeps, season_begins, sheet_keeps}
 use Rattle.season_records.proofs.Puts.{touches}
 
@@ -97,7 +97,7 @@ changes_keep book facts e (command.Fixture id home away g kickoff) there = fixtu
 changes_keep book facts e (command.Move f g kickoff) there = move_keeps facts f g kickoff
 changes_keep book facts e (command.Sheet f lines mark) there =
     let before : ℕ → Option Facts → List ℕ = λ f some. option_map_or (λ (facts : Facts). players_in (lines_of facts.matches f)) some [] in
-    subst (λ old. FactsKeep (slot.Fixture f ∷ map (slot.Line f) (old ++ players_in lines)) facts (changed_by facts (command.Sheet f lines mark)))
+    subst (λ old. FactsKeep (slot.Fixture f ∷ map (slot.Line f) (players_left old (players_in lines) ++ players_in lines)) facts (changed_by facts (command.Sheet f lines mark)))
     (sym (ap (before f) there)) (sheet_keeps facts f lines mark)
 changes_keep book facts e (command.Line f p l) there = line_keeps facts f p l
 changes_keep book facts e (command.Drop f p) there = drop_keeps facts f p

@@ -1,7 +1,8 @@
 -- The commands on the facts of a season change nothing of what is told but what they touch.
-use Rattle.std.proofs.Common.{◌≡◌, ◌==◌, ◌||◌, ℕ, Bool, true, false, List, [], ◌∷◌, ◌++◌, Option, None, fold, arith, refl, sym, ap, ◌∙◌, map, true≢false}
+use Rattle.std.proofs.Common.{◌≡◌, ◌==◌, ◌||◌, ℕ, Bool, true, false, List, [], ◌∷◌, ◌++◌, Option, None, fold, inl, inr, arith, refl, sym, ap, ◌∙◌, map, true≢false}
 use Rattle.std.specs.List.{list_any}
 use Rattle.std.specs.Option.{option_map}
+use Rattle.std.proofs.lemmas.Bool.{cases_eq}
 use Rattle.std.proofs.lemmas.Bool.Decides.{nat_tests}
 use Rattle.std.proofs.lemmas.List.Folds.{list_any-append}
 use Rattle.fpl_base.specs.declared.kinds.Position.{Position}
@@ -22,6 +23,7 @@ use Rattle.record_codec.specs.declared.item.Item.TheVariants as item
 use Rattle.record_codec.specs.declared.slot.Slot.{Slot}
 use Rattle.record_codec.specs.declared.slot.Slot.TheVariants as slot
 use Rattle.season_records.specs.Records.{fixture_item, player_item, told_in}
+use Rattle.season_records.specs.Touched.{players_left}
 use Rattle.season_records.proofs.Finds.{found_beside, found_unchanged}
 use Rattle.season_records.proofs.Puts.{touches}
 use Rattle.season_records.proofs.Sheets.{line_beside, line_besides, no_line, no_line_by_player, sheet_kept}
@@ -125,16 +127,25 @@ none_in_both t xs ys none = both (list_any t xs) (list_any t ys) (sym (list_any-
     both false b none = (refl, none)
     both true b none = absurd (true≢false none)
 
+-- who is neither left nor among those who have a line now had none
+none_left : (q : ℕ) (had have : List ℕ) → list_any (λ p. p == q) (players_left had have) ≡ false → list_any (λ p. p == q) have ≡ false → list_any (λ p. p == q) had ≡ false
+none_left q [] have left now = refl
+none_left q (p ∷ had) have left now = elim (cases_eq p q) [
+  | inl same ↦ absurd (true≢false (sym (grind (arith, nat_tests, same, now)) ∙ left))
+  | inr apart ↦ grind (arith, nat_tests, apart, left, none_left q had have)
+]
+
 pub sheet_keeps : (facts : Facts) (f : ℕ) (lines : Lines) (mark : Bool)
-    → FactsKeep (slot.Fixture f ∷ map (slot.Line f) (players_in (lines_of facts.matches f) ++ players_in lines)) facts (changed_by facts (command.Sheet f lines mark))
+    → FactsKeep (slot.Fixture f ∷ map (slot.Line f) (players_left (players_in (lines_of facts.matches f)) (players_in lines) ++ players_in lines)) facts (changed_by facts (command.Sheet f lines mark))
 sheet_keeps facts f lines mark (slot.Fixture g) apart =
-    let more : List Slot = map (slot.Line f) (players_in (lines_of facts.matches f) ++ players_in lines) in
+    let more : List Slot = map (slot.Line f) (players_left (players_in (lines_of facts.matches f)) (players_in lines) ++ players_in lines) in
     fixture_kept facts f (record { lines = by_player lines; finished = mark }) g (λ here. absurd (another_fixture f g more apart here))
 sheet_keeps facts f lines mark (slot.Line g q) apart =
     let old : Lines = lines_of facts.matches f in
     line_kept facts f (record { lines = by_player lines; finished = mark }) g q (λ here.
-    let none = none_in_both (λ p. p == q) (players_in old) (players_in lines) (sym (line_slots f g q (players_in old ++ players_in lines) here) ∙ apart) in
-    ap (λ f. line_in (lines_of facts.matches f) q) here ∙ no_line q old none.0 ∙ sym (no_line_by_player q lines none.1))
+    let left : List ℕ = players_left (players_in old) (players_in lines) in
+    let none = none_in_both (λ p. p == q) left (players_in lines) (sym (line_slots f g q (left ++ players_in lines) here) ∙ apart) in
+    ap (λ f. line_in (lines_of facts.matches f) q) here ∙ no_line q old (none_left q (players_in old) (players_in lines) none.0 none.1) ∙ sym (no_line_by_player q lines none.1))
 sheet_keeps facts f lines mark s apart = refl
 
 -- The season's beginning.

@@ -1,6 +1,6 @@
 -- Which records a command touches, and what is committed of them.
-use Rattle.std.specs.Prelude.{ℕ, ◌+◌, List, [], ◌∷◌, ◌++◌, length, map, Option, Some, None}
-use Rattle.std.specs.List.{range_with_len}
+use Rattle.std.specs.Prelude.{ℕ, ◌+◌, ◌==◌, not, List, [], ◌∷◌, ◌++◌, filter, length, map, Option, Some, None}
+use Rattle.std.specs.List.{list_any, range_with_len}
 use Rattle.std.specs.Option.{option_map_or}
 use Rattle.fpl_base.specs.declared.kinds.Caller.{Caller}
 use Rattle.fpl_base.specs.declared.records.Op.{Op}
@@ -25,6 +25,10 @@ use Rattle.record_codec.specs.declared.slot.Slot.TheVariants as slot
 abbrev pub players_before : Book → ℕ → List ℕ
 players_before book f = option_map_or (λ facts. players_in (lines_of facts.matches f)) book.facts []
 
+-- those who had a line and have none among others
+abbrev pub players_left : List ℕ → List ℕ → List ℕ
+players_left had have = filter (λ p. not (list_any (λ q. q == p) have)) had
+
 -- the gameweek in which a manager's command takes part: the next one
 abbrev pub gameweek_of : Book → ℕ
 gameweek_of book = option_map_or (λ facts. gameweek_seen facts.calendar) book.facts 0
@@ -47,7 +51,7 @@ touched_by book e (command.Club p club) = slot.Player p ∷ []
 touched_by book e (command.Gone p gone) = slot.Player p ∷ []
 touched_by book e (command.Fixture id home away g kickoff) = slot.Fixture id ∷ []
 touched_by book e (command.Move f g kickoff) = slot.Fixture f ∷ []
-touched_by book e (command.Sheet f lines finished) = slot.Fixture f ∷ map (slot.Line f) (players_before book f ++ players_in lines)
+touched_by book e (command.Sheet f lines finished) = slot.Fixture f ∷ map (slot.Line f) (players_left (players_before book f) (players_in lines) ++ players_in lines)
 touched_by book e (command.Line f p line) = slot.Line f p ∷ []
 touched_by book e (command.Drop f p) = slot.Line f p ∷ []
 touched_by book e (command.Finished f finished) = slot.Fixture f ∷ []
