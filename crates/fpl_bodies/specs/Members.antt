@@ -20,8 +20,8 @@ use Rattle.fpl_bodies.specs.declared.field.FieldName.{FieldName}
 use Rattle.fpl_bodies.specs.declared.field.FieldName.TheVariants as field
 use Rattle.fpl_bodies.specs.declared.field.ReadFault.{ReadFault}
 use Rattle.fpl_bodies.specs.declared.field.ReadFault.TheVariants as fault
+use Rattle.json_tree.specs.declared.parser.Parsed.{Parsed}
 use Rattle.json_tree.specs.declared.tree.Items.{Items as Held}
-use Rattle.json_tree.specs.declared.tree.Tree.{Tree}
 use Rattle.fpl_bodies.specs.FieldNames.{name_of}
 use Rattle.json_tree.specs.Trees.{seen, view}
 
@@ -226,7 +226,7 @@ abbrev pub GivesHeld : Result Held ReadFault → Result Items FieldName → Type
 GivesHeld (Ok held) given = given ≡ Ok (seen held)
 GivesHeld (Err e) given = FailsWith e given
 
--- the same of a tree, seen as its data
-abbrev pub GivesObject : Result Tree ReadFault → Result Data FieldName → Type 0
-GivesObject (Ok tree) given = given ≡ Ok (view tree)
+-- the same of a body that was read, seen as its data
+abbrev pub GivesObject : Result Parsed ReadFault → Result Data FieldName → Type 0
+GivesObject (Ok read) given = given ≡ Ok (view read)
 GivesObject (Err e) given = FailsWith e given

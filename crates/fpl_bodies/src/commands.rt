@@ -22,7 +22,7 @@ pub(crate) fn read_command(
     alloc: Global,
     which: CommandRoute,
     id: u32,
-    value: &Tree<'_>,
+    value: &Tree<'_, '_>,
 ) -> Result<Command, ReadFault>
     ensures gives { Gives result (command_of which id (view value.now)) }
     ensures readable { IfOk result IsCommand }
@@ -53,7 +53,7 @@ pub(crate) fn read_command(
     }
 }
 
-fn season(alloc: Global, value: &Tree<'_>) -> Result<Command, ReadFault>
+fn season(alloc: Global, value: &Tree<'_, '_>) -> Result<Command, ReadFault>
     ensures gives { Gives result (season (view value.now)) }
     ensures readable { IfOk result IsCommand }
 {
@@ -70,7 +70,7 @@ fn season(alloc: Global, value: &Tree<'_>) -> Result<Command, ReadFault>
     })
 }
 
-fn deadline(value: &Tree<'_>) -> Result<Command, ReadFault>
+fn deadline(value: &Tree<'_, '_>) -> Result<Command, ReadFault>
     ensures gives { Gives result (deadline (view value.now)) }
     ensures readable { IfOk result IsCommand }
 {
@@ -79,7 +79,7 @@ fn deadline(value: &Tree<'_>) -> Result<Command, ReadFault>
     Ok(Command::Deadline { gameweek, deadline })
 }
 
-fn player(alloc: Global, value: &Tree<'_>) -> Result<Command, ReadFault>
+fn player(alloc: Global, value: &Tree<'_, '_>) -> Result<Command, ReadFault>
     ensures gives { Gives result (player (view value.now)) }
     ensures readable { IfOk result IsCommand }
 {
@@ -97,7 +97,7 @@ fn player(alloc: Global, value: &Tree<'_>) -> Result<Command, ReadFault>
     })
 }
 
-fn new_price(value: &Tree<'_>) -> Result<Command, ReadFault>
+fn new_price(value: &Tree<'_, '_>) -> Result<Command, ReadFault>
     ensures gives { Gives result (new_price (view value.now)) }
     ensures readable { IfOk result IsCommand }
 {
@@ -106,7 +106,7 @@ fn new_price(value: &Tree<'_>) -> Result<Command, ReadFault>
     Ok(Command::Price { player, price })
 }
 
-fn new_club(value: &Tree<'_>) -> Result<Command, ReadFault>
+fn new_club(value: &Tree<'_, '_>) -> Result<Command, ReadFault>
     ensures gives { Gives result (new_club (view value.now)) }
     ensures readable { IfOk result IsCommand }
 {
@@ -115,7 +115,7 @@ fn new_club(value: &Tree<'_>) -> Result<Command, ReadFault>
     Ok(Command::Club { player, club })
 }
 
-fn gone(value: &Tree<'_>) -> Result<Command, ReadFault>
+fn gone(value: &Tree<'_, '_>) -> Result<Command, ReadFault>
     ensures gives { Gives result (gone (view value.now)) }
     ensures readable { IfOk result IsCommand }
 {
@@ -124,7 +124,7 @@ fn gone(value: &Tree<'_>) -> Result<Command, ReadFault>
     Ok(Command::Gone { player, gone })
 }
 
-fn fixture(value: &Tree<'_>) -> Result<Command, ReadFault>
+fn fixture(value: &Tree<'_, '_>) -> Result<Command, ReadFault>
     ensures gives { Gives result (fixture (view value.now)) }
     ensures readable { IfOk result IsCommand }
 {
@@ -143,7 +143,7 @@ fn fixture(value: &Tree<'_>) -> Result<Command, ReadFault>
 }
 
 // The guest club, which is not the home club.
-fn guest(value: &Tree<'_>, home: ClubId) -> Result<ClubId, ReadFault>
+fn guest(value: &Tree<'_, '_>, home: ClubId) -> Result<ClubId, ReadFault>
     ensures gives { Gives result (guest home (view value.now)) }
     ensures other { IfOk result (λ away. home ≢ away) }
 {
@@ -155,7 +155,7 @@ fn guest(value: &Tree<'_>, home: ClubId) -> Result<ClubId, ReadFault>
     }
 }
 
-fn moved(fixture: u32, value: &Tree<'_>) -> Result<Command, ReadFault>
+fn moved(fixture: u32, value: &Tree<'_, '_>) -> Result<Command, ReadFault>
     ensures gives { Gives result (move fixture (view value.now)) }
     ensures readable { IfOk result IsCommand }
 {
@@ -168,7 +168,7 @@ fn moved(fixture: u32, value: &Tree<'_>) -> Result<Command, ReadFault>
     })
 }
 
-fn sheet(alloc: Global, fixture: u32, value: &Tree<'_>) -> Result<Command, ReadFault>
+fn sheet(alloc: Global, fixture: u32, value: &Tree<'_, '_>) -> Result<Command, ReadFault>
     ensures gives { Gives result (sheet fixture (view value.now)) }
     ensures readable { IfOk result IsCommand }
 {
@@ -181,7 +181,7 @@ fn sheet(alloc: Global, fixture: u32, value: &Tree<'_>) -> Result<Command, ReadF
     })
 }
 
-fn put(alloc: Global, fixture: u32, value: &Tree<'_>) -> Result<Command, ReadFault>
+fn put(alloc: Global, fixture: u32, value: &Tree<'_, '_>) -> Result<Command, ReadFault>
     ensures gives { Gives result (put fixture (view value.now)) }
     ensures readable { IfOk result IsCommand }
 {
@@ -193,7 +193,7 @@ fn put(alloc: Global, fixture: u32, value: &Tree<'_>) -> Result<Command, ReadFau
     })
 }
 
-fn dropped(fixture: u32, value: &Tree<'_>) -> Result<Command, ReadFault>
+fn dropped(fixture: u32, value: &Tree<'_, '_>) -> Result<Command, ReadFault>
     ensures gives { Gives result (drop fixture (view value.now)) }
     ensures readable { IfOk result IsCommand }
 {
@@ -201,7 +201,7 @@ fn dropped(fixture: u32, value: &Tree<'_>) -> Result<Command, ReadFault>
     Ok(Command::Drop { fixture, player })
 }
 
-fn finished(fixture: u32, value: &Tree<'_>) -> Result<Command, ReadFault>
+fn finished(fixture: u32, value: &Tree<'_, '_>) -> Result<Command, ReadFault>
     ensures gives { Gives result (finish fixture (view value.now)) }
     ensures readable { IfOk result IsCommand }
 {
@@ -209,7 +209,7 @@ fn finished(fixture: u32, value: &Tree<'_>) -> Result<Command, ReadFault>
     Ok(Command::Finished { fixture, finished })
 }
 
-fn new_key(alloc: Global, value: &Tree<'_>) -> Result<Command, ReadFault>
+fn new_key(alloc: Global, value: &Tree<'_, '_>) -> Result<Command, ReadFault>
     ensures gives { Gives result (new_key (view value.now)) }
     ensures readable { IfOk result IsCommand }
 {
@@ -218,7 +218,7 @@ fn new_key(alloc: Global, value: &Tree<'_>) -> Result<Command, ReadFault>
     Ok(Command::Key { key, name })
 }
 
-fn squad(alloc: Global, value: &Tree<'_>) -> Result<Command, ReadFault>
+fn squad(alloc: Global, value: &Tree<'_, '_>) -> Result<Command, ReadFault>
     ensures gives { Gives result (squad (view value.now)) }
     ensures readable { IfOk result IsCommand }
 {
@@ -232,7 +232,7 @@ fn squad(alloc: Global, value: &Tree<'_>) -> Result<Command, ReadFault>
     })
 }
 
-fn transfers(alloc: Global, value: &Tree<'_>) -> Result<Command, ReadFault>
+fn transfers(alloc: Global, value: &Tree<'_, '_>) -> Result<Command, ReadFault>
     ensures gives { Gives result (transfers (view value.now)) }
     ensures readable { IfOk result IsCommand }
 {
@@ -240,7 +240,7 @@ fn transfers(alloc: Global, value: &Tree<'_>) -> Result<Command, ReadFault>
     Ok(Command::Transfers { swaps })
 }
 
-fn lineup(alloc: Global, value: &Tree<'_>) -> Result<Command, ReadFault>
+fn lineup(alloc: Global, value: &Tree<'_, '_>) -> Result<Command, ReadFault>
     ensures gives { Gives result (lineup (view value.now)) }
     ensures readable { IfOk result IsCommand }
 {
@@ -254,7 +254,7 @@ fn lineup(alloc: Global, value: &Tree<'_>) -> Result<Command, ReadFault>
     })
 }
 
-fn play(value: &Tree<'_>) -> Result<Command, ReadFault>
+fn play(value: &Tree<'_, '_>) -> Result<Command, ReadFault>
     ensures gives { Gives result (play (view value.now)) }
     ensures readable { IfOk result IsCommand }
 {
@@ -262,7 +262,7 @@ fn play(value: &Tree<'_>) -> Result<Command, ReadFault>
     Ok(Command::Chip { chip })
 }
 
-fn league(alloc: Global, value: &Tree<'_>) -> Result<Command, ReadFault>
+fn league(alloc: Global, value: &Tree<'_, '_>) -> Result<Command, ReadFault>
     ensures gives { Gives result (league (view value.now)) }
     ensures readable { IfOk result IsCommand }
 {
@@ -278,7 +278,7 @@ fn league(alloc: Global, value: &Tree<'_>) -> Result<Command, ReadFault>
     })
 }
 
-fn join(alloc: Global, league: u32, value: &Tree<'_>) -> Result<Command, ReadFault>
+fn join(alloc: Global, league: u32, value: &Tree<'_, '_>) -> Result<Command, ReadFault>
     ensures gives { Gives result (join league (view value.now)) }
     ensures readable { IfOk result IsCommand }
 {
@@ -286,7 +286,7 @@ fn join(alloc: Global, league: u32, value: &Tree<'_>) -> Result<Command, ReadFau
     Ok(Command::Join { league, code })
 }
 
-fn draw(alloc: Global, league: u32, value: &Tree<'_>) -> Result<Command, ReadFault>
+fn draw(alloc: Global, league: u32, value: &Tree<'_, '_>) -> Result<Command, ReadFault>
     ensures gives { Gives result (draw league (view value.now)) }
     ensures readable { IfOk result IsCommand }
 {
@@ -294,7 +294,7 @@ fn draw(alloc: Global, league: u32, value: &Tree<'_>) -> Result<Command, ReadFau
     Ok(Command::Draw { league, order })
 }
 
-fn cup(alloc: Global, value: &Tree<'_>) -> Result<Command, ReadFault>
+fn cup(alloc: Global, value: &Tree<'_, '_>) -> Result<Command, ReadFault>
     ensures gives { Gives result (cup (view value.now)) }
     ensures readable { IfOk result IsCommand }
 {

@@ -1,15 +1,13 @@
 // Readers of the lists that commands hold.
-ghost use Rattle.std.specs.Prelude.{All, ◌≡◌, ◌≤◌, ◌==◌, ◌&&◌, IfOk, MatchResult, ℕ, Result, length, nat_le};
+ghost use Rattle.std.specs.Prelude.{All, ◌≡◌, ◌≤◌, ◌==◌, ◌&&◌, IfOk, Result, length, nat_le};
 ghost use Rattle.std.specs.List.{list_any};
 ghost use Rattle.season_book.specs.Commands.{club_ids};
 ghost use Rattle.rule_book.specs.Ranks.{AllDiffer};
 ghost use Rattle.fpl_bodies.specs.declared.field.FieldName.{FieldName};
 ghost use Rattle.fpl_bodies.specs.declared.field.FieldName.TheVariants as field;
-ghost use Rattle.fpl_bodies.specs.declared.field.ReadFault.TheVariants as fault;
 ghost use Rattle.fpl_bodies.specs.Members.{Gives, GivesItems, each, entry, last_moment, under};
 ghost use Rattle.fpl_bodies.specs.Requests.{club, clubs, coins, deadlines, differ, fifteen, line, lines, order, player_line, slots, swap, swaps};
-ghost use Rattle.json_tree.specs.Trees.{items_view, seen, view};
-ghost use Rattle.serde_json.specs.Data.{Items as Listed, item, number, unsigned};
+ghost use Rattle.json_tree.specs.Trees.{seen, view};
 
 use crate::members::{
     club_id, drawn_entry, entry, items, moment_entry, player_entry, player_id, title, wrong,
@@ -38,26 +36,8 @@ fn is_long(count: usize, low: usize, high: usize) -> bool
     low <= count && count <= high
 }
 
-// The items of a list of objects; a number has no member, and so not the first that is read of each.
-fn objects<'t, 'a>(values: Items<'t, 'a>, first: FieldName) -> Result<&'t [Tree<'a>], ReadFault>
-    ensures { MatchResult result (λ ts. seen values.entry ≡ items_view ts.now)
-        (λ e. (n : ℕ) × (ds : Listed) × (seen values.entry ≡ item (number (unsigned n)) ds)
-        × (e ≡ fault.Malformed first)) }
-{
-    match values {
-        Items::Trees(trees) => Ok(trees),
-        Items::Numbers(numbers) => {
-            if numbers.is_empty() {
-                Ok(&[])
-            } else {
-                Err(wrong(first))
-            }
-        }
-    }
-}
-
 /// The deadlines of a season.
-pub(crate) fn deadlines(alloc: Global, value: &Tree<'_>) -> Result<Moments, ReadFault>
+pub(crate) fn deadlines(alloc: Global, value: &Tree<'_, '_>) -> Result<Moments, ReadFault>
     ensures gives { Gives result (deadlines (view value.now)) }
     ensures long { IfOk result (λ ms. (1 ≤ length ms) × (length ms ≤ 38)) }
 {
@@ -83,7 +63,7 @@ fn each_moment(alloc: Global, values: Items<'_, '_>) -> Result<Moments, ReadFaul
 }
 
 /// The clubs of a season.
-pub(crate) fn clubs(alloc: Global, value: &Tree<'_>) -> Result<Clubs, ReadFault>
+pub(crate) fn clubs(alloc: Global, value: &Tree<'_, '_>) -> Result<Clubs, ReadFault>
     ensures gives { Gives result (clubs (view value.now)) }
     ensures long { IfOk result (λ cs. (1 ≤ length cs) × (length cs ≤ 20)) }
     ensures differ { IfOk result (λ cs. AllDiffer (club_ids cs)) }
@@ -101,14 +81,15 @@ fn each_club(alloc: Global, values: Items<'_, '_>) -> Result<Clubs, ReadFault>
     ensures { Gives result (each club (seen values.entry)) }
 {
     let mut list = Clubs::new(alloc);
-    for value in objects(values, FieldName::Id)? {
-        let one = club(alloc, value)?;
+    let mut rest = values;
+    'items: while let Some(value) = rest.next() {
+        let one = club(alloc, &value)?;
         list.push(one)?;
     }
     Ok(list)
 }
 
-fn club(alloc: Global, value: &Tree<'_>) -> Result<(ClubId, Name), ReadFault>
+fn club(alloc: Global, value: &Tree<'_, '_>) -> Result<(ClubId, Name), ReadFault>
     ensures { Gives result (club (view value.now)) }
 {
     let id = club_id(value, FieldName::Id)?;
@@ -138,7 +119,7 @@ fn has_id(clubs: &[(ClubId, Name)], id: ClubId) -> bool
 }
 
 /// A player with his figures.
-pub(crate) fn player_line(alloc: Global, value: &Tree<'_>) -> Result<(PlayerId, Line), ReadFault>
+pub(crate) fn player_line(alloc: Global, value: &Tree<'_, '_>) -> Result<(PlayerId, Line), ReadFault>
     ensures { Gives result (player_line (view value.now)) }
 {
     let player = player_id(value, FieldName::Player)?;
@@ -147,7 +128,7 @@ pub(crate) fn player_line(alloc: Global, value: &Tree<'_>) -> Result<(PlayerId, 
 }
 
 #[tactic(auto, using(crate::proofs::EntryLemmas::under_entry))]
-fn line(alloc: Global, value: &Tree<'_>) -> Result<Line, ReadFault>
+fn line(alloc: Global, value: &Tree<'_, '_>) -> Result<Line, ReadFault>
     ensures { Gives result (line (view value.now)) }
 {
     let values = items(value, FieldName::Figures)?;
@@ -161,7 +142,7 @@ fn line(alloc: Global, value: &Tree<'_>) -> Result<Line, ReadFault>
 fn each_figure(alloc: Global, values: Items<'_, '_>) -> Result<Vec<u16>, ReadFault>
     ensures { GivesItems result (each (entry field.Figures 0 65535) (seen values.entry)) }
 {
-    let mut list = Vec::with_capacity(alloc, values.len().min(28))?;
+    let mut list = Vec::with_capacity(alloc, 28)?;
     let mut rest = values;
     'items: while let Some(value) = rest.next_number() {
         let one = entry(value, FieldName::Figures, 0, 65_535)?;
@@ -171,7 +152,7 @@ fn each_figure(alloc: Global, values: Items<'_, '_>) -> Result<Vec<u16>, ReadFau
 }
 
 /// Players with their figures.
-pub(crate) fn lines(alloc: Global, value: &Tree<'_>) -> Result<Lines, ReadFault>
+pub(crate) fn lines(alloc: Global, value: &Tree<'_, '_>) -> Result<Lines, ReadFault>
     ensures gives { Gives result (lines (view value.now)) }
     ensures long { IfOk result (λ ls. length ls ≤ 100) }
 {
@@ -187,9 +168,10 @@ pub(crate) fn lines(alloc: Global, value: &Tree<'_>) -> Result<Lines, ReadFault>
 fn each_line(alloc: Global, values: Items<'_, '_>) -> Result<Lines, ReadFault>
     ensures { Gives result (each player_line (seen values.entry)) }
 {
-    let mut list = Lines::with_room(alloc, values.len().min(100))?;
-    for value in objects(values, FieldName::Player)? {
-        let one = player_line(alloc, value)?;
+    let mut list = Lines::new(alloc);
+    let mut rest = values;
+    'items: while let Some(value) = rest.next() {
+        let one = player_line(alloc, &value)?;
         list.push(one)?;
     }
     Ok(list)
@@ -197,7 +179,7 @@ fn each_line(alloc: Global, values: Items<'_, '_>) -> Result<Lines, ReadFault>
 
 /// The fifteen players of a team, by slot.
 #[tactic(auto, using(crate::proofs::EntryLemmas::under_entry))]
-pub(crate) fn fifteen(alloc: Global, value: &Tree<'_>) -> Result<[PlayerId; 15], ReadFault>
+pub(crate) fn fifteen(alloc: Global, value: &Tree<'_, '_>) -> Result<[PlayerId; 15], ReadFault>
     ensures { Gives result (fifteen (view value.now)) }
 {
     let values = items(value, FieldName::Players)?;
@@ -211,7 +193,7 @@ pub(crate) fn fifteen(alloc: Global, value: &Tree<'_>) -> Result<[PlayerId; 15],
 fn each_player(alloc: Global, values: Items<'_, '_>) -> Result<Vec<PlayerId>, ReadFault>
     ensures { GivesItems result (each (entry field.Players 1 999999) (seen values.entry)) }
 {
-    let mut list = Vec::with_capacity(alloc, values.len().min(15))?;
+    let mut list = Vec::with_capacity(alloc, 15)?;
     let mut rest = values;
     'items: while let Some(value) = rest.next_number() {
         let one = player_entry(value, FieldName::Players)?;
@@ -221,7 +203,7 @@ fn each_player(alloc: Global, values: Items<'_, '_>) -> Result<Vec<PlayerId>, Re
 }
 
 /// The transfers of a batch.
-pub(crate) fn swaps(alloc: Global, value: &Tree<'_>) -> Result<Swaps, ReadFault>
+pub(crate) fn swaps(alloc: Global, value: &Tree<'_, '_>) -> Result<Swaps, ReadFault>
     ensures gives { Gives result (swaps (view value.now)) }
     ensures long { IfOk result (λ ss. (1 ≤ length ss) × (length ss ≤ 15)) }
 {
@@ -238,14 +220,15 @@ fn each_swap(alloc: Global, values: Items<'_, '_>) -> Result<Swaps, ReadFault>
     ensures { Gives result (each swap (seen values.entry)) }
 {
     let mut list = Swaps::new(alloc);
-    for value in objects(values, FieldName::Out)? {
-        let one = swap(value)?;
+    let mut rest = values;
+    'items: while let Some(value) = rest.next() {
+        let one = swap(&value)?;
         list.push(one)?;
     }
     Ok(list)
 }
 
-fn swap(value: &Tree<'_>) -> Result<Swap, ReadFault>
+fn swap(value: &Tree<'_, '_>) -> Result<Swap, ReadFault>
     ensures { Gives result (swap (view value.now)) }
 {
     let out = player_id(value, FieldName::Out)?;
@@ -254,7 +237,7 @@ fn swap(value: &Tree<'_>) -> Result<Swap, ReadFault>
 }
 
 /// Entries by their places in a draw.
-pub(crate) fn order(alloc: Global, value: &Tree<'_>) -> Result<Order, ReadFault>
+pub(crate) fn order(alloc: Global, value: &Tree<'_, '_>) -> Result<Order, ReadFault>
     ensures gives { Gives result (order (view value.now)) }
     ensures long { IfOk result (λ es. length es ≤ 64) }
 {
@@ -270,7 +253,7 @@ pub(crate) fn order(alloc: Global, value: &Tree<'_>) -> Result<Order, ReadFault>
 fn each_entry(alloc: Global, values: Items<'_, '_>) -> Result<Order, ReadFault>
     ensures { Gives result (each (entry field.Order 1 4294967295) (seen values.entry)) }
 {
-    let mut list = Order::with_room(alloc, values.len().min(64))?;
+    let mut list = Order::new(alloc);
     let mut rest = values;
     'items: while let Some(value) = rest.next_number() {
         let one = drawn_entry(value, FieldName::Order)?;
@@ -280,7 +263,7 @@ fn each_entry(alloc: Global, values: Items<'_, '_>) -> Result<Order, ReadFault>
 }
 
 /// The slots of a cup.
-pub(crate) fn slots(alloc: Global, value: &Tree<'_>) -> Result<Slots, ReadFault>
+pub(crate) fn slots(alloc: Global, value: &Tree<'_, '_>) -> Result<Slots, ReadFault>
     ensures gives { Gives result (slots (view value.now)) }
     ensures long { IfOk result (λ ss. length ss ≤ 1024) }
 {
@@ -296,7 +279,7 @@ pub(crate) fn slots(alloc: Global, value: &Tree<'_>) -> Result<Slots, ReadFault>
 fn each_slot(alloc: Global, values: Items<'_, '_>) -> Result<Slots, ReadFault>
     ensures { Gives result (each (entry field.Slots 0 4294967295) (seen values.entry)) }
 {
-    let mut list = Slots::with_room(alloc, values.len().min(1024))?;
+    let mut list = Slots::new(alloc);
     let mut rest = values;
     'items: while let Some(value) = rest.next_number() {
         let one = entry(value, FieldName::Slots, 0, 4_294_967_295)?;
@@ -306,7 +289,7 @@ fn each_slot(alloc: Global, values: Items<'_, '_>) -> Result<Slots, ReadFault>
 }
 
 /// The coins of a cup.
-pub(crate) fn coins(alloc: Global, value: &Tree<'_>) -> Result<Coins, ReadFault>
+pub(crate) fn coins(alloc: Global, value: &Tree<'_, '_>) -> Result<Coins, ReadFault>
     ensures gives { Gives result (coins (view value.now)) }
     ensures long { IfOk result (λ cs. length cs ≤ 1024) }
     ensures sides { IfOk result (λ cs. All (λ coin. coin ≤ 1) cs) }
@@ -323,7 +306,7 @@ pub(crate) fn coins(alloc: Global, value: &Tree<'_>) -> Result<Coins, ReadFault>
 fn each_coin(alloc: Global, values: Items<'_, '_>) -> Result<Coins, ReadFault>
     ensures { Gives result (each (entry field.Coins 0 1) (seen values.entry)) }
 {
-    let mut list = Coins::with_room(alloc, values.len().min(1024))?;
+    let mut list = Coins::new(alloc);
     let mut rest = values;
     'items: while let Some(value) = rest.next_number() {
         let one = entry(value, FieldName::Coins, 0, 1)?;

@@ -22,7 +22,7 @@ pub(crate) fn wrong(which: FieldName) -> ReadFault
 // Numbers.
 
 // The whole number that a value is, where it is in the range.
-fn number_in(value: &Tree<'_>, low: u64, high: u64) -> Option<u64>
+fn number_in(value: &Tree<'_, '_>, low: u64, high: u64) -> Option<u64>
     ensures { result ≡ number_in low high (view value.now) }
 {
     in_range(value.as_u64(), low, high)
@@ -36,7 +36,7 @@ fn in_range(value: Option<u64>, low: u64, high: u64) -> Option<u64>
 }
 
 pub(crate) fn whole(
-    value: &Tree<'_>,
+    value: &Tree<'_, '_>,
     which: FieldName,
     low: u64,
     high: u64,
@@ -46,47 +46,47 @@ pub(crate) fn whole(
     ensures high { IfOk result (λ n. n ≤ high) }
 {
     match value.get(which.name()) {
-        Some(one) => number_in(one, low, high).ok_or(wrong(which)),
+        Some(one) => number_in(&one, low, high).ok_or(wrong(which)),
         None => Err(wrong(which)),
     }
 }
 
-pub(crate) fn club_id(value: &Tree<'_>, which: FieldName) -> Result<ClubId, ReadFault>
+pub(crate) fn club_id(value: &Tree<'_, '_>, which: FieldName) -> Result<ClubId, ReadFault>
     ensures { Gives result (club_id which (view value.now)) }
 {
     let n = whole(value, which, 1, 255)?;
     ClubId::new(n as u8).ok_or(wrong(which))
 }
 
-pub(crate) fn player_id(value: &Tree<'_>, which: FieldName) -> Result<PlayerId, ReadFault>
+pub(crate) fn player_id(value: &Tree<'_, '_>, which: FieldName) -> Result<PlayerId, ReadFault>
     ensures { Gives result (player_id which (view value.now)) }
 {
     let n = whole(value, which, 1, 999_999)?;
     PlayerId::new(n as u32).ok_or(wrong(which))
 }
 
-pub(crate) fn fixture_id(value: &Tree<'_>, which: FieldName) -> Result<FixtureId, ReadFault>
+pub(crate) fn fixture_id(value: &Tree<'_, '_>, which: FieldName) -> Result<FixtureId, ReadFault>
     ensures { Gives result (fixture_id which (view value.now)) }
 {
     let n = whole(value, which, 1, 999_999)?;
     FixtureId::new(n as u32).ok_or(wrong(which))
 }
 
-pub(crate) fn gameweek(value: &Tree<'_>, which: FieldName) -> Result<Gw, ReadFault>
+pub(crate) fn gameweek(value: &Tree<'_, '_>, which: FieldName) -> Result<Gw, ReadFault>
     ensures { Gives result (gameweek which (view value.now)) }
 {
     let n = whole(value, which, 1, 38)?;
     Gw::new(n as u8).ok_or(wrong(which))
 }
 
-pub(crate) fn price(value: &Tree<'_>, which: FieldName) -> Result<u16, ReadFault>
+pub(crate) fn price(value: &Tree<'_, '_>, which: FieldName) -> Result<u16, ReadFault>
     ensures { Gives result (price which (view value.now)) }
 {
     let n = whole(value, which, 0, 65_535)?;
     Ok(n as u16)
 }
 
-pub(crate) fn moment(value: &Tree<'_>, which: FieldName) -> Result<Moment, ReadFault>
+pub(crate) fn moment(value: &Tree<'_, '_>, which: FieldName) -> Result<Moment, ReadFault>
     ensures { Gives result (moment which (view value.now)) }
 {
     let n = whole(value, which, 0, 253_402_300_799)?;
@@ -132,16 +132,16 @@ pub(crate) fn entry(
 }
 
 /// A gameweek, or null for none.
-pub(crate) fn place(value: &Tree<'_>, which: FieldName) -> Result<Option<Gw>, ReadFault>
+pub(crate) fn place(value: &Tree<'_, '_>, which: FieldName) -> Result<Option<Gw>, ReadFault>
     ensures { Gives result (place which (view value.now)) }
 {
     match value.get(which.name()) {
-        Some(one) => place_in(one).ok_or(wrong(which)),
+        Some(one) => place_in(&one).ok_or(wrong(which)),
         None => Err(wrong(which)),
     }
 }
 
-fn place_in(value: &Tree<'_>) -> Option<Option<Gw>>
+fn place_in(value: &Tree<'_, '_>) -> Option<Option<Gw>>
     ensures { result ≡ place_in (view value.now) }
 {
     if value.is_null() {
@@ -152,16 +152,16 @@ fn place_in(value: &Tree<'_>) -> Option<Option<Gw>>
 }
 
 /// By which rules a season is played. The member may be missing.
-pub(crate) fn profile(value: &Tree<'_>, which: FieldName) -> Result<Profile, ReadFault>
+pub(crate) fn profile(value: &Tree<'_, '_>, which: FieldName) -> Result<Profile, ReadFault>
     ensures { Gives result (profile_in which (view value.now)) }
 {
     match value.get(which.name()) {
-        Some(one) => profile_of(one).ok_or(wrong(which)),
+        Some(one) => profile_of(&one).ok_or(wrong(which)),
         None => Ok(Profile::A),
     }
 }
 
-fn profile_of(value: &Tree<'_>) -> Option<Profile>
+fn profile_of(value: &Tree<'_, '_>) -> Option<Profile>
     ensures { result ≡ profile_of (view value.now) }
 {
     let n = number_in(value, 1, 2)?;
@@ -174,7 +174,7 @@ fn profile_of(value: &Tree<'_>) -> Option<Profile>
 
 // Other kinds.
 
-pub(crate) fn truth(value: &Tree<'_>, which: FieldName) -> Result<bool, ReadFault>
+pub(crate) fn truth(value: &Tree<'_, '_>, which: FieldName) -> Result<bool, ReadFault>
     ensures { Gives result (truth which (view value.now)) }
 {
     match value.get(which.name()) {
@@ -183,7 +183,7 @@ pub(crate) fn truth(value: &Tree<'_>, which: FieldName) -> Result<bool, ReadFaul
     }
 }
 
-fn text<'a>(value: &Tree<'a>, which: FieldName) -> Result<&'a str, ReadFault>
+fn text<'a>(value: &Tree<'_, 'a>, which: FieldName) -> Result<&'a str, ReadFault>
     ensures { GivesText result (text which (view value.now)) }
 {
     match value.get(which.name()) {
@@ -193,7 +193,7 @@ fn text<'a>(value: &Tree<'a>, which: FieldName) -> Result<&'a str, ReadFault>
 }
 
 /// A name.
-pub(crate) fn title(alloc: Global, value: &Tree<'_>, which: FieldName) -> Result<Name, ReadFault>
+pub(crate) fn title(alloc: Global, value: &Tree<'_, '_>, which: FieldName) -> Result<Name, ReadFault>
     ensures { Gives result (title which (view value.now)) }
 {
     let text = text(value, which)?;
@@ -204,7 +204,7 @@ pub(crate) fn title(alloc: Global, value: &Tree<'_>, which: FieldName) -> Result
 }
 
 /// A key.
-pub(crate) fn key(alloc: Global, value: &Tree<'_>, which: FieldName) -> Result<Key, ReadFault>
+pub(crate) fn key(alloc: Global, value: &Tree<'_, '_>, which: FieldName) -> Result<Key, ReadFault>
     ensures { Gives result (key which (view value.now)) }
 {
     let text = text(value, which)?;
@@ -215,7 +215,7 @@ pub(crate) fn key(alloc: Global, value: &Tree<'_>, which: FieldName) -> Result<K
 }
 
 /// A league's code.
-pub(crate) fn code(alloc: Global, value: &Tree<'_>, which: FieldName) -> Result<Code, ReadFault>
+pub(crate) fn code(alloc: Global, value: &Tree<'_, '_>, which: FieldName) -> Result<Code, ReadFault>
     ensures { Gives result (code which (view value.now)) }
 {
     let text = text(value, which)?;
@@ -225,7 +225,7 @@ pub(crate) fn code(alloc: Global, value: &Tree<'_>, which: FieldName) -> Result<
     }
 }
 
-pub(crate) fn position(value: &Tree<'_>, which: FieldName) -> Result<Position, ReadFault>
+pub(crate) fn position(value: &Tree<'_, '_>, which: FieldName) -> Result<Position, ReadFault>
     ensures { Gives result (position_in which (view value.now)) }
 {
     let text = text(value, which)?;
@@ -239,7 +239,7 @@ fn position_of(letter: &[u8]) -> Option<Position>
 }
 
 /// A chip.
-pub(crate) fn chip(value: &Tree<'_>, which: FieldName) -> Result<Chip, ReadFault>
+pub(crate) fn chip(value: &Tree<'_, '_>, which: FieldName) -> Result<Chip, ReadFault>
     ensures gives { Gives result (chip_in which (view value.now)) }
     ensures one { IfOk result (λ chip. chip ≢ NoChip) }
 {
@@ -261,7 +261,7 @@ fn chip_of(name: &str) -> Option<Chip>
 }
 
 /// How a league is decided.
-pub(crate) fn kind(value: &Tree<'_>, which: FieldName) -> Result<LeagueKind, ReadFault>
+pub(crate) fn kind(value: &Tree<'_, '_>, which: FieldName) -> Result<LeagueKind, ReadFault>
     ensures { Gives result (kind_in which (view value.now)) }
 {
     let text = text(value, which)?;
@@ -280,7 +280,7 @@ fn kind_of(name: &str) -> Option<LeagueKind>
 
 /// The items of a list.
 pub(crate) fn items<'t, 'a>(
-    value: &'t Tree<'a>,
+    value: &Tree<'t, 'a>,
     which: FieldName,
 ) -> Result<Items<'t, 'a>, ReadFault>
     ensures { GivesHeld result (items which (view value.now)) }

@@ -10,7 +10,7 @@ use crate::commands::read_command;
 use crate::members::{whole, wrong};
 use crate::{FieldName, ReadFault};
 use fpl_routes::{Asks, CommandRoute, Route, ViewRoute};
-use json_tree::{ParseFault, Scratch, Tree, parse};
+use json_tree::{ParseFault, Parsed, Scratch, parse};
 use season_book::{Request, View};
 use std::alloc::Global;
 
@@ -66,7 +66,8 @@ fn read_ordered(
     ensures gives { Gives result (ordered which id body.now) }
     ensures readable { IfOk result IsRequest }
 {
-    let value = object_of(alloc, scratch, body)?;
+    let read = object_of(alloc, scratch, body)?;
+    let value = read.root();
     let number = whole(&value, FieldName::Number, 1, 9_223_372_036_854_775_807)?;
     let command = read_command(alloc, which, id, &value)?;
     Ok(Request::Command { number, command })
@@ -77,7 +78,7 @@ fn object_of<'a>(
     alloc: Global,
     scratch: &'a mut Scratch,
     body: &'a [u8],
-) -> Result<Tree<'a>, ReadFault>
+) -> Result<Parsed<'a>, ReadFault>
     ensures { GivesObject result (object_of body.now) }
 {
     match simdutf8::compat::from_utf8(body) {
@@ -90,14 +91,14 @@ fn object_in<'a>(
     alloc: Global,
     scratch: &'a mut Scratch,
     text: &'a str,
-) -> Result<Tree<'a>, ReadFault>
+) -> Result<Parsed<'a>, ReadFault>
     ensures { GivesObject result
         (or_wrong field.Body (option_and_then if_object (read text.now))) }
 {
     match parse(alloc, text, scratch) {
-        Ok(tree) => {
-            if tree.is_object() {
-                Ok(tree)
+        Ok(read) => {
+            if read.root().is_object() {
+                Ok(read)
             } else {
                 Err(wrong(FieldName::Body))
             }

@@ -1,3 +1,5 @@
+pub mod NodeLemmas
 pub mod NumberLemmas
-pub mod ReadingLemmas
-pub mod TreeLemmas
+pub mod TextLemmas
+pub mod TokenLemmas
+pub mod WalkLemmas

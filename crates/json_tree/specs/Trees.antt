@@ -1,15 +1,14 @@
--- The data that a tree stands for.
-use Rattle.std.specs.Prelude.{ℕ, List, [], ◌∷◌, length, map}
-use Rattle.std.specs.Borrow.{Bor}
-use Rattle.serde_json.specs.Data.{Num, unsigned, negative, float, Data, null, boolean, number, string, array, object, Items, item, Members, no_members, put}
-use Rattle.serde_json.specs.View.{items_of}
+-- The data that a tree stands for: what the tokens of its text say from its place on.
+use Rattle.std.specs.Prelude.{◌≡◌, ◌≤◌, ◌&&◌, List, ◌++◌, length, nat_le, Bool, Some, is_some}
+use Rattle.std.specs.Option.{option_map_or}
+use Rattle.json.specs.Json as json
+use Rattle.json.specs.Json.{items, value}
+use Rattle.json.specs.Token.{Token}
+use Rattle.json.specs.Tree.{depth, items_depth, items_tokens, json_tokens, members_depth, members_tokens}
+use Rattle.serde_json.specs.Data.{Num, unsigned, negative, float, Data, null, boolean, number, string, array, object, Items, no_items, Members, no_members}
+use Rattle.serde_json.specs.Read.{converted, max_depth, number_of, of_items, of_json, of_members}
 use Rattle.json_tree.specs.declared.number.Number.{Number}
 use Rattle.json_tree.specs.declared.number.Number.TheVariants as kind
-use Rattle.json_tree.specs.declared.tree.Items.{Items as Held}
-use Rattle.json_tree.specs.declared.tree.Items.TheVariants as held
-use Rattle.json_tree.specs.declared.tree.Tree.{Tree, fold-Tree}
-use Rattle.json_tree.specs.declared.tree.Tree.TheVariants as tree
-use Rattle.json_tree.specs.declared.tree.Tree.TheOpen.{Tree-F}
 
 -- a number, as it is held
 abbrev pub number_view : Number → Num
@@ -17,52 +16,51 @@ number_view (kind.Whole n) = unsigned n
 number_view (kind.Negative z) = negative z
 number_view (kind.Float x) = float x
 
--- the data of whole numbers
-abbrev pub numbers_view : List ℕ → Items
-numbers_view ns = items_of (map (λ n. number (unsigned n)) ns)
+-- the data of the value that tokens begin with
+unfoldable pub view : List Token → Data
+view ts = option_map_or (λ p. p.0) (converted of_json (value max_depth ts)) null
 
--- members go in one after another, so the last of a name stays
-abbrev pub put_all : List (Bor (List ℕ) × Data) → Members → Members
-put_all [] found = found
-put_all (m ∷ ms) found = put_all ms (put m.0.now m.1 found)
+-- the data of the items that tokens begin with, up to the end of their list
+unfoldable pub seen : List Token → Items
+seen ts = option_map_or (λ p. p.0) (converted of_items (items (value max_depth) (length ts) ts)) no_items
 
--- one level, with each tree inside already seen as its data
-abbrev pub view_step : Tree-F Data → Data
-view_step Tree-F.Null = null
-view_step (Tree-F.Bool b) = boolean b
-view_step (Tree-F.Number n) = number (number_view n)
-view_step (Tree-F.Text s) = string s.now
-view_step (Tree-F.Numbers v) = array (numbers_view v.items)
-view_step (Tree-F.List v) = array (items_of v.items)
-view_step (Tree-F.Object v) = object (put_all v.items no_members)
+-- each number of a value fits a float, and its lists and objects nest no deeper than 127
+abbrev pub is_readable : json.Json → Bool
+is_readable j = is_some (of_json j) && nat_le (depth j) max_depth
 
--- the data of a tree
-abbrev pub view : Tree → Data
-view = fold-Tree Data view_step
+-- tokens begin with a value that is this data, and go on with the rest
+abbrev pub Begins : List Token → Data → List Token → Type 0
+Begins ts d rest = (j : json.Json) × (ts ≡ json_tokens j ++ rest) × (of_json j ≡ Some d) × (depth j ≤ max_depth)
 
--- the data of the items of a list
-abbrev pub items_view : List Tree → Items
-items_view ts = items_of (map view ts)
+-- tokens begin with these items and the end of their list, and go on with the rest
+abbrev pub BeginsItems : List Token → Items → List Token → Type 0
+BeginsItems ts ds rest = (js : json.Items) × (ts ≡ items_tokens js ++ rest) × (of_items js ≡ Some ds) × (items_depth js ≤ max_depth)
 
--- the data of a list's items, as they are held
-abbrev pub seen : Held → Items
-seen (held.Numbers ns) = numbers_view ns.now
-seen (held.Trees ts) = items_view ts.now
+-- tokens begin with members and the end of their object, which make these of those found before, and go on with the rest
+abbrev pub BeginsMembers : List Token → Members → Members → List Token → Type 0
+BeginsMembers ts found ms rest = (js : json.Members) × (ts ≡ members_tokens js ++ rest) × (of_members js found ≡ Some ms) × (members_depth js ≤ max_depth)
 
--- how many they are
-abbrev pub left : Held → ℕ
-left (held.Numbers ns) = length ns.now
-left (held.Trees ts) = length ts.now
+-- what the first token of a value tells of its data
+abbrev pub Tells : Token → Data → Type 0
+Tells Token.begin_object d = (ms : Members) × (d ≡ object ms)
+Tells Token.end_object d = ⊥
+Tells Token.begin_array d = (ds : Items) × (d ≡ array ds)
+Tells Token.end_array d = ⊥
+Tells (Token.key s) d = ⊥
+Tells (Token.string s) d = d ≡ string s
+Tells (Token.number s) d = (n : Num) × (number_of s ≡ Some n) × (d ≡ number n)
+Tells (Token.boolean b) d = d ≡ boolean b
+Tells Token.null d = d ≡ null
+Tells Token.bad d = ⊥
 
--- whole numbers, each a tree
-abbrev pub wholes : List ℕ → List Tree
-wholes ns = map (λ n. tree.Number (kind.Whole n)) ns
+-- tokens begin with a value that can be read
+abbrev pub HasData : List Token → Type 0
+HasData ts = (d : Data) × (rest : List Token) × Begins ts d rest
 
--- these, then the rest
-abbrev pub items_before : List Tree → Items → Items
-items_before [] rest = rest
-items_before (t ∷ ts) rest = item (view t) (items_before ts rest)
+-- tokens begin with items that can be read, and the end of their list
+abbrev pub HasItems : List Token → Type 0
+HasItems ts = (ds : Items) × (rest : List Token) × BeginsItems ts ds rest
 
--- the data of the members of an object
-abbrev pub members_view : List (Bor (List ℕ) × Tree) → Members
-members_view ms = put_all (map (λ m. (m.0, view m.1)) ms) no_members
+-- tokens begin with members that can be read, and the end of their object
+abbrev pub HasMembers : List Token → Type 0
+HasMembers ts = (ms : Members) × (rest : List Token) × BeginsMembers ts no_members ms rest

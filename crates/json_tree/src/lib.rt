@@ -1,5 +1,5 @@
-//! JSON texts as trees that borrow their strings: `serde_json`'s reading of a text, without a value of its own for each
-//! string.
+//! JSON texts as trees that borrow their strings: `serde_json`'s reading of a text, as places in the flat list of its
+//! nodes, with no value of its own for each string, list or object.
 #![tactic(auto)]
 
 mod number;
@@ -7,6 +7,5 @@ mod parser;
 mod tree;
 
 pub use json::Scratch;
-pub use number::Number;
-pub use parser::{ParseFault, parse};
+pub use parser::{ParseFault, Parsed, parse};
 pub use tree::{Items, Tree};

@@ -1,23 +1,24 @@
 // The numbers of JSON: an integer of 64 bits, or the nearest float.
-ghost use Rattle.std.specs.Prelude.{◌≡◌, ◌==◌, ◌<◌, IfSome, IsTrue, length, option_map, slice_index, true, false};
+ghost use Rattle.std.specs.Prelude.{◌≡◌, ◌==◌, ◌<◌, IfSome, IsTrue, length, option_and_then, option_map, slice_index, true, false};
 ghost use Rattle.std.specs.Str.Parse.{IsNumeral, digits_value};
+ghost use Rattle.serde_json.specs.Find.{as_u64};
 ghost use Rattle.serde_json.specs.Read.{float_of, number_from, number_of};
 ghost use Rattle.json_tree.specs.Trees.{number_view};
 
 use fast_float::Numeral;
 
-/// A number, as its text is read.
+// A number, as its text is read.
 #[derive(Clone, Copy, Drop)]
-pub enum Number {
-    /// Written without a sign, a point or an exponent.
+pub(crate) enum Number {
+    // Written without a sign, a point or an exponent.
     Whole(u64),
-    /// Below 0, and written without a point or an exponent.
+    // Below 0, and written without a point or an exponent.
     Negative(i64),
-    /// Any other, as the nearest float.
+    // Any other, as the nearest float.
     Float(f64),
 }
 
-/// The number that a token writes, unless it is too large for a float.
+// The number that a token writes, unless it is too large for a float.
 #[inline(always)]
 pub(crate) fn number_of(text: &str) -> Option<Number>
     ensures { option_map number_view result ≡ number_of text.now }
@@ -29,9 +30,20 @@ pub(crate) fn number_of(text: &str) -> Option<Number>
     }
 }
 
+// The whole number from 0 that a token writes without a point or an exponent, if it does.
+#[inline(always)]
+pub(crate) fn whole_of(text: &str) -> Option<u64>
+    ensures { result ≡ option_and_then as_u64 (number_of text.now) }
+{
+    match number_of(text) {
+        Some(Number::Whole(n)) => Some(n),
+        Some(Number::Negative(_) | Number::Float(_)) | None => None,
+    }
+}
+
 // The value of digits, where there is nothing else and it is far from the end of its type.
 #[inline(always)]
-pub(crate) fn few_digits(bytes: &[u8]) -> Option<u64>
+fn few_digits(bytes: &[u8]) -> Option<u64>
     ensures { IfSome result
         (λ n. IsNumeral 10 bytes.now × (digits_value 10 bytes.now ≡ n)) }
 {

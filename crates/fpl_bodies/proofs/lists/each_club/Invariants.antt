@@ -1,12 +1,13 @@
-use Rattle.std.proofs.Common.{◌≡◌, drop}
+use Rattle.std.proofs.Common.{◌≡◌, length}
 use Rattle.fpl_bodies.specs.Members.{each}
 use Rattle.fpl_bodies.specs.Requests.{club}
-use Rattle.json_tree.specs.Trees.{items_view}
+use Rattle.json_tree.specs.Trees.{seen}
 use Rattle.fpl_bodies.proofs.ListLemmas.{with_front}
 use Rattle.fpl_bodies.proofs.lists.each_club.Given as goal
 
 -- the clubs so far and those of what is left are those of all
-abbrev pub invariant-loop-value : goal.invariant-loop-value
-invariant-loop-value l =
-    with_front l.list (each club (items_view (drop l.value-index l.value-items)))
-    ≡ each club (items_view l.value-items)
+abbrev pub invariant-items : goal.invariant-items
+invariant-items l = with_front l.list (each club (seen l.rest)) ≡ each club (seen l.initial.rest)
+
+abbrev pub decreases-items : goal.decreases-items
+decreases-items l = length l.rest

@@ -1,7 +1,7 @@
-use Rattle.std.proofs.Common.{◌≡◌}
+use Rattle.std.proofs.Common.{◌≡◌, length}
 use Rattle.fpl_bodies.specs.declared.field.FieldName.TheVariants as field
 use Rattle.fpl_bodies.specs.Members.{each, entry}
-use Rattle.json_tree.specs.Trees.{left, seen}
+use Rattle.json_tree.specs.Trees.{seen}
 use Rattle.fpl_bodies.proofs.ListLemmas.{with_front}
 use Rattle.fpl_bodies.proofs.lists.each_coin.Given as goal
 
@@ -12,4 +12,4 @@ invariant-items l =
     ≡ each (entry field.Coins 0 1) (seen l.initial.rest)
 
 abbrev pub decreases-items : goal.decreases-items
-decreases-items l = left l.rest
+decreases-items l = length l.rest

@@ -1,12 +1,13 @@
-use Rattle.std.proofs.Common.{◌≡◌, drop}
+use Rattle.std.proofs.Common.{◌≡◌, length}
 use Rattle.fpl_bodies.specs.Members.{each}
 use Rattle.fpl_bodies.specs.Requests.{player_line}
-use Rattle.json_tree.specs.Trees.{items_view}
+use Rattle.json_tree.specs.Trees.{seen}
 use Rattle.fpl_bodies.proofs.ListLemmas.{with_front}
 use Rattle.fpl_bodies.proofs.lists.each_line.Given as goal
 
 -- the lines so far and those of what is left are those of all
-abbrev pub invariant-loop-value : goal.invariant-loop-value
-invariant-loop-value l =
-    with_front l.list (each player_line (items_view (drop l.value-index l.value-items)))
-    ≡ each player_line (items_view l.value-items)
+abbrev pub invariant-items : goal.invariant-items
+invariant-items l = with_front l.list (each player_line (seen l.rest)) ≡ each player_line (seen l.initial.rest)
+
+abbrev pub decreases-items : goal.decreases-items
+decreases-items l = length l.rest

@@ -1,33 +1,61 @@
-use Rattle.std.proofs.Common.{◌≡◌, ◌+◌, ◌-◌, [], ◌∷◌, ◌++◌, take, Bool, true, false, cond, Some, sym, ap, ◌∙◌, arith}
-use Rattle.std.proofs.lemmas.List.{take_more}
+use Rattle.std.proofs.Common.{◌≡◌, ◌∙◌, ◌+◌, ◌-◌, ◌∷◌, List, true, false, None, Some, ap, arith, drop, map, refl, subst, sym}
+use Rattle.std.specs.Prelude.{MatchOption}
 use Rattle.std.specs.Str.{bytes_eq}
+use Rattle.json.specs.Tape.{node_token}
+use Rattle.json.specs.Token.{key}
+use Rattle.serde_json.specs.Data.{put}
 use Rattle.serde_json.specs.Find.{get_member}
-use Rattle.json_tree.specs.Trees.{members_view, view}
-use Rattle.json_tree.proofs.TreeLemmas.{get_member-push}
+use Rattle.json_tree.specs.Trees.{BeginsMembers, HasData, view}
+use Rattle.json_tree.proofs.NodeLemmas.{token_is_of, within}
+use Rattle.json_tree.proofs.TokenLemmas.{members_over, members_split, put_found, put_other, some_data, some_members}
 use Rattle.json_tree.proofs.tree.find.Goals as goal
 
-pub returns-then-eq : goal.returns-then-eq
-returns-then-eq c =
-    let xs = c.args.members.now.items in
-    let i = c.loop-left.left - 1 in
-    let m = c.index-member.result.now in
-    let name = c.args.name.now in
-    let next : c.loop-left.left ≡ i + 1 = omega arith in
-    let front : take c.loop-left.left xs ≡ take i xs ++ m ∷ [] = ap (λ k. take k xs) next ∙ take_more xs i m (omega arith) ∙ ap (λ y. take i xs ++ y ∷ []) (sym c.index-member.ensures) in
-    let step = c.loop-left.invariant.0 ∙ ap (λ ys. get_member name (members_view ys)) front ∙ get_member-push name (take i xs) m in
-    let pick = λ (b : Bool). cond b (Some (view m.1)) (get_member name (members_view (take i xs))) in
-    let same : bytes_eq m.0.now name ≡ true = grind arith in
-    sym (step ∙ ap pick same)
+pub node_at-requires : goal.node_at-requires
+node_at-requires c =
+    let (ms, rest, begins) = c.requires.begins in
+    let (old, left, found) = c.members.invariant ms rest begins in
+    within c.args.nodes.now c.members.at (λ e. some_members old ms rest (subst (λ l. BeginsMembers l old ms rest) e left))
 
-pub loop-left-preserved : goal.loop-left-preserved
-loop-left-preserved c =
-    let xs = c.args.members.now.items in
-    let i = c.loop-left.left - 1 in
-    let m = c.index-member.result.now in
-    let name = c.args.name.now in
-    let next : c.loop-left.left ≡ i + 1 = omega arith in
-    let front : take c.loop-left.left xs ≡ take i xs ++ m ∷ [] = ap (λ k. take k xs) next ∙ take_more xs i m (omega arith) ∙ ap (λ y. take i xs ++ y ∷ []) (sym c.index-member.ensures) in
-    let step = c.loop-left.invariant.0 ∙ ap (λ ys. get_member name (members_view ys)) front ∙ get_member-push name (take i xs) m in
-    let pick = λ (b : Bool). cond b (Some (view m.1)) (get_member name (members_view (take i xs))) in
-    let other : bytes_eq m.0.now name ≡ false = grind arith in
-    (step ∙ ap pick other, omega arith)
+pub after-at-requires-clause-within : goal.after-at-requires-clause-within
+after-at-requires-clause-within c =
+    let (ms, rest, begins) = c.requires.begins in
+    let (old, left, found) = c.members.invariant ms rest begins in
+    let inside = drop (c.members.at + 1) (map node_token c.args.nodes.now) in
+    let named = c.node_at.ensures ∙ ap (λ n. node_token n ∷ inside) c.in-Key.is in
+    let (j, more, whole, value, others) = members_split c.in-Key.key.now inside old ms rest (subst (λ l. BeginsMembers l old ms rest) named left) in
+    within c.args.nodes.now (c.members.at + 1) (λ e. some_data (subst HasData e value))
+
+pub members-preserved-then-eq : goal.members-preserved-then-eq
+members-preserved-then-eq c ms rest begins =
+    let (old, left, found) = c.members.invariant ms rest begins in
+    let inside = drop (c.members.at + 1) (map node_token c.args.nodes.now) in
+    let k = c.in-Key.key.now in
+    let named = c.node_at.ensures ∙ ap (λ n. node_token n ∷ inside) c.in-Key.is in
+    let (j, more, whole, value, others) = members_split k inside old ms rest (subst (λ l. BeginsMembers l old ms rest) named left) in
+    let new = put k (view inside) old in
+    let same : bytes_eq k c.args.name.now ≡ true = grind arith in
+    (new, subst (λ l. BeginsMembers l new ms rest) (sym (c.after-at.ensures.value j more whole)) others, (value, put_found c.args.name.now k (view inside) old same))
+
+pub members-preserved : goal.members-preserved
+members-preserved c ms rest begins =
+    let (old, left, found) = c.members.invariant ms rest begins in
+    let all = map node_token c.args.nodes.now in
+    let inside = drop (c.members.at + 1) all in
+    let k = c.in-Key.key.now in
+    let named = c.node_at.ensures ∙ ap (λ n. node_token n ∷ inside) c.in-Key.is in
+    let (j, more, whole, value, others) = members_split k inside old ms rest (subst (λ l. BeginsMembers l old ms rest) named left) in
+    let new = put k (view inside) old in
+    let other : bytes_eq k c.args.name.now ≡ false = grind arith in
+    (new, subst (λ l. BeginsMembers l new ms rest) (sym (c.after-at.ensures.value j more whole)) others,
+      subst (λ o. MatchOption c.members.found (o ≡ None) (λ i. HasData (drop i all) × (o ≡ Some (view (drop i all))))) (sym (put_other c.args.name.now k (view inside) old other)) found)
+
+pub returns : goal.returns
+returns c ms rest begins =
+    let (old, left, found) = c.members.invariant ms rest begins in
+    let all = map node_token c.args.nodes.now in
+    let n = c.node_at.result in
+    let same : ms ≡ old =
+        members_over (node_token n) (drop (c.members.at + 1) all) old ms rest
+        (λ k e. let (x, is) = token_is_of n (key k) e in grind arith)
+        (subst (λ l. BeginsMembers l old ms rest) c.node_at.ensures left) in
+    subst (λ m. MatchOption c.members.found (get_member c.args.name.now m ≡ None) (λ i. HasData (drop i all) × (get_member c.args.name.now m ≡ Some (view (drop i all))))) (sym same) found

@@ -1,0 +1,9 @@
+use Rattle.std.proofs.Common.{ap, arith, inl, inr, is_some, refl, sym}
+use Rattle.serde_json.specs.Find.{as_null}
+use Rattle.json_tree.specs.Trees.{view}
+use Rattle.json_tree.proofs.NodeLemmas.{otherwise}
+use Rattle.json_tree.proofs.tree.Tree.is_null.Goals as goal
+
+pub returns-in_default : goal.returns-in_default
+returns-in_default c =
+    ap is_some (sym (otherwise as_null c.node.result (view c.args.self.now) c.node.ensures (inr (λ ms. refl)) (inr (λ ds. refl)) (inr (λ s. refl)) (inr (λ m. refl)) (inr (λ b. refl)) (inl (λ e. grind arith))))
