@@ -119,7 +119,10 @@ fn has_id(clubs: &[(ClubId, Name)], id: ClubId) -> bool
 }
 
 /// A player with his figures.
-pub(crate) fn player_line(alloc: Global, value: &Tree<'_, '_>) -> Result<(PlayerId, Line), ReadFault>
+pub(crate) fn player_line(
+    alloc: Global,
+    value: &Tree<'_, '_>,
+) -> Result<(PlayerId, Line), ReadFault>
     ensures { Gives result (player_line (view value.now)) }
 {
     let player = player_id(value, FieldName::Player)?;

@@ -193,7 +193,11 @@ fn text<'a>(value: &Tree<'_, 'a>, which: FieldName) -> Result<&'a str, ReadFault
 }
 
 /// A name.
-pub(crate) fn title(alloc: Global, value: &Tree<'_, '_>, which: FieldName) -> Result<Name, ReadFault>
+pub(crate) fn title(
+    alloc: Global,
+    value: &Tree<'_, '_>,
+    which: FieldName,
+) -> Result<Name, ReadFault>
     ensures { Gives result (title which (view value.now)) }
 {
     let text = text(value, which)?;

@@ -14,8 +14,9 @@ use Rattle.json.specs.declared.tape.Node.TheVariants.{Object, EndObject, Array, 
 use Rattle.json.proofs.Found.{one_reading, Some_inj}
 use Rattle.json.proofs.Grammar.{left_some}
 use Rattle.json.proofs.Printed.Trees.{value-json_tokens}
-use Rattle.serde_json.specs.Data.{Num, Data, null, boolean, number, string, array, object, Items, Members}
-use Rattle.json_tree.specs.Trees.{Tells}
+use Rattle.serde_json.specs.Data.{Num, Data, null, boolean, number, string, array, object, Items, item, Members}
+use Rattle.json_tree.specs.Trees.{HasData, HasItems, Tells, seen, view}
+use Rattle.json_tree.proofs.TokenLemmas.{items_split}
 
 pub here : (ns : List Node) (i : ℕ) (d : Node) → i < length ns → drop i (map node_token ns) ≡ node_token (get_or ns i d) ∷ drop (i + 1) (map node_token ns)
 here ns i d h =
@@ -79,3 +80,9 @@ otherwise f (Bool b) d is p q r s (inl never) u = absurd (never b refl)
 otherwise f (Bool b) d is p q r s (inr none) u = ap f is ∙ none b
 otherwise f Null d is p q r s t (inl never) = absurd (never refl)
 otherwise f Null d is p q r s t (inr none) = ap f is ∙ none
+
+-- the item that begins at a node, and those after it
+pub items_split_here : (n : Node) (ts after : List Token) → ts ≡ node_token n ∷ after → n ≢ EndArray → HasItems ts
+    → (j : json.Json) × (rest : List Token) × (ts ≡ json_tokens j ++ rest) × HasData ts × HasItems rest × (seen ts ≡ item (view ts) (seen rest))
+items_split_here n ts after first other h =
+    items_split ts h (λ r e. let closing : node_token n ≡ Token.end_array = cc (first, e) in other (token_is_of n Token.end_array closing))

@@ -31,7 +31,7 @@ both true b e = (refl, e)
 both false b e = absurd (cc e)
 
 first_false : (a b : Bool) → (a && b) ≡ false → b ≡ true → a ≡ false
-first_false true b e f = absurd (let never : true ≡ false = sym f ∙ e in cc never)
+first_false true b e f = sym f ∙ e
 first_false false b e f = refl
 
 is_low : (n : ℕ) → n ≤ 127 → nat_le n 127 ≡ true

@@ -31,7 +31,7 @@ view_is ts d rest (j, spelled, is, low) =
 unmapped : (o : Option (json.Items × List Token)) (js : json.Items) (rest : List Token) → parse_map json.array o ≡ Some (json.array js, rest) → o ≡ Some (js, rest)
 unmapped None js rest e = absurd (cc e)
 unmapped (Some (ks, r)) js rest e =
-    let same : (json.array ks, r) ≡ (json.array js, rest) = Some_inj _ _ e in
+    let same : (json.array ks, r) ≡ (json.array js, rest) = Some_inj (json.array ks, r) (json.array js, rest) e in
     let list : json.array ks ≡ json.array js = ap (λ p. p.0) same in
     let inside : ks ≡ js = cc list in
     ap₂ (λ k l. Some (k, l)) inside (ap (λ p. p.1) same)

@@ -1,4 +1,4 @@
-use Rattle.std.proofs.Common.{◌≡◌, ◌∙◌, Some, ap, arith, subst, sym}
+use Rattle.std.proofs.Common.{◌∙◌, Some, ap, arith, subst, sym}
 use Rattle.json.specs.Json.{document}
 use Rattle.json_tree.specs.Trees.{HasData, view}
 use Rattle.json_tree.proofs.TextLemmas.{some_of, spelled, text_invalid, text_read, text_refused}

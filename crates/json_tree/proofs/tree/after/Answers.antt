@@ -1,4 +1,4 @@
-use Rattle.std.proofs.Common.{◌≡◌, ◌+◌, ◌<◌, ◌≢◌, ◌∷◌, ◌++◌, map, drop, get_or, sym, ap, ◌∙◌, subst, arith, ⊎_elim}
+use Rattle.std.proofs.Common.{◌+◌, ◌≢◌, map, drop, get_or, sym, ◌∙◌, subst, arith, ⊎_elim}
 use Rattle.std.proofs.lemmas.List.{get_or_default}
 use Rattle.json.specs.Tape.{node_token, LinkAt, Passes}
 use Rattle.json.specs.Token.{begin_array, begin_object}

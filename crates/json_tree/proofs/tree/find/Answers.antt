@@ -1,4 +1,4 @@
-use Rattle.std.proofs.Common.{◌≡◌, ◌∙◌, ◌+◌, ◌-◌, ◌∷◌, List, true, false, None, Some, ap, arith, drop, map, refl, subst, sym}
+use Rattle.std.proofs.Common.{◌≡◌, ◌∙◌, ◌+◌, ◌∷◌, true, false, None, Some, ap, arith, drop, map, subst, sym}
 use Rattle.std.specs.Prelude.{MatchOption}
 use Rattle.std.specs.Str.{bytes_eq}
 use Rattle.json.specs.Tape.{node_token}
@@ -45,9 +45,11 @@ members-preserved c ms rest begins =
     let named = c.node_at.ensures ∙ ap (λ n. node_token n ∷ inside) c.in-Key.is in
     let (j, more, whole, value, others) = members_split k inside old ms rest (subst (λ l. BeginsMembers l old ms rest) named left) in
     let new = put k (view inside) old in
-    let other : bytes_eq k c.args.name.now ≡ false = grind arith in
-    (new, subst (λ l. BeginsMembers l new ms rest) (sym (c.after-at.ensures.value j more whole)) others,
-      subst (λ o. MatchOption c.members.found (o ≡ None) (λ i. HasData (drop i all) × (o ≡ Some (view (drop i all))))) (sym (put_other c.args.name.now k (view inside) old other)) found)
+    let other : bytes_eq k c.args.name.now ≡ false = grind arith in (
+      new,
+      subst (λ l. BeginsMembers l new ms rest) (sym (c.after-at.ensures.value j more whole)) others,
+      subst (λ o. MatchOption c.members.found (o ≡ None) (λ i. HasData (drop i all) × (o ≡ Some (view (drop i all))))) (sym (put_other c.args.name.now k (view inside) old other)) found,
+    )
 
 pub returns : goal.returns
 returns c ms rest begins =
@@ -55,7 +57,7 @@ returns c ms rest begins =
     let all = map node_token c.args.nodes.now in
     let n = c.node_at.result in
     let same : ms ≡ old =
-        members_over (node_token n) (drop (c.members.at + 1) all) old ms rest
-        (λ k e. let (x, is) = token_is_of n (key k) e in grind arith)
-        (subst (λ l. BeginsMembers l old ms rest) c.node_at.ensures left) in
+    members_over (node_token n) (drop (c.members.at + 1) all) old ms rest
+    (λ k e. let (x, is) = token_is_of n (key k) e in grind arith)
+    (subst (λ l. BeginsMembers l old ms rest) c.node_at.ensures left) in
     subst (λ m. MatchOption c.members.found (get_member c.args.name.now m ≡ None) (λ i. HasData (drop i all) × (get_member c.args.name.now m ≡ Some (view (drop i all))))) (sym same) found

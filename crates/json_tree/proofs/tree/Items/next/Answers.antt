@@ -1,12 +1,10 @@
-use Rattle.std.proofs.Common.{◌≡◌, ◌≢◌, ◌∙◌, ◌+◌, ◌<◌, ◌∷◌, List, ap, arith, drop, length, length-drop, map, refl, subst, sym}
+use Rattle.std.proofs.Common.{◌<◌, ◌∙◌, ◌+◌, ◌∷◌, ap, arith, drop, length, length-drop, map, subst, sym}
 use Rattle.std.proofs.lemmas.List.{length-map}
 use Rattle.json.specs.Tape.{node_token}
-use Rattle.json.specs.Token.{Token, end_array}
-use Rattle.json.specs.declared.tape.Node.TheVariants.{EndArray}
 use Rattle.serde_json.specs.Data.{item}
 use Rattle.json_tree.specs.Trees.{HasItems, seen, view}
-use Rattle.json_tree.proofs.NodeLemmas.{token_is_of, within}
-use Rattle.json_tree.proofs.TokenLemmas.{items_over, items_split, some_items}
+use Rattle.json_tree.proofs.NodeLemmas.{items_split_here, within}
+use Rattle.json_tree.proofs.TokenLemmas.{items_over, some_items}
 use Rattle.json_tree.proofs.tree.Items.next.Goals as goal
 
 pub node_at-requires : goal.node_at-requires
@@ -27,41 +25,22 @@ after-self-inside-requires c =
 
 pub invariant_of-result : goal.invariant_of-result
 invariant_of-result c =
-    let all = map node_token c.self.inside.nodes.now in
-    let rest = drop (c.self.inside.at + 1) all in
-    let n = c.node_at.result in
-    let going : (r : List Token) → drop c.self.inside.at all ≢ end_array ∷ r =
-        λ r e. let closing : node_token n ≡ end_array = cc (c.node_at.ensures, e) in
-          let is : n ≡ EndArray = token_is_of n end_array closing in
-          grind arith in
-    let (j, left, whole, begins, others, parts) = items_split (drop c.self.inside.at all) c.self.invariant.1 going in
+    let (j, rest, whole, begins, others, parts) = items_split_here c.node_at.result _ _ c.node_at.ensures c.in_default.not-EndArray c.self.invariant.1 in
     (c.self.invariant.0, begins)
 
 pub invariant_of-self : goal.invariant_of-self
 invariant_of-self c =
-    let all = map node_token c.self.inside.nodes.now in
-    let rest = drop (c.self.inside.at + 1) all in
-    let n = c.node_at.result in
-    let going : (r : List Token) → drop c.self.inside.at all ≢ end_array ∷ r =
-        λ r e. let closing : node_token n ≡ end_array = cc (c.node_at.ensures, e) in
-          let is : n ≡ EndArray = token_is_of n end_array closing in
-          grind arith in
-    let (j, left, whole, begins, others, parts) = items_split (drop c.self.inside.at all) c.self.invariant.1 going in
-    (c.self.invariant.0, subst HasItems (sym (c.after-self-inside.ensures.value j left whole)) others)
+    let (j, rest, whole, begins, others, parts) = items_split_here c.node_at.result _ _ c.node_at.ensures c.in_default.not-EndArray c.self.invariant.1 in
+    (c.self.invariant.0, subst HasItems (sym (c.after-self-inside.ensures.value j rest whole)) others)
 
 pub returns : goal.returns
 returns c =
     let all = map node_token c.self.inside.nodes.now in
-    let rest = drop (c.self.inside.at + 1) all in
-    let n = c.node_at.result in
-    let going : (r : List Token) → drop c.self.inside.at all ≢ end_array ∷ r =
-        λ r e. let closing : node_token n ≡ end_array = cc (c.node_at.ensures, e) in
-          let is : n ≡ EndArray = token_is_of n end_array closing in
-          grind arith in
-    let (j, left, whole, begins, others, parts) = items_split (drop c.self.inside.at all) c.self.invariant.1 going in
+    let (j, rest, whole, begins, others, parts) = items_split_here c.node_at.result _ _ c.node_at.ensures c.in_default.not-EndArray c.self.invariant.1 in
     let inside : c.self.inside.at < length c.self.inside.nodes.now = within c.self.inside.nodes.now c.self.inside.at (λ e. some_items (subst HasItems e c.self.invariant.1)) in
     record {
-      next = ap seen (sym c.self.view_is) ∙ parts ∙ ap (λ l. item (view (drop c.self.inside.at all)) (seen l)) (sym (c.after-self-inside.ensures.value j left whole));
-      fewer = omega (arith, length-drop c.after-self-inside.result all, length-drop c.self.inside.at all, length-map c.self.inside.nodes.now node_token, ap length c.self.view_is, c.after-self-inside.ensures.later);
+      next = ap seen (sym c.self.view_is) ∙ parts ∙ ap (λ l. item (view (drop c.self.inside.at all)) (seen l)) (sym (c.after-self-inside.ensures.value j rest whole));
+      fewer =
+          omega (arith, length-drop c.after-self-inside.result all, length-drop c.self.inside.at all, length-map c.self.inside.nodes.now node_token, ap length c.self.view_is, c.after-self-inside.ensures.later);
       stays = tt;
     }

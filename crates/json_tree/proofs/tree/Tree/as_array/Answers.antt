@@ -1,8 +1,7 @@
-use Rattle.std.proofs.Common.{◌≡◌, ◌∙◌, ◌+◌, ◌∷◌, Some, ap, arith, drop, inl, inr, map, refl, subst, sym}
+use Rattle.std.proofs.Common.{◌∙◌, ◌+◌, ◌∷◌, ap, arith, drop, inl, inr, map, refl, subst, sym}
 use Rattle.json.specs.Tape.{node_token}
-use Rattle.json.specs.Token.{begin_array}
 use Rattle.serde_json.specs.Find.{as_array}
-use Rattle.json_tree.specs.Trees.{HasData, HasItems, seen, view}
+use Rattle.json_tree.specs.Trees.{HasData, view}
 use Rattle.json_tree.proofs.NodeLemmas.{otherwise, within}
 use Rattle.json_tree.proofs.TokenLemmas.{first_tells_view, list_inside, some_data}
 use Rattle.json_tree.proofs.tree.Tree.as_array.Goals as goal

@@ -1,4 +1,4 @@
-use Rattle.std.proofs.Common.{◌≡◌, ◌∙◌, ◌+◌, ◌∷◌, Some, ap, arith, drop, inl, inr, map, refl, subst, sym}
+use Rattle.std.proofs.Common.{◌∙◌, ◌+◌, ◌∷◌, ap, arith, drop, inl, inr, map, refl, subst, sym}
 use Rattle.json.specs.Tape.{node_token}
 use Rattle.serde_json.specs.Find.{get}
 use Rattle.json_tree.specs.Trees.{HasData, view}
