@@ -5,5 +5,6 @@ pub mod WorkFacts
 pub mod LevelFacts
 pub mod MaxFacts
 pub mod ChangeFacts
+pub mod AffectedFacts
 pub mod RemainsFacts
 pub mod HashFacts

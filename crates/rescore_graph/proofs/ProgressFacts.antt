@@ -5,7 +5,7 @@ use Rattle.rescore_graph.specs.Graph.{Among, NoneTwice, Graph, IsGraph, Reach, D
 use Rattle.rescore_graph.specs.States.{State, value_of, is_dirty, count_of, values_in, IsDirty, raise, bump}
 use Rattle.rescore_graph.specs.Settling.{Sound, HasNewInput, Settles, Progress, Evaluates, AreByLevel}
 use Rattle.rescore_graph.proofs.RaisedFacts.{value_raise, count_raise, raise_clean, dirty_some, some_stored, clean_stored, value_stored, count_stored, raised_value, raised_count, raised_some, raised_clean, raised_only, raised_keeps}
-use Rattle.rescore_graph.proofs.ReplayFacts.{settled_below}
+use Rattle.rescore_graph.proofs.ReplayFacts.{each_or, settled_below}
 
 pub among_push : {N : Type 0} (xs : List N) (n q : N) → Among (xs ++ n ∷ []) q → Among xs q ⊎ (n ≡ q)
 among_push [] n q (inl e) = inr e
@@ -74,14 +74,22 @@ module _ {N V : Type 0} (g : Graph N V) (law : IsGraph g) (apart : (n q : N) →
     still_clean : (q : N) → is_dirty (u q) ≡ false → is_dirty (t q) ≡ false
     still_clean q c = sym (ap is_dirty (raised_clean (DependsOn g n) t u e.raised q c)) ∙ c
 
-    -- what a node that is clean after reads did not change
-    same_input : (q m : N) → g.live q → is_dirty (u q) ≡ false → Among (g.inputs q) m → values_in t m ≡ values_in w m
-    same_input q m l c a = ⊎_elim at_n (λ ne. sym (value_there m ne)) (apart n m)
+    -- what a node that is clean after makes of its inputs did not change
+    same_own : (q : N) → g.live q → is_dirty (u q) ≡ false → g.own q (values_in t) ≡ g.own q (values_in w)
+    same_own q l c = ⊎_elim
+        (λ far. law.local q l (values_in t) (values_in w) (λ m a. sym (value_there m (far m a))))
+        (λ k. near (subst (Among (g.inputs q)) (sym k.1.1) k.1.0))
+        (each_or (λ m. n ≢ m) (λ m. n ≡ m) (g.inputs q) (λ m a. ⊎_elim inr inl (apart n m)))
       where
-        at_n : n ≡ m → values_in t m ≡ values_in w m
-        at_n i = ⊎_elim
-            (λ f. sym (subst (λ x. values_in w x ≡ values_in t x) i (value_here ∙ sym f)))
-            (λ p. absurd (true_not_false (p.1 q (l, subst (λ x. Among (g.inputs q) x) (sym i) a)) c))
+        unchanged : values_in t n ≡ Some v → (m : N) → values_in t m ≡ values_in w m
+        unchanged f m = ⊎_elim
+            (λ i. subst (λ x. values_in t x ≡ values_in w x) i (f ∙ sym value_here))
+            (λ ne. sym (value_there m ne)) (apart n m)
+
+        near : Among (g.inputs q) n → g.own q (values_in t) ≡ g.own q (values_in w)
+        near a = ⊎_elim
+            (λ f. law.local q l (values_in t) (values_in w) (λ m b. unchanged f m))
+            (λ p. ⊎_elim (λ d. absurd (true_not_false d c)) (λ k. k.1.1 (values_in t) (values_in w) k.1.0 value_here (λ m ne. sym (value_there m ne))) (p.1 q (l, a)))
             e.change
 
     pub evaluated_sound : Sound g w
@@ -94,7 +102,7 @@ module _ {N V : Type 0} (g : Graph N V) (law : IsGraph g) (apart : (n q : N) →
           (λ i. subst (λ x. values_in w x ≡ Some (g.own x (values_in w))) i
           (value_here ∙ ap Some (e.value ∙ law.local n live (values_in t) (values_in w) (λ m a. sym (value_there m (input_apart m a))))))
           (λ ne. value_there q ne ∙ sound.value q l (still_clean q (clean_before q ne c))
-          ∙ ap Some (law.local q l (values_in t) (values_in w) (λ m a. same_input q m l (clean_before q ne c) a)))
+          ∙ ap Some (same_own q l (clean_before q ne c)))
           (apart n q);
     }
       where

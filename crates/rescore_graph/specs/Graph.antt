@@ -1,5 +1,5 @@
 -- What depends on what, and the replay values.
-use Rattle.std.specs.Prelude.{◌≡◌, ℕ, zero, suc, ◌<◌, List, [], ◌∷◌, ◌⊎◌, ◌↔◌, Option, None, Some}
+use Rattle.std.specs.Prelude.{◌≡◌, ◌≢◌, ℕ, zero, suc, ◌<◌, List, [], ◌∷◌, ◌⊎◌, ◌↔◌, Option, None, Some}
 
 -- x is an element of xs
 abbrev pub Among : {X : Type 0} → List X → X → Type 0
@@ -41,6 +41,15 @@ DependsOn g n q = g.live q × Among (g.inputs q) n
 -- the list has the live nodes of which n is an input, and no other
 abbrev pub IsDependents : {N V : Type 0} → Graph N V → N → List N → Type 0
 IsDependents {N} g n ds = (m : N) → Among ds m ↔ DependsOn g n m
+
+-- the node q has one value whether its input n has this value or that one
+abbrev pub IsIndifferent : {N V : Type 0} → Graph N V → N → V → V → N → Type 0
+IsIndifferent {N} {V} g n old new q = (f h : N → Option V) → f n ≡ Some old → h n ≡ Some new → ((m : N) → n ≢ m → f m ≡ h m) → g.own q f ≡ g.own q h
+
+-- the list has live nodes of which n is an input, and all to whom it matters that the value of n was one and is another
+pub record AreAffected {N V : Type 0} (g : Graph N V) (n : N) (old new : V) (ds : List N) : Type 0 where
+  pub depend : (m : N) → Among ds m → DependsOn g n m
+  pub rest : (m : N) → DependsOn g n m → Among ds m ⊎ IsIndifferent g n old new m
 
 -- a chain of k inputs leads from S to the node
 abbrev pub ReachBy : {N V : Type 0} → Graph N V → (N → Type 0) → ℕ → N → Type 0

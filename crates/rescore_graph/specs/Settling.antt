@@ -1,6 +1,6 @@
 -- When cells can be settled, what settling does, and what holds after it.
 use Rattle.std.specs.Prelude.{◌≡◌, ◌≢◌, ◌≤◌, false, List, [], ◌∷◌, ◌⊎◌, ◌↔◌, IsSome, Some}
-use Rattle.rescore_graph.specs.Graph.{Among, NoneTwice, Graph, replay, DependsOn, Reach}
+use Rattle.rescore_graph.specs.Graph.{Among, NoneTwice, Graph, replay, DependsOn, IsIndifferent, Reach}
 use Rattle.rescore_graph.specs.States.{State, is_dirty, count_of, values_in, IsDirty, raise, bump, stored, Raised}
 
 -- The cells are those of the live nodes. Each input of a clean cell has a value. A clean cell's value is its node's own function of the values that its inputs' cells hold now, where a dirty input still holds its old one.
@@ -65,13 +65,17 @@ pub record Remains {N V : Type 0} (g : Graph N V) (s t : State N V) : Type 0 whe
   -- no node was evaluated twice
   pub counts : (n : N) → (count_of (t n) ≡ count_of (s n)) ⊎ (count_of (t n) ≡ bump (count_of (s n)))
 
--- The node n of t was evaluated to v: u is t with its dependents dirty where the value is new, and w is u with the value stored.
+-- the node q has one value by what n has in t and by v
+abbrev pub IsCalm : {N V : Type 0} → Graph N V → State N V → N → V → N → Type 0
+IsCalm {N} {V} g t n v q = (old : V) × ((values_in t n ≡ Some old) × IsIndifferent g n old v q)
+
+-- The node n of t was evaluated to v: u is t with those of its dependents dirty to whom the new value matters, and w is u with the value stored.
 pub record Evaluates {N V : Type 0} (g : Graph N V) (n : N) (v : V) (t u w : State N V) : Type 0 where
   pub dirty : IsDirty t n
   pub least : (d : N) → IsDirty t d → g.level n ≤ g.level d
   pub value : v ≡ g.own n (values_in t)
   pub raised : Raised (DependsOn g n) t u
-  pub change : (values_in t n ≡ Some v) ⊎ ((values_in t n ≢ Some v) × ((q : N) → DependsOn g n q → IsDirty u q))
+  pub change : (values_in t n ≡ Some v) ⊎ ((values_in t n ≢ Some v) × ((q : N) → DependsOn g n q → IsDirty u q ⊎ IsCalm g t n v q))
   pub calm : values_in t n ≡ Some v → (q : N) → u q ≡ t q
   pub here : w n ≡ stored v (u n)
   pub others : (q : N) → n ≢ q → w q ≡ u q

@@ -134,6 +134,17 @@ impl Rules for MaxBook {
         Ok(found)
     }
 
+    // To each top it matters.
+    fn affected(
+        &self,
+        alloc: Global,
+        n: MaxNode,
+        _old: &u32,
+        _new: &u32,
+    ) -> Result<Vec<MaxNode>, Memory> {
+        Ok(self.dependents(alloc, n)?)
+    }
+
     fn eval<L: Ledger>(
         &self,
         alloc: Global,

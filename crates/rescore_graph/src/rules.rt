@@ -1,6 +1,6 @@
 ghost use Rattle.std.specs.Prelude.{◌≡◌, ◌+◌, ◌≤◌, ◌↔◌, IfOk, IsTrue};
 ghost use Rattle.std.proofs.lemmas.Map.Lookups.{CmpEqualImpliesEq};
-ghost use Rattle.rescore_graph.specs.Graph.{Graph, IsGraph, IsDependents, Among, replay};
+ghost use Rattle.rescore_graph.specs.Graph.{Graph, IsGraph, IsDependents, AreAffected, Among, replay};
 ghost use Rattle.rescore_graph.specs.States.{look, values_in};
 
 use crate::cells::Cells;
@@ -39,6 +39,19 @@ pub trait Rules {
         requires { in_order self.now }
         ensures { (graph self.now).live n
             → IfOk result (λ ns. IsDependents (graph self.now) n ns.items) };
+
+    /// Some of them: all to whom it matters that the node's value was the old one and is the new one. Settling evaluates
+    /// these.
+    fn affected(
+        &self,
+        alloc: Global,
+        n: Self::Node,
+        old: &Self::Value,
+        new: &Self::Value,
+    ) -> Result<Vec<Self::Node>, Memory>
+        requires { in_order self.now }
+        ensures { (graph self.now).live n
+            → IfOk result (λ ns. AreAffected (graph self.now) n old.now new.now ns.items) };
 
     /// The node's own function of the values that its inputs' cells hold. It makes at most as many counted reads as the
     /// node's weight.

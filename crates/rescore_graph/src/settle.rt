@@ -3,7 +3,7 @@ ghost use Rattle.std.specs.List.{sum_by};
 ghost use Rattle.std.specs.Option.{option_copied};
 ghost use Rattle.rescore_graph.specs.Graph.{Among, DependsOn};
 ghost use Rattle.rescore_graph.specs.States.{look, values_in, State, IsDirty, Raised};
-ghost use Rattle.rescore_graph.specs.Settling.{Sound, Progress, Evaluates, Settles, Remains};
+ghost use Rattle.rescore_graph.specs.Settling.{Sound, Progress, Evaluates, IsCalm, Settles, Remains};
 ghost use Rattle.rescore_graph.specs.Work.{AreAll, IsFront};
 
 use crate::cells::{Cells, slot_of};
@@ -152,7 +152,7 @@ impl<N: Copy + Ord + Hash, V: Drop> Cells<N, V> {
         Ok(())
     }
 
-    // Makes the dependents of n dirty where this value is new to it.
+    // Makes those dependents of n dirty to whom it matters that it has this value now.
     fn spread<R: Rules<Node = N, Value = V>>(
         &mut self,
         rules: &R,
@@ -169,23 +169,25 @@ impl<N: Copy + Ord + Hash, V: Drop> Cells<N, V> {
         ensures change { OnOk result
             ((values_in (look N.cmp self.old) n ≡ Some value.now)
             ⊎ ((values_in (look N.cmp self.old) n ≢ Some value.now)
-            × ((q : N) → DependsOn (R.graph rules.now) n q → IsDirty (look N.cmp self.new) q))) }
+            × ((q : N) → DependsOn (R.graph rules.now) n q
+            → IsDirty (look N.cmp self.new) q
+            ⊎ IsCalm (R.graph rules.now) (look N.cmp self.old) n value.now q))) }
         ensures calm { values_in (look N.cmp self.old) n ≡ Some value.now → (q : N)
             → look N.cmp self.new q ≡ look N.cmp self.old q }
         ensures work { OnOk result (AreAll (look N.cmp self.new) work.new) }
         ensures front { IsFront work.old work.new }
     {
-        match self.value_at(n) {
+        let affected = match self.value_at(n) {
             // What depends on a node without a value has to be evaluated already.
             None => return Ok(()),
             Some(old) => {
                 if R::same(old, value) {
                     return Ok(());
                 }
+                rules.affected(self.alloc, n, old, value)?
             }
-        }
-        let dependents = rules.dependents(self.alloc, n)?;
-        self.mark_all::<R>(&dependents, work)
+        };
+        self.mark_all::<R>(&affected, work)
     }
 
     // The value of a node, which is no read of an evaluation; `None` where it was not evaluated yet.

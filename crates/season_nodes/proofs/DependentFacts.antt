@@ -1,30 +1,33 @@
 -- Dependents are the converse of inputs.
-use Rattle.std.proofs.Common.{◌≡◌, ℕ, zero, suc, ◌+◌, ◌*◌, ◌/◌, ◌<◌, ◌≤◌, ◌==◌, Bool, true, false, ◌&&◌, nat_le, if◌then◌else◌, cond, ◌⊎◌, inl, inr, ⊎_elim, List, [], ◌∷◌, ◌-◌, Option, Some, None, is_some, length, get_or, refl, sym, ◌∙◌, ap, ap₂, subst, arith}
+use Rattle.std.proofs.Common.{◌≡◌, ℕ, zero, suc, ◌+◌, ◌*◌, ◌/◌, ◌<◌, ◌≤◌, ◌==◌, Bool, true, false, not, ◌&&◌, nat_le, if◌then◌else◌, cond, ◌⊎◌, inl, inr, ⊎_elim, List, [], ◌∷◌, ◌-◌, Option, Some, None, is_some, length, get_or, ne_eqb, refl, sym, ◌∙◌, ap, ap₂, subst, arith}
 use Rattle.std.specs.List.{filter, find, flat_map, range_with_len, slice_index, AllPairs}
-use Rattle.std.specs.Option.{option_and_then, option_map_or}
-use Rattle.std.proofs.lemmas.Bool.{cases_lt}
+use Rattle.std.specs.Option.{option_and_then, option_map_or, unwrap_or}
+use Rattle.std.proofs.lemmas.Bool.{cases_eq, cases_lt}
 use Rattle.std.proofs.lemmas.Bool.Decides.{leb_tells, nat_tests}
 use Rattle.std.proofs.lemmas.Option.{same_Some}
 use Rattle.rule_book.specs.declared.season.Fixture.{Fixture}
+use Rattle.rule_book.specs.ById.{at_id}
 use Rattle.rule_book.specs.Calendar.{is_gameweek, standing_among, standing, stands_in}
 use Rattle.rule_book.specs.LeagueCalls.{leagues_of}
 use Rattle.rule_book.specs.LeagueRows.{place_of}
 use Rattle.rule_book.specs.MatchFacts.{lines_of}
 use Rattle.rule_book.specs.declared.pairing.Opponent.{Opponent}
 use Rattle.rule_book.specs.declared.pairing.Opponent.TheVariants.{Place, Average}
-use Rattle.rescore_graph.specs.Graph.{Among, IsDependents}
+use Rattle.rescore_graph.specs.Graph.{Among, AreAffected, IsDependents, IsIndifferent}
 use Rattle.season_nodes.specs.declared.nodes.Node.{Node}
 use Rattle.season_nodes.specs.declared.nodes.Node.TheVariants as node
-use Rattle.season_nodes.specs.Dependents.{average_dependents, average_if, counting, cup_dependents, reached, table_dependents, tie_dependents, is_average, line_dependents, bonus_dependents, gameweek_dependents, match_dependents, opponent_dependents, place_in, round_dependents, team_dependents, total_dependents, dependents_of}
+use Rattle.season_nodes.specs.declared.nodes.Value.{Value}
+use Rattle.season_nodes.specs.declared.nodes.Value.TheVariants as value
+use Rattle.season_nodes.specs.Dependents.{bonus_affected, given, average_dependents, average_if, counting, cup_dependents, reached, table_dependents, tie_dependents, is_average, line_dependents, bonus_dependents, gameweek_dependents, match_dependents, opponent_dependents, place_in, round_dependents, team_dependents, total_dependents, dependents_of}
 use Rattle.season_nodes.specs.Brackets.{is_in, part_of, ties_after}
 use Rattle.season_nodes.specs.IndexFacts.{IsIndex}
 use Rattle.season_nodes.specs.NodeOrder.{kind_of, first_of, second_of, third_of}
 use Rattle.season_nodes.specs.Places.{at_place, has_place, order_differs, order_mine, own_place, placed_among}
-use Rattle.season_nodes.specs.Reading.{among_either, among_left, among_right, from_any, from_range, to_range, from_filter, to_any, to_filter, from_map, to_map, from_flat, to_flat}
+use Rattle.season_nodes.specs.Reading.{among_either, among_left, among_right, fold_local, from_any, from_range, to_range, from_filter, to_any, to_filter, from_map, to_map, from_flat, to_flat}
 use Rattle.season_nodes.specs.RoundLaws.{lower_both, lower_own, lower_whose, met_place}
 use Rattle.season_nodes.specs.Rounds.{has_average, order_in, place_met, start_in}
 use Rattle.season_nodes.specs.TieLaws.{cup_within, in_slots, slots_in}
-use Rattle.season_nodes.specs.Season.{SeasonFacts, bracket_of, entrant_inputs, round_of, ties_before, counted_gameweeks, fielded_in, fifteen_of, has_begun, has_line, is_there, players_of, fixtures_of, has_round, is_live, lower_in, match_node, met_in, opponent_in, inputs_of, season_graph, starts_of, IsSeason}
+use Rattle.season_nodes.specs.Season.{SeasonFacts, bonuses_in, no_figures, own_value, with_worth, worth_in, bracket_of, entrant_inputs, round_of, ties_before, counted_gameweeks, fielded_in, fifteen_of, has_begun, has_line, is_there, players_of, fixtures_of, has_round, is_live, lower_in, match_node, met_in, opponent_in, inputs_of, season_graph, starts_of, IsSeason}
 use Rattle.season_nodes.specs.SeasonLaws.{from_tie, tie_alive, tie_lives, to_tie, begun_later, both_true, first_true, from_average, from_counted, from_match, from_row, listed_has, has_listed, has_some, match_alive, match_lives, own_match_lives, second_true, to_average, to_counted, to_match_average, to_match_met, to_match_own, to_row, total_alive, total_lives}
 
 -- the place of an element
@@ -221,6 +224,43 @@ module _ (b : SeasonFacts) (is : IsSeason b) where
   bonus_back f (node.Match k h i) a = absurd (no_match_input k h i (node.Bonus f) (back_kind 3 1 (omega arith)) (back_kind 5 1 (omega arith)) a.1)
   bonus_back f (node.HeadRow k q) a = absurd (no_row_input k q (node.Bonus f) (back_kind 6 1 (omega arith)) a.1)
   bonus_back f (node.Tie k h j) a = absurd (no_tie_input k h j (node.Bonus f) (back_kind 8 1 (omega arith)) (back_kind 3 1 (omega arith)) a.1)
+
+  -- the players whom two values of it give different bonuses are among them
+  bonus_subset : (f : ℕ) (old new : Value) (m : Node) → Among (bonus_affected b f old new) m → Among (bonus_dependents b f) m
+  bonus_subset f old new m a =
+      let test : ℕ → Bool = λ p. not (given old p == given new p) in
+      let p = from_flat (counting b f) (filter test (players_of b f)) m a in
+      to_flat (counting b f) (players_of b f) p.0 m (from_filter test (players_of b f) p.0 p.1.0).0 p.1.1
+
+  -- a player's gameweek takes of a bonus what it gives him
+  gathers_same : (v u : Node → Option Value) (p g : ℕ) → ((f : ℕ) → v (node.Line f p) ≡ u (node.Line f p))
+      → ((f : ℕ) → unwrap_or (at_id (bonuses_in (v (node.Bonus f))) p) 0 ≡ unwrap_or (at_id (bonuses_in (u (node.Bonus f))) p) 0)
+      → own_value b (node.PlayerGw p g) v ≡ own_value b (node.PlayerGw p g) u
+  gathers_same v u p g lines bonuses = ap value.PlayerGw
+      (fold_local (λ figures f. with_worth figures (worth_in (v (node.Line f p))) (unwrap_or (at_id (bonuses_in (v (node.Bonus f))) p) 0))
+      (λ figures f. with_worth figures (worth_in (u (node.Line f p))) (unwrap_or (at_id (bonuses_in (u (node.Bonus f))) p) 0)) no_figures (fixtures_of b p g)
+      (λ figures f a. ap₂ (with_worth figures) (ap worth_in (lines f)) (bonuses f)))
+
+  bonus_indifferent : (f p g : ℕ) (old new : Value) → given old p ≡ given new p → IsIndifferent (season_graph b) (node.Bonus f) old new (node.PlayerGw p g)
+  bonus_indifferent f p g old new same v u was is others =
+      let won : Option Value → ℕ = λ o. unwrap_or (at_id (bonuses_in o) p) 0 in
+      gathers_same v u p g
+      (λ k. others (node.Line k p) (λ e. back_kind 1 0 (omega arith) (ap kind_of e)))
+      (λ k. elim (cases_eq f k) [
+        | inl e ↦ subst (λ x. won (v (node.Bonus x)) ≡ won (u (node.Bonus x))) e (ap won was ∙ same ∙ sym (ap won is))
+        | inr apart ↦ ap won (others (node.Bonus k) (λ e. apart (ap first_of e)))
+      ])
+
+  bonus_rest : (f : ℕ) (old new : Value) (m : Node) → Among (bonus_dependents b f) m → Among (bonus_affected b f old new) m ⊎ IsIndifferent (season_graph b) (node.Bonus f) old new m
+  bonus_rest f old new m a =
+      let test : ℕ → Bool = λ p. not (given old p == given new p) in
+      let p = from_flat (counting b f) (players_of b f) m a in
+      let r = from_counting f p.0 m p.1.1 in
+      elim (cases_eq (given old p.0) (given new p.0)) [
+        | inl same ↦ inr (subst (IsIndifferent (season_graph b) (node.Bonus f) old new) r.1.2 (bonus_indifferent f p.0 r.0 old new same))
+        | inr apart ↦ inl (to_flat (counting b f) (filter test (players_of b f)) p.0 m
+            (to_filter test (players_of b f) p.0 p.1.0 (ap not (ne_eqb (given old p.0) (given new p.0) apart))) p.1.1)
+      ]
 
   -- an entry's gameweek is an input of its totals
   total_there : (e g : ℕ) (m : Node) → is_live b (node.TeamGw e g) ≡ true → Among (total_dependents b e g) m → (is_live b m ≡ true) × Among (inputs_of b m) (node.TeamGw e g)
@@ -657,3 +697,8 @@ module _ (b : SeasonFacts) (is : IsSeason b) where
 -- so of a list that is that of the dependents
 pub dependents_are : (b : SeasonFacts) → IsSeason b → (holders : ℕ → ℕ → List ℕ) → IsIndex b holders → (n k : Node) (ns : List Node) → n ≡ k → ns ≡ dependents_of b holders k → is_live b n ≡ true → IsDependents (season_graph b) n ns
 dependents_are b is holders index n k ns e d l = subst (IsDependents (season_graph b) n) (sym (d ∙ ap (dependents_of b holders) (sym e))) (season_dependents b is holders index n l)
+
+-- and of a bonus those to whom it matters
+pub affected_are : (b : SeasonFacts) → IsSeason b → (n : Node) (f : ℕ) (old new : Value) (ns : List Node) → n ≡ node.Bonus f → ns ≡ bonus_affected b f old new → AreAffected (season_graph b) n old new ns
+affected_are b is n f old new ns e d = subst (λ q. AreAffected (season_graph b) q old new ns) (sym e) (subst (AreAffected (season_graph b) (node.Bonus f) old new) (sym d)
+    (record { depend = λ m a. bonus_there b is f m (bonus_subset b is f old new m a); rest = λ m k. bonus_rest b is f old new m (bonus_back b is f m k) }))

@@ -1,7 +1,8 @@
 -- The nodes of which a node is an input, told by the facts.
-use Rattle.std.specs.Prelude.{ℕ, suc, ◌-◌, ◌/◌, Bool, true, false, ◌&&◌, nat_le, if◌then◌else◌, List, [], ◌∷◌, ◌++◌, Option, Some, None, length, map, slice_index}
+use Rattle.std.specs.Prelude.{ℕ, suc, ◌-◌, ◌/◌, ◌==◌, Bool, true, false, not, ◌&&◌, nat_le, if◌then◌else◌, List, [], ◌∷◌, ◌++◌, Option, Some, None, length, map, slice_index}
 use Rattle.std.specs.List.{filter, flat_map, range_with_len}
-use Rattle.std.specs.Option.{option_map_or, option_and_then}
+use Rattle.std.specs.Option.{option_map_or, option_and_then, unwrap_or}
+use Rattle.rule_book.specs.ById.{at_id}
 use Rattle.rule_book.specs.Calendar.{stands_in}
 use Rattle.rule_book.specs.LeagueCalls.{leagues_of}
 use Rattle.rule_book.specs.LeagueRows.{place_of}
@@ -10,12 +11,17 @@ use Rattle.rule_book.specs.declared.pairing.Opponent.TheVariants.{Place, Average
 use Rattle.season_nodes.specs.Brackets.{is_in, part_of, ties_after}
 use Rattle.season_nodes.specs.declared.nodes.Node.{Node}
 use Rattle.season_nodes.specs.declared.nodes.Node.TheVariants as node
+use Rattle.season_nodes.specs.declared.nodes.Value.{Value}
 use Rattle.season_nodes.specs.Rounds.{has_average, order_in}
-use Rattle.season_nodes.specs.Season.{SeasonFacts, bracket_of, has_round, is_live, match_node, opponent_in, players_of, starts_of}
+use Rattle.season_nodes.specs.Season.{SeasonFacts, bonuses_in, bracket_of, has_round, is_live, match_node, opponent_in, players_of, starts_of}
 
 -- of a player's gameweek: the gameweeks of the entries that hold him there
 abbrev pub gameweek_dependents : List ℕ → ℕ → List Node
 gameweek_dependents entries g = map (λ e. node.TeamGw e g) entries
+
+-- the bonus that a kept value gives a player; 0 where it gives him none
+abbrev pub given : Value → ℕ → ℕ
+given v p = unwrap_or (at_id (bonuses_in (Some v)) p) 0
 
 -- whether an opponent is the Average
 abbrev pub is_average : Opponent → Bool
@@ -38,6 +44,10 @@ module _ (b : SeasonFacts) where
   -- of a bonus: the gameweeks of the players who have a line in the fixture
   abbrev pub bonus_dependents : ℕ → List Node
   bonus_dependents f = flat_map (counting f) (players_of b f)
+
+  -- those of them to whom it matters that it was one value and is another: of the players whom the two give different bonuses
+  abbrev pub bonus_affected : ℕ → Value → Value → List Node
+  bonus_affected f old new = flat_map (counting f) (filter (λ p. not (given old p == given new p)) (players_of b f))
 
   -- the totals of an entry from a gameweek or from one before it on
   abbrev pub total_dependents : ℕ → ℕ → List Node

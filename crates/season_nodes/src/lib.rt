@@ -7,7 +7,7 @@
 //!
 //! A further kind of node adds a case to each of these, and to nothing else: `Node` and `Value` in `nodes.rs`; `is_live`,
 //! `inputs_of`, `own_value`, `level_of`, `weight_of` and what cells of one kind hold in `specs/Season.antt`, with
-//! `is_live` in `books.rs` and the functions of the rules in `season_rules`; the functions of a node in
+//! `is_live` in `books.rt` and the functions of the rules in `season_rules`; the functions of a node in
 //! `specs/NodeOrder.antt`; `dependents_of` in `specs/Dependents.antt`; the laws in `specs/SeasonLaws.antt`;
 //! `season_dependents` in the proofs; and, in `season_graph`, `told` in `specs/Told.antt`, `IsSame` in
 //! `specs/Changes.antt`, `kept_untouched` and `own_told` in the proofs, and a line for each change that leaves the kind as

@@ -1,7 +1,7 @@
 // The rules by which the nodes of a season have values.
 ghost use Rattle.std.specs.Prelude.{◌≡◌, ◌+◌, ◌≤◌, ◌&&◌, nat_le, true, filter, map, IfOk, IsTrue, ◌↔◌};
 ghost use Rattle.season_nodes.specs.BookFacts.{facts_of};
-ghost use Rattle.season_nodes.specs.Dependents.{live_gameweek, line_dependents, bonus_dependents, gameweek_dependents, table_dependents, team_dependents, total_dependents};
+ghost use Rattle.season_nodes.specs.Dependents.{live_gameweek, line_dependents, bonus_affected, bonus_dependents, gameweek_dependents, table_dependents, team_dependents, total_dependents};
 ghost use Rattle.season_nodes.specs.IndexFacts.{IsIndex, holders_in};
 ghost use Rattle.season_nodes.specs.NodeOrder.{node_exact};
 ghost use Rattle.season_nodes.specs.Season.{IsSeason, has_begun, is_there, season_graph, inputs_of, starts_of};
@@ -16,7 +16,7 @@ use crate::teams::team_gameweek;
 use crate::ties::{cup_dependents, tie_dependents, tie_inputs};
 use crate::totals::{counted_at, locked_from, total};
 use crate::winners::tie_winner;
-use crate::worth::{bonuses, gameweek_figures, line_worth};
+use crate::worth::{bonus_in, bonuses, gameweek_figures, line_worth};
 use fpl_base::{CupId, EntryId, FixtureId, Gw, Memory, PlayerId, Steps};
 use rescore_graph::{Cells, Rules};
 use rule_book::Pick;
@@ -68,6 +68,30 @@ fn bonus_dependents(books: &Books, alloc: Global, fixture: FixtureId) -> Result<
     for player in players {
         if let Some(gameweek) = live_gameweek(books, *player, fixture) {
             found.push(Node::PlayerGw(*player, gameweek))?;
+        }
+    }
+    Ok(found)
+}
+
+// Those of them to whom it matters that it had the one value and has the other: the gameweeks of the players whom the two
+// give different bonuses.
+fn bonus_affected(
+    books: &Books,
+    alloc: Global,
+    fixture: FixtureId,
+    old: &Value,
+    new: &Value,
+) -> Result<Vec<Node>, Memory>
+    ensures { IfOk result
+        (λ ns. ns.items ≡ bonus_affected (facts_of books.now) fixture old.now new.now) }
+{
+    let players = books.matches.players_of(fixture);
+    let mut found = Vec::new(alloc);
+    for player in players {
+        if bonus_in(Some(old), *player) != bonus_in(Some(new), *player) {
+            if let Some(gameweek) = live_gameweek(books, *player, fixture) {
+                found.push(Node::PlayerGw(*player, gameweek))?;
+            }
         }
     }
     Ok(found)
@@ -347,6 +371,20 @@ impl Rules for SeasonRules<'_> {
             Node::Tie(cup, round, place) => {
                 Ok(tie_dependents(&self.books, alloc, cup, round, place)?)
             }
+        }
+    }
+
+    // Of a bonus alone they are fewer than the dependents.
+    fn affected(
+        &self,
+        alloc: Global,
+        n: Node,
+        old: &Value,
+        new: &Value,
+    ) -> Result<Vec<Node>, Memory> {
+        match n {
+            Node::Bonus(fixture) => Ok(bonus_affected(&self.books, alloc, fixture, old, new)?),
+            _ => Ok(self.dependents(alloc, n)?),
         }
     }
 

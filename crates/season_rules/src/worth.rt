@@ -67,7 +67,7 @@ pub fn figures_in(value: Option<&Value>) -> Figures
 }
 
 // The bonus of a player among those that a cell holds.
-fn bonus_in(value: Option<&Value>, player: PlayerId) -> u8
+pub(crate) fn bonus_in(value: Option<&Value>, player: PlayerId) -> u8
     ensures { result ≡ unwrap_or (at_id (bonuses_in (option_copied value.entry)) player) 0 }
 {
     match value {
