@@ -1,5 +1,5 @@
 -- What a node tells of the value that begins at it.
-use Rattle.std.proofs.Common.{◌≡◌, ◌≢◌, ◌∙◌, ap, refl, sym, subst, arith, le_refl, lt_of_not-le, inl, inr, ℕ, ◌+◌, ◌<◌, ◌⊎◌, List, [], ◌∷◌, ◌++◌, map, length, drop, get_or, Option, Some, None}
+use Rattle.std.proofs.Common.{◌≡◌, ◌≢◌, ◌∙◌, ap, refl, sym, subst, arith, le_refl, lt_of_not-le, inl, inr, ℕ, ◌+◌, ◌<◌, ◌⊎◌, List, [], ◌∷◌, ◌++◌, map, length, drop, get_or, option_and_then, Option, Some, None}
 use Rattle.std.proofs.Common as common
 use Rattle.std.specs.Prelude.{⊤}
 use Rattle.std.proofs.lemmas.List.{drop_all, drop_more, get_or-map, length-map}
@@ -15,8 +15,10 @@ use Rattle.json.proofs.Found.{one_reading, Some_inj}
 use Rattle.json.proofs.Grammar.{left_some}
 use Rattle.json.proofs.Printed.Trees.{value-json_tokens}
 use Rattle.serde_json.specs.Data.{Num, Data, null, boolean, number, string, array, object, Items, item, Members}
+use Rattle.serde_json.specs.Find.{as_number, as_u64}
+use Rattle.serde_json.specs.Read.{number_of}
 use Rattle.json_tree.specs.Trees.{HasData, HasItems, Tells, seen, view}
-use Rattle.json_tree.proofs.TokenLemmas.{items_split}
+use Rattle.json_tree.proofs.TokenLemmas.{alone, first_tells_view, items_split}
 
 pub here : (ns : List Node) (i : ℕ) (d : Node) → i < length ns → drop i (map node_token ns) ≡ node_token (get_or ns i d) ∷ drop (i + 1) (map node_token ns)
 here ns i d h =
@@ -86,3 +88,18 @@ pub items_split_here : (n : Node) (ts after : List Token) → ts ≡ node_token 
     → (j : json.Json) × (rest : List Token) × (ts ≡ json_tokens j ++ rest) × HasData ts × HasItems rest × (seen ts ≡ item (view ts) (seen rest))
 items_split_here n ts after first other h =
     items_split ts h (λ r e. let closing : node_token n ≡ Token.end_array = cc (first, e) in other (token_is_of n Token.end_array closing))
+
+-- the number that begins at a node, and the items after it
+pub number_split : (text : List ℕ) (ts rest : List Token) → ts ≡ Token.number text ∷ rest → HasItems ts
+    → HasItems rest × ((d : Data) × (seen ts ≡ item d (seen rest)) × (option_and_then as_u64 (number_of text) ≡ option_and_then as_u64 (as_number d)))
+number_split text ts rest first h =
+    let (j, after, whole, begins, others, parts) = items_split ts h (λ r e. let never : Token.number text ∷ rest ≡ Token.end_array ∷ r = sym first ∙ e in cc never) in
+    let same : rest ≡ after = alone (Token.number text) rest j after (λ e. cc e) (λ e. cc e) (sym first ∙ whole) in
+    let (m, from, is) = first_tells_view (Token.number text) rest (subst HasData first begins) in (
+      subst HasItems (sym same) others,
+      (
+        view ts,
+        parts ∙ ap (λ l. item (view ts) (seen l)) (sym same),
+        ap (option_and_then as_u64) from ∙ sym (ap (λ l. option_and_then as_u64 (as_number (view l))) first ∙ ap (λ d. option_and_then as_u64 (as_number d)) is),
+      ),
+    )

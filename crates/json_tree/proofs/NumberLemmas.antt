@@ -1,5 +1,7 @@
 -- Digits alone are a whole number.
-use Rattle.std.proofs.Common.{◌≡◌, ◌∙◌, ap, sym, refl, arith, append-nil, lt-ltb, ne_eqb, ℕ, ◌-◌, ◌^◌, ◌<◌, ◌≤◌, List, [], ◌∷◌, ◌++◌, get_or, length, false, Some}
+use Rattle.std.proofs.Common.{◌≡◌, ◌∙◌, ap, sym, refl, subst, arith, append-nil, lt-ltb, ne_eqb, ℕ, ◌-◌, ◌^◌, ◌<◌, ◌≤◌, List, [], ◌∷◌, ◌++◌, get_or, length, false, Some}
+use Rattle.std.proofs.Math.Nat.{pow-le-pow_right}
+use Rattle.std.proofs.lemmas.Int.Digits.{digits_value-lt}
 use Rattle.std.specs.Char.{digit_value}
 use Rattle.std.specs.Str.Parse.{AllDigits, IsNumeral, digits_value}
 use Rattle.fast_float.specs.Text.{IsWellFormed, Parts}
@@ -22,9 +24,19 @@ from_text ds h =
     let plain : get_or (ds ++ []) 0 0 ≡ 45 → ⊥ = λ e. no_minus ds h.1 h.0 (ap (λ s. get_or s 0 0) (sym same) ∙ e) in
     rw (ne_eqb (get_or (ds ++ []) 0 0) 45 plain) (ap (number_from false) (scan-text_of (digits ds) formed))
 
-pub number_of-digits : (ds : List ℕ) → IsNumeral 10 ds → digits_value 10 ds < 2 ^ 64 → number_of ds ≡ Some (unsigned (digits_value 10 ds))
+number_of-digits : (ds : List ℕ) → IsNumeral 10 ds → digits_value 10 ds < 2 ^ 64 → number_of ds ≡ Some (unsigned (digits_value 10 ds))
 number_of-digits ds h fits =
     ap number_of (sym (append-nil ds)) ∙ from_text ds h ∙ rw (append-nil, lt-ltb _ _ h.0) (rw (lt-ltb _ _ fits))
+
+-- digits of a value that fits are that whole number
+pub number_of-few : (ds : List ℕ) (n : ℕ) → IsNumeral 10 ds × (digits_value 10 ds ≡ n) → n < 2 ^ 64 → number_of ds ≡ Some (unsigned n)
+number_of-few ds n h fits = number_of-digits ds h.0 (subst (λ m. m < 2 ^ 64) (sym h.1) fits) ∙ ap (λ m. Some (unsigned m)) h.1
+
+-- seventeen digits leave room for one more
+pub short_value : (ds : List ℕ) → AllDigits 10 ds → length ds ≤ 17 → digits_value 10 ds < 10 ^ 17
+short_value ds h short =
+    let ten : 0 < 10 = omega arith in
+    omega (arith, digits_value-lt 10 ds h, pow-le-pow_right {n = 10} ten short)
 
 pub digit_value-low : (d : ℕ) → 48 ≤ d → d ≤ 57 → digit_value d ≡ d - 48
 digit_value-low d low high = grind arith

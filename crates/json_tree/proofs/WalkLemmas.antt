@@ -61,7 +61,7 @@ low_both level a b = grind (arith, nat_tests)
 low_one : (level : ℕ) → level ≤ 127 → nat_le (level + 0) 127 ≡ true
 low_one level h = grind (arith, nat_tests)
 
-pub some_mapped : {A B : Type 0} (f : A → B) (o : Option A) → is_some (option_map f o) ≡ is_some o
+some_mapped : {A B : Type 0} (f : A → B) (o : Option A) → is_some (option_map f o) ≡ is_some o
 some_mapped f None = refl
 some_mapped f (Some a) = refl
 

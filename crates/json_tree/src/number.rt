@@ -1,6 +1,6 @@
 // The numbers of JSON: an integer of 64 bits, or the nearest float.
-ghost use Rattle.std.specs.Prelude.{◌≡◌, ◌==◌, ◌<◌, IfSome, IsTrue, length, option_and_then, option_map, slice_index, true, false};
-ghost use Rattle.std.specs.Str.Parse.{IsNumeral, digits_value};
+ghost use Rattle.std.specs.Prelude.{◌≡◌, ◌==◌, ◌<◌, IfSome, IsTrue, Some, is_some, length, option_and_then, option_map, slice_index, true, false};
+ghost use Rattle.serde_json.specs.Data.{unsigned};
 ghost use Rattle.serde_json.specs.Find.{as_u64};
 ghost use Rattle.serde_json.specs.Read.{float_of, number_from, number_of};
 ghost use Rattle.json_tree.specs.Trees.{number_view};
@@ -18,16 +18,23 @@ pub(crate) enum Number {
     Float(f64),
 }
 
-// The number that a token writes, unless it is too large for a float.
+// Whether the number that a token writes is not too large for a float.
 #[inline(always)]
-pub(crate) fn number_of(text: &str) -> Option<Number>
-    ensures { option_map number_view result ≡ number_of text.now }
+pub(crate) fn fits(text: &str) -> bool
+    ensures { result ≡ is_some (number_of text.now) }
 {
     let bytes = text.as_bytes();
     match few_digits(bytes) {
-        Some(n) => Some(Number::Whole(n)),
-        None => scanned(bytes),
+        Some(_) => true,
+        None => is_scanned(bytes),
     }
+}
+
+#[inline(never)]
+fn is_scanned(bytes: &[u8]) -> bool
+    ensures { result ≡ is_some (number_of bytes.now) }
+{
+    scanned(bytes).is_some()
 }
 
 // The whole number from 0 that a token writes without a point or an exponent, if it does.
@@ -35,30 +42,43 @@ pub(crate) fn number_of(text: &str) -> Option<Number>
 pub(crate) fn whole_of(text: &str) -> Option<u64>
     ensures { result ≡ option_and_then as_u64 (number_of text.now) }
 {
-    match number_of(text) {
+    let bytes = text.as_bytes();
+    match few_digits(bytes) {
+        Some(n) => Some(n),
+        None => whole_scanned(bytes),
+    }
+}
+
+#[inline(never)]
+fn whole_scanned(bytes: &[u8]) -> Option<u64>
+    ensures { result ≡ option_and_then as_u64 (number_of bytes.now) }
+{
+    match scanned(bytes) {
         Some(Number::Whole(n)) => Some(n),
         Some(Number::Negative(_) | Number::Float(_)) | None => None,
     }
 }
 
-// The value of digits, where there is nothing else and it is far from the end of its type.
+// The value of at most 18 digits, where there is nothing else.
 #[inline(always)]
 fn few_digits(bytes: &[u8]) -> Option<u64>
-    ensures { IfSome result
-        (λ n. IsNumeral 10 bytes.now × (digits_value 10 bytes.now ≡ n)) }
+    ensures { IfSome result (λ n. number_of bytes.now ≡ Some (unsigned n)) }
 {
+    if bytes.is_empty() || bytes.len() > 18 {
+        return None;
+    }
     let mut value: u64 = 0;
     for byte in bytes {
         let digit = byte.wrapping_sub(b'0');
-        if digit > 9 || value > 999_999_999_999_999_999 {
+        if digit > 9 {
             return None;
         }
         value = value * 10 + u64::from(digit);
     }
-    if bytes.is_empty() { None } else { Some(value) }
+    Some(value)
 }
 
-#[inline(never)]
+// The number that a token writes, unless it is too large for a float.
 fn scanned(bytes: &[u8]) -> Option<Number>
     ensures { option_map number_view result ≡ number_of bytes.now }
 {

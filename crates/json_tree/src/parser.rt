@@ -6,7 +6,7 @@ ghost use Rattle.json.specs.Tree.{json_tokens};
 ghost use Rattle.serde_json.specs.Read.{read as read_text};
 ghost use Rattle.json_tree.specs.Trees.{is_readable, view};
 
-use crate::number::number_of;
+use crate::number::fits;
 use crate::tree::Tree;
 use json::{Error, Node, Scratch, Tape};
 use std::alloc::Global;
@@ -91,7 +91,7 @@ fn is_readable(nodes: &[Node<'_>]) -> bool
             }
             Node::EndObject | Node::EndArray => open = open.saturating_sub(1),
             Node::Number(text) => {
-                if number_of(text).is_none() {
+                if !fits(text) {
                     return false;
                 }
             }

@@ -86,6 +86,12 @@ impl<'t, 'a> Items<'t, 'a> {
         ensures fewer { IfSome result (λ _. length self.new < length self.old) }
         ensures stays { IfNone result (self.new ≡ self.old) }
     {
+        // A number is one node, and most lists of numbers are nothing else.
+        let (nodes, at) = (self.nodes, self.at);
+        if let Node::Number(text) = node_at(nodes, at) {
+            self.at = at + 1;
+            return Some(whole_of(text));
+        }
         let item = self.next()?;
         Some(item.as_u64())
     }

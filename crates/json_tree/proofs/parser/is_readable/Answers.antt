@@ -4,21 +4,20 @@ use Rattle.std.proofs.lemmas.List.{drop_all, length-map}
 use Rattle.json.specs.Tape.{node_token}
 use Rattle.json.specs.declared.tape.Node.TheVariants.{Object}
 use Rattle.serde_json.specs.Read.{number_of}
-use Rattle.json_tree.specs.Trees.{number_view}
 use Rattle.json_tree.proofs.NodeLemmas.{here}
-use Rattle.json_tree.proofs.WalkLemmas.{passes, passes-closing, passes-opening, passes-other, passes_readable, some_mapped}
+use Rattle.json_tree.proofs.WalkLemmas.{passes, passes-closing, passes-opening, passes-other, passes_readable}
 use Rattle.json_tree.proofs.parser.is_readable.Goals as goal
-use Rattle.json_tree.proofs.parser.is_readable.Goals.{in-Number+else-is_none, in-Key, in-Key-2, in-Key-3, in-Key-4, in-EndObject, in-Object+else-open-eq-MAX_DEPTH}
+use Rattle.json_tree.proofs.parser.is_readable.Goals.{in-Number+else-not-fits, in-Key, in-Key-2, in-Key-3, in-Key-4, in-EndObject, in-Object+else-open-eq-MAX_DEPTH}
 
-pub returns-then-is_none : goal.returns-then-is_none
-returns-then-is_none c j spelled =
+pub returns-then-not-fits : goal.returns-then-not-fits
+returns-then-not-fits c j spelled =
     let ns = c.args.nodes.now in
     let i = c.loop-node.node-index in
     let rest = drop (i + 1) (map node_token ns) in
     let level = c.loop-node.open in
     let first = here ns i (Object 0) c.loop-node-test.true ∙ ap (λ n. node_token n ∷ rest) c.in-Number.is in
-    let none : is_some c.number_of.result ≡ false = grind arith in
-    let stops = ap (λ b. cond b (passes level rest) false) (ap is_some (sym c.number_of.ensures) ∙ some_mapped number_view c.number_of.result ∙ none) in
+    let none : is_some (number_of c.in-Number.text.now) ≡ false = grind arith in
+    let stops = ap (λ b. cond b (passes level rest) false) none in
     sym (sym (passes_readable j) ∙ ap (passes 0) (sym spelled) ∙ sym c.loop-node.invariant.0 ∙ ap (passes level) first ∙ stops)
 
 pub returns-then-open-eq-MAX_DEPTH : goal.returns-then-open-eq-MAX_DEPTH
@@ -41,9 +40,8 @@ loop-node-preserved c =
     let level = c.loop-node.open in
     let so_far : passes level (node_token n ∷ rest) ≡ passes 0 all = sym (ap (passes level) (here ns i (Object 0) c.loop-node-test.true)) ∙ c.loop-node.invariant.0 in
     elim c.match-node.branch [
-      | in-Number+else-is_none w ↦
-          let some : is_some w.number_of.result ≡ true = grind arith in
-          let fits : is_some (number_of w.in-Number.text.now) ≡ true = ap is_some (sym w.number_of.ensures) ∙ some_mapped number_view w.number_of.result ∙ some in
+      | in-Number+else-not-fits w ↦
+          let fits : is_some (number_of w.in-Number.text.now) ≡ true = grind arith in
           let kept = sym (ap (λ m. passes level (node_token m ∷ rest)) w.in-Number.is ∙ ap (λ b. cond b (passes level rest) false) fits) ∙ so_far in
           (ap (λ k. passes k rest) w.open-is ∙ kept, omega arith)
       | in-Key w ↦ (ap (λ k. passes k rest) w.open-is ∙ sym (passes-other level n rest w.in-Key.is) ∙ so_far, omega arith)
