@@ -86,6 +86,17 @@ impl Rules for Tree {
         Ok(above)
     }
 
+    // To each node above it may matter.
+    fn affected(
+        &self,
+        alloc: Global,
+        n: u32,
+        _old: &u32,
+        _new: &u32,
+    ) -> Result<Vec<u32>, Memory> {
+        Ok(self.dependents(alloc, n)?)
+    }
+
     fn eval<L: Ledger>(
         &self,
         _alloc: Global,

@@ -5,6 +5,5 @@ pub mod WorkFacts
 pub mod LevelFacts
 pub mod MaxFacts
 pub mod ChangeFacts
-pub mod AffectedFacts
 pub mod RemainsFacts
 pub mod HashFacts

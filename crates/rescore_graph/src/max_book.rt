@@ -134,7 +134,7 @@ impl Rules for MaxBook {
         Ok(found)
     }
 
-    // To each top it matters.
+    // To each top it may matter.
     fn affected(
         &self,
         alloc: Global,
