@@ -87,13 +87,7 @@ impl Rules for Tree {
     }
 
     // To each node above it may matter.
-    fn affected(
-        &self,
-        alloc: Global,
-        n: u32,
-        _old: &u32,
-        _new: &u32,
-    ) -> Result<Vec<u32>, Memory> {
+    fn affected(&self, alloc: Global, n: u32, _old: &u32, _new: &u32) -> Result<Vec<u32>, Memory> {
         Ok(self.dependents(alloc, n)?)
     }
 
