@@ -1,10 +1,5 @@
-//! The season host: its commands, and the edges to the machine that it runs on.
+//! The season host: the edges to the machine that it runs on, and its commands over them.
 #![tactic(auto)]
-
-mod input;
-mod laws;
-mod run;
-mod score;
 
 ghost use Rattle.std.specs.Prelude.{◌≡◌, ◌<◌, None};
 
@@ -12,6 +7,7 @@ use file_keeper::{FileKeeper, file_at};
 use fpl_asking::status::MEMORY;
 use fpl_base::{Doors, Keeper, Memory, Reading, Shelf, Steps, SystemClock, Text, Writing};
 use fpl_doors::Listening;
+use fpl_run::run::run;
 use fpl_shelves::Disk;
 use fpl_words::{WordFault, Words, words_of};
 use outside_forms::Quiet;
@@ -154,7 +150,7 @@ fn counted<K: Keeper, D: Doors, F: Shelf, L: Ledger>(
     let mut steps: Steps<L> = Steps::open(blank);
     let mut input = Reading::new(rt.reader());
     let mut output = Writing::new(io::writer(rt));
-    run::run(
+    run(
         alloc,
         words,
         &mut input,

@@ -1,4 +1,4 @@
-ghost use Rattle.fpl_host.specs.Laws.{OneScoreDue};
+ghost use Rattle.fpl_run.specs.Laws.{OneScoreDue};
 
 use score_sheet::input_scores_once;
 

@@ -2,7 +2,7 @@
 ghost use Rattle.std.specs.Prelude.{◌≡◌, ◌≤◌, ◌<◌, ◌⊎◌, IfOk, IfSome, length, string_bytes};
 ghost use Rattle.std.specs.Io.KnownBytes.{IsAtEnd};
 ghost use Rattle.fpl_base.specs.Causes.{Rose};
-ghost use Rattle.fpl_host.specs.Run.{IsScoreDue, row_text};
+ghost use Rattle.fpl_run.specs.Run.{IsScoreDue, row_text};
 
 use crate::input::{InputFault, read_all};
 use fpl_asking::status::{DONE, TOO_LONG, WRONG_ROW};
@@ -26,7 +26,7 @@ pub enum Halt {
 
 impl From<Memory> for Halt {
     ghost use Rattle.std.specs.Prelude.{◌≡◌};
-    ghost use Rattle.fpl_host.specs.declared.score.Halt.TheVariants as halt;
+    ghost use Rattle.fpl_run.specs.declared.score.Halt.TheVariants as halt;
 
     ghost from_gives = { λ _ e. e ≡ halt.Memory };
 

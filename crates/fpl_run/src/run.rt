@@ -4,7 +4,7 @@ ghost use Rattle.std.specs.Io.KnownBytes.{IsAtEnd, Keeps};
 ghost use Rattle.fpl_base.specs.Causes.{Rose};
 ghost use Rattle.fpl_words.specs.Orders.{ordered};
 ghost use Rattle.fpl_serving.specs.Serve.{doors_as};
-ghost use Rattle.fpl_host.specs.Run.{Ends, IsScoreDue, RunsAs, connections_in};
+ghost use Rattle.fpl_run.specs.Run.{Ends, IsScoreDue, RunsAs, connections_in};
 
 use crate::score::{Halt, score_due};
 use fpl_asking::print;

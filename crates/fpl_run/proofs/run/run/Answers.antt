@@ -2,8 +2,8 @@ use Rattle.std.proofs.Common.{◌≡◌, Some, refl, subst}
 use Rattle.fpl_words.specs.Orders.{ordered}
 use Rattle.fpl_words.specs.declared.words.Words.{Words}
 use Rattle.fpl_words.specs.declared.words.Words.TheVariants as order
-use Rattle.fpl_host.proofs.RunLemmas.{no_memory, not_read_ends, runs_as, runs_none, unread_statuses}
-use Rattle.fpl_host.proofs.run.run.Goals as goal
+use Rattle.fpl_run.proofs.RunLemmas.{no_memory, not_read_ends, runs_as, runs_none, unread_statuses}
+use Rattle.fpl_run.proofs.run.run.Goals as goal
 
 pub returns-in-Ok-Score-clause-runs : goal.returns-in-Ok-Score-clause-runs
 returns-in-Ok-Score-clause-runs g c =

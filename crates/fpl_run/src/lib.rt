@@ -1,0 +1,9 @@
+//! What the words of the program order, over everything outside of it of any kind: `run`, and the scores of a match.
+#![tactic(auto)]
+
+mod input;
+mod laws;
+pub mod run;
+mod score;
+
+pub use laws::one_score_is_due;
