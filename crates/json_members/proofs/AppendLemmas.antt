@@ -12,7 +12,7 @@ use Rattle.serde_json.specs.Data.{Data}
 use Rattle.serde_json.specs.View.{items_of}
 use Rattle.serde_json.specs.Written.{compact_text, items_outline}
 use Rattle.serde_json.proofs.Texts.{print-outline}
-use Rattle.fpl_answers.specs.Tokens.{Appends, tokens_of}
+use Rattle.json_members.specs.Tokens.{Appends, tokens_of}
 
 module _ {r : Result (Unit {0}) AllocError} {a b : Written} where
   -- one token

@@ -1,6 +1,6 @@
 use Rattle.std.proofs.lemmas.Bool.{and_parts}
 use Rattle.std.proofs.lemmas.Str.{IsUtf8-from_is_utf8}
-use Rattle.fpl_answers.proofs.members.text_of.Goals as goal
+use Rattle.json_members.proofs.members.text_of.Goals as goal
 
 pub unreachable-requires : goal.unreachable-requires
 unreachable-requires c =
