@@ -20,7 +20,7 @@ use std::sync::ledger::Ledger;
 pub fn serve<W: Sink, C: Clock, K: Keeper, D: Doors, L: Ledger>(
     alloc: Global,
     key: &Key,
-    connections: u16,
+    connections: u64,
     output: &mut W,
     clock: &mut C,
     keeper: &mut K,
@@ -60,7 +60,7 @@ fn serve_all<C: Clock, K: Keeper, D: Doors, L: Ledger>(
     alloc: Global,
     desk: &Desk,
     host: &mut HostWithScratch,
-    connections: u16,
+    connections: u64,
     clock: &mut C,
     keeper: &mut K,
     doors: &mut D,
