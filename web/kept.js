@@ -1,0 +1,23 @@
+// What is kept in this window until it is on the host, under the key of who is signed in. It outlives a reload.
+
+let owner = "";
+
+export function ownBy(key) {
+  owner = key ?? "";
+}
+
+function nameOf(name) {
+  return `kowhirupe ${owner} ${name}`;
+}
+
+export function recall(name) {
+  return JSON.parse(sessionStorage.getItem(nameOf(name)));
+}
+
+export function remember(name, value) {
+  if (value === null) {
+    sessionStorage.removeItem(nameOf(name));
+  } else {
+    sessionStorage.setItem(nameOf(name), JSON.stringify(value));
+  }
+}
