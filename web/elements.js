@@ -3,117 +3,107 @@
 const DRAWING = "http://www.w3.org/2000/svg";
 
 /**
- * An element: make("a.button.main", { href: "#/team" }, "My team").
- * A property that is null, undefined or false is left out; one that begins with "on" is a listener.
- * Children are elements, texts and numbers, in lists too; null, undefined and false are left out.
+ * An element: make("a.button", { href: "#/team" }, "My team"). The properties may be left out; one that is null, undefined or
+ * false is not set, and one that begins with "on" is a listener. Children are elements, texts and numbers, in lists too.
  */
-export function make(name, properties = {}, ...children) {
+export function make(name, ...parts) {
   const [tag, ...classes] = name.split(".");
-  return filled(document.createElement(tag), classes, properties, children);
+  return filled(document.createElement(tag), classes, parts);
 }
 
 /** The same for a part of a drawing (SVG). */
-export function draw(name, properties = {}, ...children) {
+export function draw(name, ...parts) {
   const [tag, ...classes] = name.split(".");
-  return filled(document.createElementNS(DRAWING, tag), classes, properties, children);
+  return filled(document.createElementNS(DRAWING, tag), classes, parts);
 }
 
-function filled(element, classes, properties, children) {
-  if (classes.length > 0) {
-    element.classList.add(...classes);
-  }
-  for (const [name, value] of Object.entries(properties)) {
+function filled(element, classes, parts) {
+  const hasProperties = parts[0]?.constructor === Object;
+  for (const [name, value] of Object.entries(hasProperties ? parts.shift() : {})) {
     give(element, name, value);
   }
-  element.append(...children.flat(Infinity).filter(isThere));
+  element.classList.add(...classes);
+  element.append(...parts.flat(Infinity).filter(isThere));
   return element;
 }
 
 function give(element, name, value) {
-  if (!isThere(value)) {
-    return;
-  }
   if (name.startsWith("on")) {
     element.addEventListener(name.slice(2), value);
-  } else {
+  } else if (isThere(value)) {
     element.setAttribute(name, value === true ? "" : value);
   }
 }
 
-function isThere(value) {
-  return value !== null && value !== undefined && value !== false;
-}
+export const isThere = (value) => value !== null && value !== undefined && value !== false;
 
 /** A text by a person, which may run in another direction than the page. */
-export function named(text) {
-  return make("bdi", { title: text }, text);
+export const named = (text) => make("bdi", text);
+
+export const link = (address, ...text) => make("a", { href: `#/${address}` }, ...text);
+
+export const quiet = (...text) => make("p.quiet", ...text);
+
+export const icon = (name) => draw("svg", { "aria-hidden": "true" }, draw("use", { href: `icons.svg#${name}` }));
+
+/** A button that calls with itself. */
+export function button(id, text, call, { kind = "", ...properties } = {}) {
+  return make(`button${kind}`, { type: "button", id, onclick: (event) => call(event.currentTarget), ...properties }, text);
 }
 
-export function icon(name) {
-  return draw("svg", { "aria-hidden": "true" }, draw("use", { href: `icons.svg#${name}` }));
+/** A form that calls with the button by which it was sent. */
+export function form(call, ...children) {
+  const send = (event) => {
+    event.preventDefault();
+    call(event.submitter);
+  };
+  return make("form.form", { onsubmit: send }, ...children);
 }
 
-export function notice(kind, ...children) {
-  return make(`p.notice.${kind}`, { role: kind === "bad" ? "alert" : null }, ...children);
-}
-
-/** A field with its label, and below it what is wrong, once something is. */
-export function field(label, input) {
-  const wrong = make("p.wrong", { id: `${input.id}-wrong`, hidden: true });
-  input.setAttribute("aria-describedby", wrong.id);
-  return make("div", {}, make("label", { for: input.id }, label), input, wrong);
-}
-
-/** Says below a field what is wrong with it, or that nothing is. */
-export function mark(input, text) {
-  const wrong = document.getElementById(`${input.id}-wrong`);
-  wrong.textContent = text ?? "";
-  wrong.hidden = !text;
-  if (text) {
-    input.setAttribute("aria-invalid", "true");
-    input.focus();
-  } else {
-    input.removeAttribute("aria-invalid");
-  }
+export function input(id, properties = {}) {
+  return make("input", { id, required: true, autocomplete: "off", ...properties });
 }
 
 /** A choice of one among pairs of a value and its text. */
-export function choice(properties, pairs, chosen) {
+export function choice(id, pairs, chosen, properties = {}) {
   const options = pairs.map(([value, text]) => make("option", { value, selected: String(value) === String(chosen) }, text));
-  return make("select", properties, options);
+  return make("select", { id, ...properties }, options);
 }
 
-/** A dialog over the page, which goes when it is closed. Gives a function that closes it. */
+/** A field with its label, and below it what is wrong, once something is. */
+export function field(label, entry) {
+  const wrong = make("p.wrong", { id: `${entry.id}-wrong` });
+  entry.setAttribute("aria-describedby", wrong.id);
+  return make("div", make("label", { for: entry.id }, label), entry, wrong);
+}
+
+/** Says below a field what is wrong with it; an empty text where nothing is. */
+export function mark(entry, text) {
+  document.getElementById(`${entry.id}-wrong`).textContent = text;
+  entry.setAttribute("aria-invalid", String(text !== ""));
+}
+
+export function check(id, text, isChecked, properties = {}) {
+  const box = make("input", { type: "checkbox", id, checked: isChecked, ...properties });
+  return make("label.check", { for: id }, box, text);
+}
+
+/** A dialog over the page, which goes when it is closed. */
 export function ask(title, ...children) {
-  const heading = make("h2", { id: "asked" }, title);
-  const dialog = make("dialog", { "aria-labelledby": "asked" }, heading, ...children);
+  const dialog = make("dialog", { "aria-labelledby": "asked" }, make("h2", { id: "asked" }, title), ...children);
   dialog.addEventListener("close", () => dialog.remove());
-  dialog.addEventListener("click", (event) => event.target === dialog && dialog.close());
+  dialog.addEventListener("click", ({ target }) => (target === dialog || target.closest("a, #no")) && dialog.close());
   document.body.append(dialog);
   dialog.showModal();
-  return () => dialog.close();
+  return dialog;
 }
 
 /** Asks for a yes. */
 export function confirmed(title, yes, ...children) {
   return new Promise((answer) => {
-    let isYes = false;
-    const agree = () => {
-      isYes = true;
-      close();
-    };
-    const buttons = make(
-      "div.buttons",
-      {},
-      make("button.main", { type: "button", id: "yes", onclick: agree }, yes),
-      make("button", { type: "button", id: "no", onclick: () => close() }, "Back"),
-    );
-    const close = ask(title, ...children, buttons);
-    document.querySelector("dialog").addEventListener("close", () => answer(isYes));
+    const agree = () => dialog.close("yes");
+    const buttons = make("div.buttons", button("yes", yes, agree, { kind: ".main" }), button("no", "Back", () => {}));
+    const dialog = ask(title, ...children, buttons);
+    dialog.addEventListener("close", () => answer(dialog.returnValue === "yes"));
   });
-}
-
-/** Tells something to those who hear the page. */
-export function tell(text) {
-  document.getElementById("told").textContent = text;
 }

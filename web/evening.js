@@ -1,68 +1,51 @@
 // The operator's evening: the matches of a gameweek, with their sheets, corrections, marks and moves.
 
-import { choice, field, make } from "./elements.js";
-import { byDay, matchCard } from "./fixtures.js";
+import { button, choice, field, form, input, make, named, quiet } from "./elements.js";
+import { matchesOf } from "./fixtures.js";
 import { goOnFrom } from "./host.js";
 import { heading, turning } from "./parts.js";
 import { fieldTime, momentOf } from "./words.js";
 
-export async function draw(page, given) {
+export async function drawEvening(page, given) {
   goOnFrom(page.caller.last);
   const season = await page.season();
-  const last = season.gameweeks.length;
-  const gameweek = Math.min(given ?? season.current ?? 1, last);
-  const isLocked = season.current !== null && gameweek <= season.current;
-  const matches = season.fixturesIn(gameweek);
-  const elsewhere = season.fixturesIn(null);
-  const more = (it) => actions(page, it, isLocked);
+  const gameweek = given ?? (season.current || 1);
+  const isLocked = gameweek <= season.current;
   return [
-    turning(`Gameweek ${gameweek}`, (it) => `#/matches/${it}`, gameweek, 1, last),
-    make("p.quiet", {}, isLocked ? "Figures can be handed in and corrected." : "Figures come once the deadline has passed."),
-    matches.length > 0 ? byDay(season, matches, more) : make("p", {}, "No match stands in this gameweek."),
-    elsewhere.length > 0 && [make("h2", {}, "In no gameweek"), elsewhere.map((it) => matchCard(season, it, actions(page, it, false)))],
+    turning(heading(`Gameweek ${gameweek}`), "matches", gameweek, 1, season.last),
+    quiet(isLocked ? "Figures can be handed in and corrected." : "Figures come once the deadline has passed."),
+    matchesOf(season, gameweek, (it) => actions(page, it, it.event !== null && isLocked)),
   ];
 }
 
-function actions(page, it, isLocked) {
-  const finish = make("button", { type: "button", id: `finish-${it.id}`, onclick: () => marked(page, it, finish) }, it.finished ? "Not finished" : "Finished");
+function actions(page, { id, started, finished }, isLocked) {
+  const done = finished ? "The match is not finished any more: nobody has bonus." : "The match is finished.";
+  const mark = (busy) => page.send(page, busy, `/fixtures/${id}/finished`, { finished: !finished }, { done });
+  const way = (place, text) => make("a.button", { href: `#/${place}/${id}` }, text);
   return make(
     "div.buttons",
-    {},
-    isLocked && it.started && make("a.button", { href: `#/correct/${it.id}` }, "Correct a goal"),
-    isLocked && make("a.button", { href: `#/sheet/${it.id}` }, "Sheet"),
-    isLocked && finish,
-    make("a.button", { href: `#/move/${it.id}` }, "Move"),
+    isLocked && started && way("correct", "Correct a goal"),
+    isLocked && way("sheet", "Sheet"),
+    isLocked && button(`finish-${id}`, finished ? "Not finished" : "Finished", mark),
+    way("move", "Move"),
   );
 }
-
-function marked(page, it, button) {
-  const done = it.finished ? "The match is not finished any more: nobody has bonus." : "The match is finished.";
-  return page.send(page, button, `/fixtures/${it.id}/finished`, { finished: !it.finished }, { done });
-}
-
-// A move
 
 export async function drawMove(page, id) {
   goOnFrom(page.caller.last);
   const season = await page.season();
-  const it = season.fixtureOf.get(id);
-  if (!it) {
-    return [heading("There is no such match")];
-  }
-  const gameweeks = season.gameweeks.map((event) => [event.id, event.name]);
-  const gameweek = choice({ id: "gameweek" }, [["", "None: it is postponed"], ...gameweeks], it.event ?? "");
-  const kickoff = make("input", { id: "kickoff", type: "datetime-local", step: 1, value: fieldTime(it.kickoff_time), required: true });
-  const move = async (event) => {
-    event.preventDefault();
-    const members = { gameweek: gameweek.value === "" ? null : Number(gameweek.value), kickoff: momentOf(kickoff.value) };
-    const done = await page.send(page, event.submitter, `/fixtures/${id}/move`, members, { done: "The match is moved." });
-    if (done) {
-      location.hash = members.gameweek === null ? "#/matches" : `#/matches/${members.gameweek}`;
+  const { event, kickoff_time: stands } = season.fixtureOf.get(id);
+  const gameweek = choice("gameweek", [["", "None: it is postponed"], ...season.gameweeks.map((it) => [it.id, it.name])], event ?? "");
+  const kickoff = input("kickoff", { type: "datetime-local", step: 1, value: fieldTime(stands) });
+  const move = async (busy) => {
+    const to = Number(gameweek.value) || null;
+    if (await page.send(page, busy, `/fixtures/${id}/move`, { gameweek: to, kickoff: momentOf(kickoff.value) }, { done: "The match is moved." })) {
+      location.hash = to === null ? "#/matches" : `#/matches/${to}`;
     }
   };
   return [
     heading("Move a match"),
-    make("p", {}, `${season.fixtureName(id)}. Its figures count where it then stands.`),
-    make("form.form", { onsubmit: move }, field("Gameweek", gameweek), field("Kick-off, in your own time", kickoff), make("button.main", { id: "move" }, "Move")),
+    quiet(named(season.fixtureName(id)), ". Its figures count where it then stands."),
+    form(move, field("Gameweek", gameweek), field("Kick-off, in your own time", kickoff), make("button.main", { id: "move" }, "Move")),
   ];
 }

@@ -36,7 +36,7 @@ let key = null;
 let last = null; // the number of the last command that is known to be done
 let isSending = false;
 const read = new Map(); // by target the text of an answer and its body
-const watchers = []; // who is told that a command has no answer yet, and that it has
+let say = () => {}; // is told whether a command waits for its answer
 
 // The key: a window keeps its own, and a new one begins with the one that was used last.
 
@@ -123,14 +123,9 @@ export function goOnFrom(number) {
 
 // Commands: one at a time, each kept until it is answered.
 
+/** Has a watcher told whether a command waits for its answer. */
 export function watch(watcher) {
-  watchers.push(watcher);
-}
-
-function say(what) {
-  for (const watcher of watchers) {
-    watcher(what);
-  }
+  say = watcher;
 }
 
 export function isBusy() {
@@ -179,7 +174,7 @@ async function deliver() {
     answer = await answered(sent);
   } finally {
     remember("command", null);
-    say("answered");
+    say(false);
   }
   if (answer.status === 200 || answer.status === 201) {
     last = sent.number;
@@ -208,7 +203,7 @@ async function answered(sent) {
         throw fault;
       }
     }
-    say("waiting");
+    say(true);
     await pauseOf(pause);
   }
 }

@@ -1,94 +1,69 @@
 // The page: who is signed in, which place is open, and when it is drawn anew.
 
-import { confirmed, icon, make, named, notice, tell } from "./elements.js";
+import { button, confirmed, field, form, icon, input, link, make, named } from "./elements.js";
 import * as host from "./host.js";
 import { heading } from "./parts.js";
 import { isBeforeSeason, sentence } from "./say.js";
 import { seasonBy } from "./season.js";
 import { countdown, when, whole } from "./words.js";
 
-import * as correct from "./correct.js";
-import * as cups from "./cups.js";
-import * as draws from "./draws.js";
-import * as evening from "./evening.js";
-import * as fixtures from "./fixtures.js";
-import * as keys from "./keys.js";
-import * as leagues from "./leagues.js";
-import * as operator from "./operator.js";
-import * as players from "./players.js";
-import * as points from "./points.js";
-import * as sheet from "./sheet.js";
-import * as team from "./team.js";
-import * as transfers from "./transfers.js";
-import * as week from "./week.js";
+import { drawCorrection } from "./correct.js";
+import { drawCup } from "./cups.js";
+import { drawDraws } from "./draws.js";
+import { drawEvening, drawMove } from "./evening.js";
+import { drawFixtures } from "./fixtures.js";
+import { drawKeys } from "./keys.js";
+import { drawLeague, drawLeagues } from "./leagues.js";
+import { drawSeason } from "./operator.js";
+import { drawPlayer, drawPlayers } from "./players.js";
+import { drawEntry, drawPoints } from "./points.js";
+import { drawSheet } from "./sheet.js";
+import { drawTeam } from "./team.js";
+import { drawTransfers } from "./transfers.js";
+import { drawWeek } from "./week.js";
 
-/** Each place by the first word of its address. One that is `within` another is marked there. */
+/** Each place by the first word of its address: how it is drawn, and under which place of the bar it stands. */
 const PLACES = {
-  points: { draw: points.draw },
-  entry: { draw: points.drawEntry, within: "leagues" },
-  week: { draw: week.draw, within: "points" },
-  team: { draw: team.draw },
-  transfers: { draw: transfers.draw },
-  fixtures: { draw: fixtures.draw },
-  players: { draw: players.draw },
-  player: { draw: players.drawOne, within: "players" },
-  leagues: { draw: leagues.draw },
-  league: { draw: leagues.drawOne, within: "leagues" },
-  join: { draw: leagues.drawJoin, within: "leagues" },
-  cup: { draw: cups.draw, within: "leagues" },
-  matches: { draw: evening.draw },
-  move: { draw: evening.drawMove, within: "matches" },
-  sheet: { draw: sheet.draw, within: "matches" },
-  correct: { draw: correct.draw, within: "matches" },
-  season: { draw: operator.draw },
-  keys: { draw: keys.draw },
-  draws: { draw: draws.draw, within: "leagues" },
+  points: [drawPoints, "points"],
+  week: [drawWeek, "points"],
+  team: [drawTeam, "team"],
+  transfers: [drawTransfers, "transfers"],
+  fixtures: [drawFixtures, "fixtures"],
+  players: [drawPlayers, "players"],
+  player: [drawPlayer, "players"],
+  leagues: [drawLeagues, "leagues"],
+  league: [drawLeague, "leagues"],
+  entry: [drawEntry, "leagues"],
+  cup: [drawCup, "leagues"],
+  matches: [drawEvening, "matches"],
+  move: [drawMove, "matches"],
+  sheet: [drawSheet, "matches"],
+  correct: [drawCorrection, "matches"],
+  season: [drawSeason, "season"],
+  keys: [drawKeys, "keys"],
+  draws: [drawDraws, "leagues"],
 };
-const OF_MANAGERS = [
-  ["points", "Points"],
-  ["team", "My team"],
-  ["transfers", "Transfers"],
-  ["fixtures", "Fixtures"],
-  ["players", "Players"],
-  ["leagues", "Leagues"],
-];
-const OF_THE_OPERATOR = [
-  ["matches", "Matches"],
-  ["season", "Season"],
-  ["keys", "Keys"],
-  ["fixtures", "Fixtures"],
-  ["players", "Players"],
-  ["leagues", "Leagues"],
-];
+const FOR_ALL = { fixtures: "Fixtures", players: "Players", leagues: "Leagues" };
+const BAR_OF_MANAGERS = { points: "Points", team: "My team", transfers: "Transfers", ...FOR_ALL };
+const BAR_OF_THE_OPERATOR = { matches: "Matches", season: "Season", keys: "Keys", ...FOR_ALL };
 const REFRESHED = 60; // seconds until what is looked at is read again
 const DUE = 120; // seconds behind a deadline in which the host is asked whether it has passed
+const LONGEST_PAUSE = 8; // seconds until the host is asked again that gave no answer
 const part = (id) => document.getElementById(id);
 
 let turn = 0; // of several that draw at once, the last one shows
-let deadline = null; // of the next gameweek
+let deadline = null; // of the next gameweek, in seconds, with its name
 
 // Drawing a place
 
 function placeNow() {
   const [name, ...ids] = location.hash.replace(/^#\//, "").split("/");
-  return PLACES[name] ? { name, ids: ids.map((id) => (/^\d+$/.test(id) ? Number(id) : id)) } : null;
-}
-
-/** What a place is given: its reader, who asks, and how it acts. */
-function pageFor(read, caller) {
-  const isOperator = caller.entry === null;
-  return { read, caller, isOperator, team: isOperator ? "The team" : caller.name, season: () => seasonBy(read), show, redraw, send };
+  return { name: Object.hasOwn(PLACES, name) ? name : null, ids: ids.map(Number) };
 }
 
 /** A reader that asks the host, each target once, and knows whether something is other than before. */
 function freshReader() {
   const asked = new Map();
-  const reader = (target) => {
-    if (!asked.has(target)) {
-      asked.set(target, readOne(target));
-    }
-    return asked.get(target);
-  };
   const readOne = async (target) => {
     const before = host.textOf(target);
     try {
@@ -97,180 +72,185 @@ function freshReader() {
       reader.hasChanged ||= before !== host.textOf(target);
     }
   };
+  const reader = (target) => {
+    if (!asked.has(target)) {
+      asked.set(target, readOne(target));
+    }
+    return asked.get(target);
+  };
   reader.hasChanged = false;
   return reader;
 }
 
 const keptReader = async (target) => host.readKept(target);
 
-/** The place that is open, drawn by a reader, with header and places. */
-async function drawn({ name, ids }, read) {
+/** The open place by a reader: header, bar and nodes. A place is given its reader, who asks, and how it acts. */
+async function drawn(read) {
   const caller = await read("/api/me/");
-  const page = pageFor(read, caller);
-  const top = await headerOf(page);
+  const isOperator = caller.entry === null;
+  const { name = null, ids } = placeNow();
+  const place = name ?? (isOperator ? "matches" : "points");
+  const team = isOperator ? "The team" : caller.name;
+  const page = { read, caller, isOperator, team, season: () => seasonBy(read), redraw, send };
+  const header = await headerOf(page);
+  let nodes;
   try {
-    const nodes = await PLACES[name].draw(page, ...ids);
-    return { name, caller, top, nodes: nodes.flat(Infinity) };
+    nodes = await PLACES[place][0](page, ...ids);
   } catch (fault) {
-    if (!(fault instanceof host.Refusal) || fault.status === 401) {
-      throw fault;
-    }
-    return { name, caller, top, nodes: withoutAnswer(fault) };
+    nodes = instead(fault);
   }
+  return { header, bar: barOf(isOperator, PLACES[place][1]), nodes: [nodes].flat(Infinity).filter(Boolean) };
 }
 
-function withoutAnswer(refusal) {
-  if (isBeforeSeason(refusal)) {
-    return [heading("No season yet"), make("p", {}, sentence(refusal))];
+/** What is drawn where the host refused what a place reads. */
+function instead(fault) {
+  if (!(fault instanceof host.Refusal) || fault.status === 401) {
+    throw fault;
   }
-  return [heading(refusal.status === 404 ? "There is nothing here" : "That did not work"), make("p", {}, sentence(refusal))];
+  const title = isBeforeSeason(fault) ? "No season yet" : fault.status === 404 ? "There is nothing here" : "That did not work";
+  return [heading(title), make("p", sentence(fault))];
 }
 
-/** Shows the place that is open: at once what is kept of it, and then what the host tells now, where that is another. */
+/** Shows the open place: at once what is kept of it, and then what the host tells now, where that is another. */
 async function show({ isOpened = false } = {}) {
   const mine = ++turn;
-  const place = placeNow();
-  if (place === null) {
-    location.replace(`#/${(await isOperator()) ? "matches" : "points"}`);
-    return;
-  }
   let isShown = false;
   const showOnce = (found) => {
     put(found, isOpened && !isShown);
     isShown = true;
   };
   try {
-    showOnce(await drawn(place, keptReader));
+    showOnce(await drawn(keptReader));
   } catch (fault) {
     if (!(fault instanceof host.NotKept)) {
       throw fault;
     }
   }
-  for (let pause = 1; mine === turn; pause = Math.min(2 * pause, 8)) {
+  work(true);
+  for (let pause = 1; mine === turn; pause = Math.min(2 * pause, LONGEST_PAUSE)) {
     const reader = freshReader();
     try {
-      work(true);
-      const found = await drawn(place, reader);
+      const found = await drawn(reader);
       if (mine === turn && (!isShown || reader.hasChanged)) {
         showOnce(found);
       }
       part("unsaved").hidden ||= !host.isBusy();
       break;
     } catch (fault) {
-      if (fault instanceof host.Refusal && fault.status === 401) {
-        return signInAgain(fault);
-      }
-      if (!(fault instanceof host.NoAnswer)) {
-        throw fault;
-      }
-      if (mine === turn) {
-        unsaved(host.isBusy() ? "Not saved yet, trying again." : "The host gives no answer. Trying again.");
-        await host.pauseOf(pause);
-      }
-    } finally {
-      if (mine === turn) {
-        work(false);
-      }
+      await endure(fault, pause);
     }
+  }
+  if (mine === turn) {
+    work(false);
+  }
+}
+
+/** Waits where the host gave no answer, and signs in again where it doesn't know the key. */
+async function endure(fault, pause) {
+  if (fault instanceof host.NoAnswer) {
+    unsaved(host.isBusy() ? "Not saved yet, trying again." : "The host gives no answer. Trying again.");
+    await host.pauseOf(pause);
+  } else if (fault instanceof host.Refusal) {
+    host.signOut();
+    signInForm(sentence(fault));
+  } else {
+    throw fault;
   }
 }
 
 /** Draws the place again from what is kept: something was chosen here. */
 async function redraw() {
-  const place = placeNow();
   const mine = turn;
-  const found = await drawn(place, keptReader);
+  const found = await drawn(keptReader);
   if (mine === turn) {
     put(found, false);
   }
 }
 
-/** Puts what was drawn into the page, and leaves focus and places of scrolling as they are. */
-function put({ name, caller, top, nodes }, isOpened) {
-  const focused = document.activeElement?.id;
-  const selection = document.activeElement?.selectionStart ?? null;
-  const scrolled = new Map([...document.querySelectorAll(".scroll[id]")].map((it) => [it.id, it.scrollLeft]));
-  part("header").replaceChildren(...top);
-  part("places").replaceChildren(placesOf(caller, name));
-  part("main").replaceChildren(...nodes.filter(Boolean));
-  countDown();
+/** Puts what was drawn into the page; focus, what is open and how far tables are scrolled stay. */
+function put({ header, bar, nodes }, isOpened) {
+  const { id, selectionStart } = document.activeElement ?? {};
+  const open = [...part("main").querySelectorAll("details[open][id]")].map((it) => it.id);
+  const scrolled = [...part("main").querySelectorAll(".scroll[id]")].map((it) => [it.id, it.scrollLeft]);
+  part("header").replaceChildren(...header);
+  part("places").replaceChildren(bar);
+  part("main").replaceChildren(...nodes);
   const title = part("main").querySelector("h1");
-  document.title = title ? `${title.textContent} \u00b7 Kowhirupe` : "Kowhirupe";
-  for (const [id, left] of scrolled) {
-    part(id)?.scrollTo(left, 0);
-  }
+  document.title = `${title.textContent} \u00b7 Kowhirupe`;
+  countDown();
   if (isOpened) {
     scrollTo(0, 0);
-    title?.focus();
-  } else if (focused && document.activeElement !== part(focused)) {
-    part(focused)?.focus({ preventScroll: true });
-    if (selection !== null && part(focused)?.type !== "number") {
-      part(focused)?.setSelectionRange?.(selection, selection);
+    title.focus();
+    return;
+  }
+  open.forEach((it) => part(it)?.setAttribute("open", ""));
+  scrolled.forEach(([it, left]) => part(it)?.scrollTo(left, 0));
+  if (id) {
+    part(id)?.focus({ preventScroll: true });
+    if (part(id)?.type === "search") {
+      part(id).setSelectionRange(selectionStart, selectionStart);
     }
   }
 }
 
-async function isOperator() {
-  return (await host.readAnew("/api/me/")).entry === null;
-}
-
-// Header and places
+// Header and bar
 
 async function headerOf(page) {
-  const isOut = () => signOut(page);
-  const out = make("button.link", { type: "button", id: "sign-out", onclick: isOut }, "Sign out");
   const name = page.isOperator ? "The operator" : named(page.caller.name);
+  deadline = await nextDeadline(page);
+  const points = await pointsIn(page);
+  return [make("span.who", name, points), make("span.next", { id: "next" }), button("sign-out", "Sign out", signOut, { kind: ".link" })];
+}
+
+async function nextDeadline(page) {
   try {
-    const season = await page.season();
-    deadline = season.next ? season.gameweek(season.next) : null;
+    const { next, gameweeks } = await page.season();
+    return next && { name: gameweeks[next - 1].name, moment: gameweeks[next - 1].deadline_time_epoch };
   } catch (fault) {
-    if (!(fault instanceof host.Refusal) || fault.status === 401) {
-      throw fault;
+    if (fault instanceof host.Refusal && isBeforeSeason(fault)) {
+      return null;
     }
-    deadline = null;
+    throw fault;
   }
-  return [make("span.who", {}, name, await pointsIn(page)), make("span.next", { id: "next" }), out];
 }
 
 /** The points of the gameweek that was locked last. */
-async function pointsIn({ isOperator, caller, read }) {
-  if (isOperator || caller.started_event === null) {
-    return null;
-  }
-  const points = (await read(`/api/entry/${caller.entry}/`)).summary_event_points;
+async function pointsIn({ caller, read }) {
+  const points = caller.started_event && (await read(`/api/entry/${caller.entry}/`)).summary_event_points;
   return points === null ? null : ` \u00b7 ${whole(points)} points`;
 }
 
 function countDown() {
-  const shown = part("next");
-  if (!shown) {
-    return;
-  }
-  const left = deadline && countdown(deadline.deadline_time_epoch);
-  const text = deadline ? `${deadline.name}: ${when(deadline.deadline_time_epoch)}${left ? `, in ${left}` : ""}` : "";
-  if (shown.textContent !== text) {
-    shown.textContent = text;
+  const left = deadline && countdown(deadline.moment);
+  const text = deadline ? `${deadline.name}: ${when(deadline.moment)}${left ? `, in ${left}` : ""}` : "";
+  if (part("next") && part("next").textContent !== text) {
+    part("next").textContent = text;
   }
 }
 
-function placesOf(caller, name) {
-  const within = PLACES[name].within ?? name;
-  const link = ([place, text]) =>
-    make("li", {}, make("a", { href: `#/${place}`, "aria-current": place === within ? "page" : null }, icon(place), text));
-  return make("ul", {}, (caller.entry === null ? OF_THE_OPERATOR : OF_MANAGERS).map(link));
+function barOf(isOperator, here) {
+  const places = Object.entries(isOperator ? BAR_OF_THE_OPERATOR : BAR_OF_MANAGERS);
+  const item = ([place, text]) => {
+    const way = link(place, icon(place), text);
+    if (place === here) {
+      way.setAttribute("aria-current", "page");
+    }
+    return make("li", way);
+  };
+  return make("ul", places.map(item));
 }
 
 // What is told
 
 let waiting = null;
 
+/** A bar moves on top while the host is asked, where it takes longer than a moment. */
 function work(isGoingOn) {
   clearTimeout(waiting);
   part("main").setAttribute("aria-busy", String(isGoingOn));
+  part("working").hidden = true;
   if (isGoingOn) {
     waiting = setTimeout(() => (part("working").hidden = false), 150);
-  } else {
-    part("working").hidden = true;
   }
 }
 
@@ -279,39 +259,34 @@ function unsaved(text) {
   part("unsaved").hidden = false;
 }
 
-/** A notice over the place, until it is closed or another place is opened; told to those who hear the page too. */
+/** A notice over the place, until it is closed or another place is opened. */
 function say(kind, text) {
-  const close = make("button.link", { type: "button", onclick: () => part("notice").replaceChildren() }, "Close");
-  part("notice").replaceChildren(notice(kind, make("span", {}, text), close));
-  if (kind !== "bad") {
-    tell(text);
-  }
+  const close = button("close-notice", "Close", () => part("notice").replaceChildren(), { kind: ".link" });
+  part("notice").replaceChildren(make(`p.notice.${kind}`, make("span", text), close));
 }
 
 // Commands
 
 /**
  * Sends a command for a button, which is busy meanwhile, says how it ended, and shows the place anew. `done` is what is said
- * where it is done, or gives that of the answer; `drafts` and `gameweek` are those of `host.command`. Gives the answer's
- * body, or null where it was refused.
+ * where it is done; `drafts` and `gameweek` are those of `host.command`. Gives the answer's body, or null where it was
+ * refused.
  */
-async function send(page, button, target, members, { done = "Saved.", ...others } = {}) {
+async function send(page, busy, target, members, { done = "Saved.", ...others } = {}) {
   if (host.isBusy()) {
     say("bad", "Something else is being saved. Wait until it is.");
     return null;
   }
-  button?.setAttribute("disabled", "");
+  busy.disabled = true;
   work(true);
   let body = null;
   try {
     body = await host.command(target, members, others);
-    say("done", typeof done === "function" ? done(body) : done);
+    say("done", done);
   } catch (fault) {
     say("bad", await inWords(fault, page));
-  } finally {
-    button?.removeAttribute("disabled");
-    work(false);
   }
+  busy.disabled = false;
   await show();
   return body;
 }
@@ -322,18 +297,13 @@ async function inWords(fault, page) {
     const next = fault.next === null ? "The season is over." : `Gameweek ${fault.next} is next: look at your team, and save again.`;
     return `The deadline of gameweek ${fault.gameweek} has passed. ${next}`;
   }
+  if (fault instanceof host.NoAnswer) {
+    return "The host gives no answer, and nothing was sent. Try again.";
+  }
   if (fault instanceof host.Refusal) {
-    return sentence(fault, page && (await seasonOrNull(page)), page?.team);
+    return sentence(fault, await page?.season().catch(() => null), page?.team);
   }
   throw fault;
-}
-
-async function seasonOrNull(page) {
-  try {
-    return await page.season();
-  } catch {
-    return null;
-  }
 }
 
 /** Goes on with a command that was under way when the page was loaded again. */
@@ -344,46 +314,43 @@ async function resume() {
     }
     say("done", "What was sent before is saved.");
   } catch (fault) {
-    say("bad", await inWords(fault, null));
+    say("bad", await inWords(fault));
   }
   await show();
 }
 
+host.watch((isWaiting) => (isWaiting ? unsaved("Not saved yet, trying again.") : (part("unsaved").hidden = true)));
+
 // Signing in and out
 
-function signInAgain(refusal) {
-  host.signOut();
-  signInForm(sentence(refusal));
-}
-
-function signInForm(wrong = null) {
+function signInForm(wrong = "") {
   turn += 1;
-  const key = make("input", { id: "key", type: "password", autocomplete: "current-password", autocapitalize: "none", spellcheck: "false", required: true });
-  const told = wrong ? [notice("bad", wrong)] : [];
-  const enter = async (event) => {
-    event.preventDefault();
-    host.signIn(key.value.trim().toLowerCase());
-    await begin();
-  };
+  work(false);
   part("header").replaceChildren();
   part("places").replaceChildren();
   part("unsaved").hidden = true;
-  part("notice").replaceChildren();
+  const key = input("key", { type: "password", autocomplete: "current-password" });
+  const enter = () => {
+    host.signIn(key.value.trim().toLowerCase());
+    begin();
+  };
   part("main").replaceChildren(
     heading("Kowhirupe"),
-    make("p.quiet", {}, "Sign in with the key that whoever runs the season gave you."),
-    ...told,
-    make("form.form", { onsubmit: enter }, make("label", { for: "key" }, "Key"), key, make("button.main", { id: "sign-in" }, "Sign in")),
+    make("p", "Sign in with the key that whoever runs the season gave you."),
+    form(enter, field("Key", key), make("button.main", { id: "sign-in" }, "Sign in")),
   );
+  part("notice").replaceChildren();
+  if (wrong) {
+    say("bad", wrong);
+  }
   document.title = "Sign in \u00b7 Kowhirupe";
   key.focus();
 }
 
 async function signOut() {
-  const isSure = await confirmed("Sign out?", "Sign out", make("p", {}, "The key is forgotten by this browser."));
-  if (isSure) {
+  if (await confirmed("Sign out?", "Sign out", make("p", "The key is forgotten by this browser."))) {
     host.signOut();
-    location.hash = "";
+    history.replaceState(null, "", location.pathname);
     signInForm();
   }
 }
@@ -399,33 +366,28 @@ async function begin() {
 
 // What happens on its own
 
-host.watch((what) => {
-  if (what === "waiting") {
-    unsaved("Not saved yet, trying again.");
-  } else {
-    part("unsaved").hidden = true;
-  }
-});
-
-function isQuiet() {
-  return document.visibilityState === "visible" && !document.querySelector("dialog") && !host.isBusy() && part("places").firstChild;
-}
-
-setInterval(() => isQuiet() && show(), REFRESHED * 1000);
-setInterval(countDown, 1000);
-setInterval(() => {
-  const behind = deadline ? Date.now() / 1000 - deadline.deadline_time_epoch : -1;
-  if (behind >= 0 && behind < DUE && isQuiet()) {
+/** Reads anew what is looked at, unless something is asked or sent. */
+function refresh() {
+  if (document.visibilityState === "visible" && part("places").firstChild && !document.querySelector("dialog") && !host.isBusy()) {
     show();
   }
+}
+
+setInterval(countDown, 1000);
+setInterval(refresh, REFRESHED * 1000);
+setInterval(() => {
+  const behind = deadline ? Date.now() / 1000 - deadline.moment : -1;
+  if (behind >= 0 && behind < DUE) {
+    refresh();
+  }
 }, 5000);
+document.addEventListener("visibilitychange", refresh);
 addEventListener("hashchange", () => {
+  part("notice").replaceChildren();
   if (host.signedIn()) {
-    part("notice").replaceChildren();
     show({ isOpened: true });
   }
 });
-document.addEventListener("visibilitychange", () => isQuiet() && show());
-part("skip").addEventListener("click", () => part("main").querySelector("h1")?.focus());
+part("skip").addEventListener("click", () => part("main").querySelector("h1").focus());
 
 begin();

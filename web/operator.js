@@ -1,75 +1,42 @@
 // The season for the operator: deadlines, and prices in a list.
 
 import { browsing } from "./browsing.js";
-import { make, named } from "./elements.js";
+import { form, input, make, quiet } from "./elements.js";
 import { goOnFrom } from "./host.js";
-import { heading, playerLink } from "./parts.js";
+import { heading, playerLink, shortly } from "./parts.js";
 import { fieldTime, momentOf, when } from "./words.js";
 
-export async function draw(page) {
+export async function drawSeason(page) {
   goOnFrom(page.caller.last);
   const season = await page.season();
-  return [
-    heading("The season"),
-    make("div.beside", {}, deadlines(page, season), prices(page, season)),
-  ];
-}
-
-function deadlines(page, season) {
-  const locked = season.gameweeks.filter((it) => it.id <= season.current);
   const open = season.gameweeks.filter((it) => it.id > season.current);
-  return make(
-    "section",
-    {},
-    make("h2", {}, "Deadlines"),
-    make("p.quiet", {}, locked.length > 0 ? `Locked: gameweeks 1 to ${locked.length}.` : "No gameweek is locked yet."),
-    open.length > 0 ? make("ul.list", {}, open.map((it) => deadlineRow(page, it))) : make("p", {}, "The season is over."),
-  );
+  const deadlines = [
+    make("h2", "Deadlines"),
+    quiet(`${season.current} of ${season.last} gameweeks are locked.`),
+    make("ul.list", open.map((it) => deadlineRow(page, it))),
+  ];
+  const prices = [
+    make("h2", "Prices"),
+    quiet("A player's club, and that he has left, are set on his own page."),
+    browsing(season, "prices", () => make("ul.list"), (player) => priceRow(page, season, player)),
+  ];
+  return [heading("The season"), make("div.beside", make("section", deadlines), make("section", prices))];
 }
 
-function deadlineRow(page, { id, name, deadline_time_epoch: deadline }) {
-  const time = make("input", { id: `deadline-${id}`, type: "datetime-local", step: 1, value: fieldTime(deadline), required: true });
-  const set = (event) => {
-    event.preventDefault();
-    page.send(page, event.submitter, "/deadlines", { gameweek: id, deadline: momentOf(time.value) }, { done: `The deadline of gameweek ${id} is set.` });
-  };
-  return make(
-    "li",
-    {},
-    make(
-      "form.who",
-      { onsubmit: set },
-      make("label", { for: time.id }, `${name}, now ${when(deadline)}`),
-      make("div.buttons", {}, time, make("button", { id: `set-deadline-${id}` }, "Set")),
-    ),
-  );
+/** A line with a field and its button. */
+function lineOf(about, entry, label, call) {
+  return make("li", make("div.who", about), form(call, entry, make("button", { id: `set-${entry.id}`, "aria-label": label }, "Set")));
 }
 
-function prices(page, season) {
-  const open = () => {
-    const holder = make("ul.list");
-    return { holder, rows: holder };
-  };
-  const row = (player) => {
-    const about = `${season.clubs.get(player.team).name}`;
-    const price = make("input.price", { id: `price-${player.id}`, type: "number", step: "0.1", value: (player.now_cost / 10).toFixed(1), required: true, "aria-label": `Price of ${player.web_name} in millions` });
-    const set = (event) => {
-      event.preventDefault();
-      const members = { player: player.id, price: Math.round(10 * price.value) };
-      page.send(page, event.submitter, "/prices", members, { done: `${player.web_name} costs ${price.value} now.` });
-    };
-    return make(
-      "li",
-      {},
-      make("span.who", {}, playerLink(season, player.id), make("small", {}, named(about))),
-      make("form.inline", { onsubmit: set }, price, make("button", { id: `set-price-${player.id}`, "aria-label": `Set the price of ${player.web_name}` }, "Set")),
-    );
-  };
-  return make(
-    "section",
-    {},
-    make("h2", {}, "Prices"),
-    make("p.quiet", {}, "A player's club, and that he has left, are set on his own page."),
-    browsing(season, "prices", open, row),
-  );
+function deadlineRow(page, { id, name, deadline_time_epoch: moment }) {
+  const time = input(`deadline-${id}`, { type: "datetime-local", step: 1, value: fieldTime(moment), "aria-label": `Deadline of ${name}` });
+  const set = (busy) => page.send(page, busy, "/deadlines", { gameweek: id, deadline: momentOf(time.value) }, { done: `The deadline of gameweek ${id} is set.` });
+  return lineOf([name, make("small", when(moment))], time, `Set the deadline of ${name}`, set);
+}
+
+function priceRow(page, season, player) {
+  const { id, web_name: name, now_cost: cost } = player;
+  const price = input(`price-${id}`, { type: "number", step: "0.1", value: (cost / 10).toFixed(1), "aria-label": `Price of ${name} in millions` });
+  const set = (busy) => page.send(page, busy, "/prices", { player: id, price: Math.round(10 * price.value) }, { done: `The price of ${name} is set.` });
+  return lineOf([playerLink(season, id), make("small", shortly(season, player))], price, `Set the price of ${name}`, set);
 }

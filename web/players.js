@@ -1,114 +1,95 @@
 // All players in a table, and one player with his matches; for the operator what can be changed of him.
 
 import { browsing } from "./browsing.js";
-import { choice, field, make, named } from "./elements.js";
-import { heading, playerLink, shirt, strip, table } from "./parts.js";
+import { choice, field, form, input, link, make, named, quiet } from "./elements.js";
+import { goOnFrom } from "./host.js";
+import { heading, playerLink, shortly, strip, table } from "./parts.js";
 import { POSITIONS, money, when, whole } from "./words.js";
 
-const COLUMNS = [
-  ["Player", null],
-  ["Price#", (player) => money(player.now_cost)],
-  ["Points#", (player) => whole(player.total_points)],
-  ["A game#", (player) => player.points_per_game],
-  ["Owned %#", (player) => player.selected_by_percent],
-  ["Minutes#", (player) => whole(player.minutes)],
-  ["Goals#", (player) => whole(player.goals_scored)],
-  ["Assists#", (player) => whole(player.assists)],
-  ["Clean sheets#", (player) => whole(player.clean_sheets)],
-  ["Bonus#", (player) => whole(player.bonus)],
-];
+const COLUMNS = {
+  "Price#": (player) => money(player.now_cost),
+  "Points#": (player) => whole(player.total_points),
+  "A game#": (player) => player.points_per_game,
+  "Owned %#": (player) => player.selected_by_percent,
+  "Minutes#": (player) => whole(player.minutes),
+  "Goals#": (player) => whole(player.goals_scored),
+  "Assists#": (player) => whole(player.assists),
+  "Clean sheets#": (player) => whole(player.clean_sheets),
+  "Bonus#": (player) => whole(player.bonus),
+};
+const HISTORY = {
+  "Points#": "total_points",
+  "Minutes#": "minutes",
+  "Goals#": "goals_scored",
+  "Assists#": "assists",
+  "Bonus#": "bonus",
+  "Bonus number#": "bps",
+  "Conceded#": "goals_conceded",
+  "Saves#": "saves",
+  "Yellow#": "yellow_cards",
+  "Red#": "red_cards",
+};
 
-export async function draw(page) {
+export async function drawPlayers(page) {
   const season = await page.season();
-  const open = () => {
-    const holder = table("All players of the season", COLUMNS.map(([head]) => head), [], { isWide: true });
-    return { holder, rows: holder.querySelector("tbody") };
-  };
+  const open = () => table("All players of the season", ["Player", ...Object.keys(COLUMNS)], [], { isWide: true });
   const row = (player) => {
-    const about = `${season.clubs.get(player.team).short_name.toUpperCase()}, ${POSITIONS[player.element_type]}`;
-    const who = make("th.text", { scope: "row" }, playerLink(season, player.id), make("div.quiet.small", {}, about, player.status === "u" && ", left"));
-    return make("tr", {}, who, COLUMNS.slice(1).map(([, figure]) => make("td.number", {}, figure(player))));
+    const about = make("div.small", shortly(season, player), player.status === "u" && ", has left");
+    const figures = Object.values(COLUMNS).map((figure) => make("td.number", figure(player)));
+    return make("tr", make("th.text", { scope: "row" }, playerLink(season, player.id), about), figures);
   };
   return [heading("Players"), browsing(season, "players", open, row)];
 }
 
-export async function drawOne(page, id) {
+export async function drawPlayer(page, id) {
   const season = await page.season();
   const { fixtures, history } = await page.read(`/api/element-summary/${id}/`);
   const player = season.player(id);
-  const about = `${season.clubName(player.team)}, ${POSITIONS[player.element_type]}${player.status === "u" ? ". He has left the league." : ""}`;
   return [
     heading(named(player.web_name)),
-    make("p.buttons", {}, shirtOf(player), make("span", {}, about)),
+    quiet(named(season.clubName(player.team)), `, ${POSITIONS[player.element_type]}`, player.status === "u" && ", has left the league"),
     strip([
       ["Price", money(player.now_cost)],
       ["Points", player.total_points],
       ["Points a game", player.points_per_game],
       ["Owned by", `${player.selected_by_percent}%`],
     ]),
-    page.isOperator ? changes(page, season, player) : null,
-    make("h2", {}, "Played"),
-    history.length > 0 ? played(season, history) : make("p.quiet", {}, "Nothing yet."),
-    make("h2", {}, "To come"),
-    fixtures.length > 0 ? toCome(season, fixtures, player.team) : make("p.quiet", {}, "Nothing."),
+    page.isOperator && changes(page, season, player),
+    make("h2", "Played"),
+    history.length > 0 ? played(season, history) : quiet("Nothing yet."),
+    make("h2", "To come"),
+    fixtures.length > 0 ? toCome(season, fixtures) : quiet("Nothing."),
   ];
 }
 
-function shirtOf(player) {
-  const drawing = shirt(player.team, player.element_type === 1);
-  drawing.setAttribute("width", 44);
-  drawing.setAttribute("height", 40);
-  return drawing;
-}
-
 function played(season, history) {
-  const head = ["Match", "Points#", "Minutes#", "Goals#", "Assists#", "Bonus#", "Bonus number#", "Conceded#", "Saves#", "Yellow#", "Red#"];
-  const row = (it) => {
-    const against = it.opponent_team === null ? season.fixtureName(it.fixture) : `${season.clubName(it.opponent_team)} (${it.was_home ? "H" : "A"})`;
+  const match = (it) => {
+    const against = it.opponent_team === null ? season.fixtureName(it.fixture) : `${season.shortName(it.opponent_team)} (${it.was_home ? "H" : "A"})`;
     const score = it.team_h_score === null ? "" : ` ${it.team_h_score}\u2013${it.team_a_score}`;
-    const match = [make("a", { href: `#/fixtures/${it.round}` }, `${it.round}`), " ", named(against), score];
-    const figures = [it.total_points, it.minutes, it.goals_scored, it.assists, it.bonus, it.bps, it.goals_conceded, it.saves, it.yellow_cards, it.red_cards];
-    return [match, ...figures.map(whole)];
+    return [link(`fixtures/${it.round}`, `Week ${it.round}`), " ", against, score];
   };
-  return table("By match, with the gameweek in front", head, history.map(row), { isWide: true });
+  const row = (it) => [match(it), ...Object.values(HISTORY).map((name) => whole(it[name]))];
+  return table("Match by match", ["Match", ...Object.keys(HISTORY)], history.map(row), { isWide: true });
 }
 
-function toCome(season, fixtures, club) {
-  const row = (it) => {
-    const against = `${season.clubName(it.is_home ? it.team_a : it.team_h)} (${it.is_home ? "H" : "A"})`;
-    return [named(against), when(it.kickoff_time), it.event === null ? "none" : whole(it.event)];
-  };
-  return table(`The matches of ${season.clubName(club)}`, ["Against", "Kick-off", "Gameweek#"], fixtures.map(row));
+function toCome(season, fixtures) {
+  const against = (it) => named(`${season.clubName(it.is_home ? it.team_a : it.team_h)} (${it.is_home ? "H" : "A"})`);
+  const row = (it) => [against(it), when(it.kickoff_time), whole(it.event)];
+  return table("The matches of his club", ["Against", "Kick-off", "Week#"], fixtures.map(row));
 }
 
-// What the operator changes: price, club, and that he has gone. Each is a command of its own.
-
-function changes(page, season, player) {
-  const id = player.id;
-  const price = make("input", { id: "price", type: "number", step: "0.1", min: "3", max: "20", value: (player.now_cost / 10).toFixed(1), required: true });
-  const clubs = season.overview.teams.map((club) => [club.id, club.name]);
-  const club = choice({ id: "club" }, clubs, player.team);
-  const set = (target, members, done) => (event) => {
-    event.preventDefault();
-    page.send(page, event.submitter, target, members(), { done });
-  };
-  const isGone = player.status === "u";
-  const form = (label, input, button, send) => make("form", { onsubmit: send }, field(label, input), make("div.buttons", {}, make("button", { id: button }, "Set")));
+/** What the operator changes: price, club, and that he has left. Each is a command of its own. */
+function changes(page, season, { id, now_cost: cost, team, status }) {
+  goOnFrom(page.caller.last);
+  const price = input("price", { type: "number", step: "0.1", value: (cost / 10).toFixed(1) });
+  const club = choice("club", [...season.clubs.values()].map((it) => [it.id, it.name]), team);
+  const isGone = status === "u";
+  const set = (target, name, value) => (busy) => page.send(page, busy, target, { player: id, [name]: value() });
+  const one = (name, call, ...content) => make("div.card", form(call, ...content, make("button", { id: `set-${name}` }, "Set")));
   return make(
-    "details.card",
-    { open: true },
-    make("summary", {}, "Change him"),
-    make(
-      "div.cards",
-      {},
-      form("Price in millions", price, "set-price", set("/prices", () => ({ player: id, price: Math.round(10 * price.value) }), "The price is set.")),
-      form("Club", club, "set-club", set("/clubs", () => ({ player: id, club: Number(club.value) }), "The club is set.")),
-      make(
-        "form",
-        { onsubmit: set("/gone", () => ({ player: id, gone: !isGone }), isGone ? "He is back." : "He has left.") },
-        make("p.small", {}, isGone ? "He can't be bought." : "He can be bought."),
-        make("button", { id: "set-gone" }, isGone ? "He is back" : "He has left the league"),
-      ),
-    ),
+    "div.cards",
+    one("price", set("/prices", "price", () => Math.round(10 * price.value)), field("Price in millions", price)),
+    one("club", set("/clubs", "club", () => Number(club.value)), field("Club", club)),
+    one("gone", set("/gone", "gone", () => !isGone), make("span", isGone ? "He has left. Set that he is back:" : "Set that he has left:")),
   );
 }

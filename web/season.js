@@ -1,48 +1,44 @@
 // The season as the host tells it: clubs, players, gameweeks and fixtures, by their numbers.
 
 const seasons = new WeakMap(); // by the host's answers, so that each is gone through once
+const byId = (list) => new Map(list.map((item) => [item.id, item]));
 
 /** Reads the season by the reader of a place. */
 export async function seasonBy(read) {
   const [overview, fixtures] = await Promise.all([read("/api/bootstrap-static/"), read("/api/fixtures/")]);
-  const kept = seasons.get(overview);
-  if (kept?.fixtures === fixtures) {
-    return kept;
+  if (seasons.get(overview)?.fixtures !== fixtures) {
+    seasons.set(overview, new Season(overview, fixtures));
   }
-  const season = new Season(overview, fixtures);
-  seasons.set(overview, season);
-  return season;
+  return seasons.get(overview);
 }
 
-const byId = (list) => new Map(list.map((item) => [item.id, item]));
-
-export class Season {
-  constructor(overview, fixtures) {
-    this.overview = overview;
+class Season {
+  constructor({ elements, teams, events }, fixtures) {
+    this.all = elements;
     this.fixtures = fixtures;
-    this.gameweeks = overview.events;
-    this.players = byId(overview.elements);
-    this.clubs = byId(overview.teams);
+    this.gameweeks = events;
+    this.players = byId(elements);
+    this.clubs = byId(teams);
     this.fixtureOf = byId(fixtures);
-    this.current = overview.events.find((event) => event.is_current)?.id ?? null;
-    this.next = overview.events.find((event) => event.is_next)?.id ?? null;
-  }
-
-  gameweek(number) {
-    return this.gameweeks[number - 1];
+    this.last = events.length;
+    this.current = events.find((event) => event.is_current)?.id ?? 0; // 0 where none is locked
+    this.next = events.find((event) => event.is_next)?.id ?? null; // null where all are
   }
 
   player(id) {
     return this.players.get(id);
   }
 
-  /** The name of a player, or that he is unknown. */
   playerName(id) {
-    return this.players.get(id)?.web_name ?? `player ${id}`;
+    return this.player(id)?.web_name ?? `player ${id}`;
   }
 
   clubName(id) {
     return this.clubs.get(id)?.name ?? `club ${id}`;
+  }
+
+  shortName(id) {
+    return this.clubs.get(id).short_name.toUpperCase();
   }
 
   fixtureName(id) {
@@ -55,18 +51,15 @@ export class Season {
     return this.fixtures.filter((fixture) => fixture.event === gameweek);
   }
 
-  /** Against whom a club plays in a gameweek: `BUR (H)`, several where it plays twice, `no match` where it doesn't. */
-  opponents(club, gameweek) {
-    const matches = this.fixturesIn(gameweek).filter((fixture) => fixture.team_h === club || fixture.team_a === club);
-    const against = matches.map((fixture) => {
-      const isHome = fixture.team_h === club;
-      const other = this.clubs.get(isHome ? fixture.team_a : fixture.team_h);
-      return `${other.short_name.toUpperCase()} (${isHome ? "H" : "A"})`;
-    });
-    return against.join(", ") || "no match";
+  /** The gameweeks that are open, as choices. */
+  openGameweeks() {
+    return this.gameweeks.filter((event) => event.id > this.current).map((event) => [event.id, event.name]);
   }
 
-  ofClub(club) {
-    return this.overview.elements.filter((player) => player.team === club);
+  /** Against whom a club plays in a gameweek: `BUR (H)`, several where it plays twice, `no match` where it doesn't. */
+  opponents(club, gameweek) {
+    const matches = this.fixturesIn(gameweek).filter((it) => it.team_h === club || it.team_a === club);
+    const against = (it) => (it.team_h === club ? `${this.shortName(it.team_a)} (H)` : `${this.shortName(it.team_h)} (A)`);
+    return matches.map(against).join(", ") || "no match";
   }
 }

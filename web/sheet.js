@@ -1,29 +1,28 @@
 // The sheet of a match: its players and their 28 figures, checked as they are typed, with what changed marked, sent whole.
 
-import { make, named, tell } from "./elements.js";
+import { button, check, make, named } from "./elements.js";
 import { FIGURES, groups, wrongFigure } from "./figures.js";
 import { goOnFrom } from "./host.js";
 import { recall, remember } from "./kept.js";
-import { heading } from "./parts.js";
-import { POSITIONS } from "./words.js";
+import { heading, shortly } from "./parts.js";
 
-const COLUMNS = groups().flatMap(([, places]) => places);
-const FIRST_OF_GROUP = new Set(groups().map(([, places]) => places[0]));
-const NOTHING = Array.from({ length: FIGURES.length }, () => 0);
-const isEmpty = (figures) => figures.every((figure) => figure === 0);
+const GROUPS = groups();
+const COLUMNS = GROUPS.flatMap(([, places]) => places);
+const STARTS = GROUPS.map(([, places]) => places[0]);
+const NOTHING = FIGURES.map(() => 0);
+const isEmpty = (line) => line.every((figure) => figure === 0);
 
-export async function draw(page, id) {
+export async function drawSheet(page, id) {
   const season = await page.season();
   const told = await page.read(`/api/fixtures/${id}/sheet/`);
-  const name = `sheet ${id}`;
-  const draft = recall(name);
+  const draft = recall(`sheet ${id}`);
   if (draft === null) {
     goOnFrom(page.caller.last);
   }
-  const sheet = new Sheet(page, season, id, told, draft, name);
+  const sheet = new Sheet(page, season, id, told, draft);
   return [
     heading("Sheet of a match"),
-    make("p", {}, `${season.fixtureName(id)}. A row can be pasted from a spreadsheet.`),
+    make("p", named(season.fixtureName(id)), ". Rows and columns can be pasted from a spreadsheet."),
     sheet.table(),
     sheet.others(),
     sheet.tools(),
@@ -31,194 +30,168 @@ export async function draw(page, id) {
 }
 
 class Sheet {
-  constructor(page, season, id, told, draft, name) {
-    Object.assign(this, { page, season, id, name });
+  constructor(page, season, id, told, draft) {
+    Object.assign(this, { page, season, id, name: `sheet ${id}` });
+    this.match = season.fixtureOf.get(id);
     this.told = new Map(told.lines.map((line) => [line.player, line.figures]));
     this.wasFinished = told.finished;
     this.lines = draft ? new Map(draft.lines) : new Map(this.told);
-    this.isFinished = draft ? draft.isFinished : told.finished;
-    this.added = new Set(draft?.added ?? []);
+    this.added = draft?.added ?? []; // who has a row without a figure
+    this.isFinished = draft?.isFinished ?? told.finished;
     this.inputs = new Map(); // by player, in the order of the columns
+    this.state = make("span", { role: "status" });
+    this.save = button("save", "Save the sheet", (busy) => this.send(busy), { kind: ".main" });
   }
 
-  keep() {
-    const draft = { lines: [...this.lines], isFinished: this.isFinished, added: [...this.added] };
-    remember(this.name, this.isChanged() ? draft : null);
-    this.showState();
+  before(player) {
+    return this.told.get(player) ?? NOTHING;
   }
 
   isChanged() {
-    const before = (player) => this.told.get(player) ?? NOTHING;
-    const players = new Set([...this.lines.keys(), ...this.told.keys()]);
-    const isOther = (player) => !this.lines.has(player) || String(this.lines.get(player)) !== String(before(player));
-    return this.isFinished !== this.wasFinished || [...players].some(isOther);
+    const isOther = (player) => String(this.lines.get(player) ?? NOTHING) !== String(this.before(player));
+    return this.isFinished !== this.wasFinished || [...this.lines.keys(), ...this.told.keys()].some(isOther);
   }
 
-  isRight() {
-    return [...this.lines.values()].every((line) => COLUMNS.every((place) => wrongFigure(line, place) === null));
+  wrong() {
+    return [...this.lines.values()].flatMap((line) => COLUMNS.map((place) => wrongFigure(line, place))).find(Boolean);
   }
 
-  /** Those who have a row: who did something in the match, and who was added here. */
+  keep() {
+    const isKept = this.isChanged() || this.added.length > 0;
+    remember(this.name, isKept ? { lines: [...this.lines], added: this.added, isFinished: this.isFinished } : null);
+    this.showState();
+  }
+
+  showState() {
+    this.save.disabled = this.wrong() !== undefined || !this.isChanged();
+    this.state.textContent = this.wrong() ?? (this.isChanged() ? "Not saved yet" : "");
+  }
+
+  /** Those with a row, home first, by position. */
   shown() {
-    return [...this.lines.keys()].filter((player) => this.added.has(player) || !isEmpty(this.lines.get(player)));
+    return this.order([...this.lines.keys()].filter((player) => this.added.includes(player) || !isEmpty(this.lines.get(player))));
   }
 
   order(players) {
-    const { home, away } = { home: this.season.fixtureOf.get(this.id).team_h, away: this.season.fixtureOf.get(this.id).team_a };
-    const side = ({ team }) => (team === home ? 0 : team === away ? 1 : 2);
-    const of = (player) => this.season.player(player);
-    return players.sort((one, other) => side(of(one)) - side(of(other)) || of(one).element_type - of(other).element_type || one - other);
+    const place = (id) => {
+      const { team, element_type: position } = this.season.player(id);
+      return (team === this.match.team_h ? 0 : 10) + position;
+    };
+    return players.sort((one, other) => place(one) - place(other) || one - other);
   }
 
   // The table
 
   table() {
     const group = ([title, places]) => make("th.group", { scope: "colgroup", colspan: places.length }, title);
-    const column = (place) => make(`th${FIRST_OF_GROUP.has(place) ? ".group" : ""}`, { scope: "col" }, make("span", {}, FIGURES[place].name));
-    const rows = this.order(this.shown()).map((player) => this.row(player));
+    const column = (place) => make(`th${this.edge(place)}`, { scope: "col" }, make("span", FIGURES[place].name));
+    const head = make("thead", make("tr", make("td"), GROUPS.map(group)), make("tr", make("th", { scope: "col" }, "Player"), COLUMNS.map(column)));
     return make(
       "div.scroll.sheet",
       { id: "sheet", tabindex: 0, role: "group", "aria-label": "The figures", onpaste: (event) => this.pasted(event) },
-      make(
-        "table",
-        {},
-        make("thead", {}, make("tr", {}, make("td"), groups().map(group), make("td")), make("tr", {}, make("th", { scope: "col" }, "Player"), COLUMNS.map(column), make("td"))),
-        make("tbody", {}, rows),
-      ),
+      make("table", head, make("tbody", this.shown().map((player) => this.row(player)))),
     );
   }
 
+  edge(place) {
+    return STARTS.includes(place) ? ".group" : "";
+  }
+
   row(player) {
-    const { web_name: name, element_type: position, team } = this.season.player(player);
-    const inputs = COLUMNS.map((place) => this.input(player, name, place));
+    const about = this.season.player(player);
+    const inputs = COLUMNS.map((place) => this.input(player, about.web_name, place));
     this.inputs.set(player, inputs);
-    const cells = inputs.map((input, at) => make(`td${FIRST_OF_GROUP.has(COLUMNS[at]) ? ".group" : ""}`, {}, input));
-    const drop = make("button.link", { type: "button", id: `drop-${player}`, "aria-label": `Take ${name} out`, onclick: () => this.drop(player) }, "out");
-    const about = `${this.season.clubs.get(team).short_name.toUpperCase()}, ${POSITIONS[position]}`;
-    return make("tr", {}, make("th", { scope: "row" }, named(name), make("div.quiet", {}, about)), cells, make("td", {}, drop));
+    this.mark(player);
+    const head = make("th", { scope: "row" }, named(about.web_name), make("div", shortly(this.season, about)));
+    return make("tr", head, inputs.map((entry, at) => make(`td${this.edge(COLUMNS[at])}`, entry)));
   }
 
   input(player, name, place) {
-    const { name: figure, most } = FIGURES[place];
-    const input = make("input", {
+    const entry = make("input", {
       id: `figure-${player}-${place}`,
       inputmode: "numeric",
       autocomplete: "off",
       value: this.lines.get(player)[place],
-      "aria-label": `${name}, ${figure}, up to ${most}`,
-      onfocus: () => input.select(),
-      oninput: () => this.typed(player, place, input.value),
+      "aria-label": `${name}, ${FIGURES[place].name}`,
+      onfocus: () => entry.select(),
+      oninput: () => this.typed(player, place, entry.value),
     });
-    this.markInput(input, player, place);
-    return input;
+    return entry;
   }
 
   typed(player, place, text) {
-    const line = [...this.lines.get(player)];
-    line[place] = text.trim() === "" ? 0 : /^\d+$/.test(text.trim()) ? Number(text) : text;
-    this.lines.set(player, line);
-    this.inputs.get(player).forEach((input, at) => this.markInput(input, player, COLUMNS[at]));
-    tell(wrongFigure(line, place) ?? "");
+    const figure = text.trim() === "" ? 0 : Number(text);
+    this.lines.set(player, this.lines.get(player).with(place, figure));
+    this.mark(player);
     this.keep();
   }
 
-  /** Shows whether a figure is wrong, and whether it is another than the host has. */
-  markInput(input, player, place) {
+  /** Shows which figures of a player are wrong, and which are others than the host has. */
+  mark(player) {
     const line = this.lines.get(player);
-    const wrong = wrongFigure(line, place);
-    input.classList.toggle("changed", line[place] !== (this.told.get(player) ?? NOTHING)[place]);
-    input.title = wrong ?? "";
-    if (wrong) {
-      input.setAttribute("aria-invalid", "true");
-    } else {
-      input.removeAttribute("aria-invalid");
-    }
+    this.inputs.get(player).forEach((entry, at) => {
+      const wrong = wrongFigure(line, COLUMNS[at]);
+      entry.classList.toggle("changed", line[COLUMNS[at]] !== this.before(player)[COLUMNS[at]]);
+      entry.setAttribute("aria-invalid", String(wrong !== null));
+      entry.title = wrong ?? "";
+    });
   }
 
   /** Rows and columns of a spreadsheet go into the cells from the one on which they are pasted. */
   pasted(event) {
-    const [, player, place] = event.target.id.match(/^figure-(\d+)-(\d+)$/) ?? [];
-    const rows = event.clipboardData.getData("text").replace(/\r?\n$/, "").split(/\r?\n/).map((row) => row.split("\t"));
-    if (!player || (rows.length === 1 && rows[0].length === 1)) {
+    const rows = event.clipboardData.getData("text").trimEnd().split("\n").map((row) => row.split("\t"));
+    if (rows.flat().length === 1) {
       return;
     }
     event.preventDefault();
-    const players = this.order(this.shown());
-    const from = players.indexOf(Number(player));
-    const column = COLUMNS.indexOf(Number(place));
-    rows.forEach((row, down) => row.forEach((text, across) => this.put(players[from + down], COLUMNS[column + across], text)));
+    const [, player, place] = event.target.id.split("-").map(Number);
+    const below = this.shown().slice(this.shown().indexOf(player));
+    const behind = COLUMNS.slice(COLUMNS.indexOf(place));
+    rows.slice(0, below.length).forEach((row, down) => row.slice(0, behind.length).forEach((text, across) => this.put(below[down], behind[across], text)));
   }
 
   put(player, place, text) {
-    if (player === undefined || place === undefined) {
-      return;
-    }
     this.inputs.get(player)[COLUMNS.indexOf(place)].value = text.trim();
     this.typed(player, place, text);
   }
 
-  // Who has no row
+  // Who has no row, and saving
 
   others() {
-    const { team_h: home, team_a: away } = this.season.fixtureOf.get(this.id);
+    const { team_h: home, team_a: away } = this.match;
     const shown = this.shown();
-    const rest = [...this.season.ofClub(home), ...this.season.ofClub(away)].map((it) => it.id).filter((it) => !shown.includes(it));
-    const add = (player) => make("button", { type: "button", id: `add-${player}`, onclick: () => this.add(player) }, named(this.season.playerName(player)));
-    return make(
-      "details",
-      { id: "others" },
-      make("summary", {}, `Players without a figure (${rest.length})`),
-      make("p.quiet", {}, "Tap those who were in the match."),
-      make("div.choices", {}, this.order(rest).map(add)),
-    );
+    const rest = this.season.all.filter(({ id, team }) => (team === home || team === away) && !shown.includes(id)).map(({ id }) => id);
+    const add = (player) => button(`add-${player}`, named(this.season.playerName(player)), () => this.add(player));
+    return make("details", { id: "others" }, make("summary", `Players without a figure (${rest.length})`), make("div.choices", this.order(rest).map(add)));
   }
 
   add(player) {
-    this.added.add(player);
-    this.lines.set(player, this.lines.get(player) ?? NOTHING);
+    this.added = [...this.added, player];
+    this.lines.set(player, this.before(player));
     this.keep();
     this.page.redraw();
   }
-
-  drop(player) {
-    this.added.delete(player);
-    this.lines.delete(player);
-    this.keep();
-    this.page.redraw();
-  }
-
-  // Saving
 
   tools() {
-    const finished = make("input", { type: "checkbox", id: "finished", checked: this.isFinished, onchange: () => this.finish(finished.checked) });
-    this.save = make("button.main", { type: "button", id: "save", onclick: () => this.send() }, "Save the sheet");
-    const undo = make("button", { type: "button", id: "undo", onclick: () => this.undo() }, "Undo");
-    this.state = make("span", { role: "status" });
+    const finish = ({ target }) => {
+      this.isFinished = target.checked;
+      this.keep();
+    };
+    const undo = () => {
+      remember(this.name, null);
+      this.page.redraw();
+    };
     this.showState();
-    const finish = make("label.check", { for: "finished" }, finished, "The match is finished: bonus is given");
-    return make("div.tools", {}, finish, make("div.buttons", {}, this.save, undo, this.state));
+    return make(
+      "div.tools",
+      check("finished", "The match is finished: bonus is given", this.isFinished, { onchange: finish }),
+      make("div.buttons", this.save, button("undo", "Undo", undo), this.state),
+    );
   }
 
-  finish(isFinished) {
-    this.isFinished = isFinished;
-    this.keep();
-  }
-
-  showState() {
-    const isRight = this.isRight();
-    this.save.disabled = !isRight || !this.isChanged();
-    this.state.textContent = !isRight ? "A figure is wrong." : this.isChanged() ? "Not saved yet" : "";
-  }
-
-  undo() {
-    remember(this.name, null);
-    this.page.redraw();
-  }
-
-  async send() {
-    const isSent = ([player, figures]) => this.told.has(player) || !isEmpty(figures);
-    const lines = [...this.lines].filter(isSent).map(([player, figures]) => ({ player, figures }));
-    const members = { lines, finished: this.isFinished };
-    await this.page.send(this.page, this.save, `/fixtures/${this.id}/sheet`, members, { drafts: [this.name], done: "The sheet is saved." });
+  send(busy) {
+    const lines = [...this.lines].filter(([player, line]) => !isEmpty(line) || this.told.has(player));
+    const members = { lines: lines.map(([player, figures]) => ({ player, figures })), finished: this.isFinished };
+    return this.page.send(this.page, busy, `/fixtures/${this.id}/sheet`, members, { drafts: [this.name], done: "The sheet is saved." });
   }
 }
