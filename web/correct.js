@@ -1,6 +1,6 @@
 // Correcting a goal: from whom, to whom, and what it changed.
 
-import { button, check, make, named, quiet } from "./elements.js";
+import { button, check, mainButton, make, named, quiet } from "./elements.js";
 import { GOALS, OWN_GOALS, WINNING_GOAL } from "./figures.js";
 import { goOnFrom, readAnew } from "./host.js";
 import { heading, table } from "./parts.js";
@@ -69,7 +69,7 @@ function confirmation(view) {
     "div.tools",
     make("p", "The goal goes from ", named(from.text), " to ", named(to.text), "."),
     hadWinner && winner,
-    button("correct", "Correct it", (busy) => corrected(view, isWinner(), busy), { kind: ".main" }),
+    mainButton("correct", "Correct it", (busy) => corrected(view, isWinner(), busy)),
   );
 }
 
@@ -94,7 +94,7 @@ async function corrected(view, isWinner, busy) {
   busy.disabled = true;
   const before = await stateOf(view);
   const members = { lines: movedLines(view, isWinner), finished: sheet.finished };
-  if (await page.send(page, busy, `/fixtures/${fixture.id}/sheet`, members, { done: "The goal is corrected." })) {
+  if (await page.send(busy, `/fixtures/${fixture.id}/sheet`, members, { done: "The goal is corrected." })) {
     report = { fixture: fixture.id, before, behind: await stateOf(view) };
     chosen = {};
     await page.redraw();

@@ -25,7 +25,7 @@ function leagueRow(page, { id, name, members, start_event: start }) {
     const order = shuffled(standings.results.map((row) => row.entry));
     const says = make("p", named(name), `: ${counted(order.length, "member")} get their places by lot, and nobody can join afterwards.`);
     if (await confirmed("Draw this league?", "Draw", says)) {
-      await page.send(page, busy, `/leagues/${id}/draw`, { order }, { done: "The league is drawn." });
+      await page.send(busy, `/leagues/${id}/draw`, { order }, { done: "The league is drawn." });
     }
   };
   return make("li", make("div.who", named(name), make("small", `${counted(members, "member")}, from gameweek ${start}`)), button(`draw-${id}`, "Draw", draw));
@@ -36,17 +36,18 @@ function cupForm(page, season, entries) {
   const boxes = make("div.choices", entries.map((it) => check(`in-cup-${it.entry}`, named(it.name), true, { value: it.entry })));
   const send = async (busy) => {
     const chosen = [...boxes.querySelectorAll(":checked")].map((box) => Number(box.value));
-    const done = await page.send(page, busy, "/cups", { start: Number(start.value), ...bracketOf(chosen) }, { done: "The cup is drawn." });
+    const done = await page.send(busy, "/cups", { start: Number(start.value), ...bracketOf(chosen) }, { done: "The cup is drawn." });
     if (done) {
       location.hash = `#/cup/${done.cup}`;
     }
   };
   return form(
+    "draw-cup",
+    "Draw the cup",
     send,
     field("First round in gameweek", start),
     make("fieldset", make("legend", "Who plays"), boxes),
     quiet("Places, byes and coins are drawn by lot. A cup can't be taken back."),
-    make("button.main", { id: "draw-cup" }, "Draw the cup"),
   );
 }
 

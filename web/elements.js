@@ -51,13 +51,17 @@ export function button(id, text, call, { kind = "", ...properties } = {}) {
   return make(`button${kind}`, { type: "button", id, onclick: (event) => call(event.currentTarget), ...properties }, text);
 }
 
-/** A form that calls with the button by which it was sent. */
-export function form(call, ...children) {
+/** The button of what is done most. */
+export const mainButton = (id, text, call, properties = {}) => button(id, text, call, { kind: ".main", ...properties });
+
+/** A form with its button, with which it calls. */
+export function form(id, text, call, ...children) {
+  const busy = make("button.main", { id }, text);
   const send = (event) => {
     event.preventDefault();
-    call(event.submitter);
+    call(busy);
   };
-  return make("form.form", { onsubmit: send }, ...children);
+  return make("form.form", { onsubmit: send }, ...children, busy);
 }
 
 export function input(id, properties = {}) {
@@ -102,7 +106,7 @@ export function ask(title, ...children) {
 export function confirmed(title, yes, ...children) {
   return new Promise((answer) => {
     const agree = () => dialog.close("yes");
-    const buttons = make("div.buttons", button("yes", yes, agree, { kind: ".main" }), button("no", "Back", () => {}));
+    const buttons = make("div.buttons", mainButton("yes", yes, agree), button("no", "Back", () => {}));
     const dialog = ask(title, ...children, buttons);
     dialog.addEventListener("close", () => answer(dialog.returnValue === "yes"));
   });

@@ -20,7 +20,7 @@ export async function drawEvening(page, given) {
 
 function actions(page, { id, started, finished }, isLocked) {
   const done = finished ? "The match is not finished any more: nobody has bonus." : "The match is finished.";
-  const mark = (busy) => page.send(page, busy, `/fixtures/${id}/finished`, { finished: !finished }, { done });
+  const mark = (busy) => page.send(busy, `/fixtures/${id}/finished`, { finished: !finished }, { done });
   const way = (place, text) => make("a.button", { href: `#/${place}/${id}` }, text);
   return make(
     "div.buttons",
@@ -39,13 +39,13 @@ export async function drawMove(page, id) {
   const kickoff = input("kickoff", { type: "datetime-local", step: 1, value: fieldTime(stands) });
   const move = async (busy) => {
     const to = Number(gameweek.value) || null;
-    if (await page.send(page, busy, `/fixtures/${id}/move`, { gameweek: to, kickoff: momentOf(kickoff.value) }, { done: "The match is moved." })) {
+    if (await page.send(busy, `/fixtures/${id}/move`, { gameweek: to, kickoff: momentOf(kickoff.value) }, { done: "The match is moved." })) {
       location.hash = to === null ? "#/matches" : `#/matches/${to}`;
     }
   };
   return [
     heading("Move a match"),
     quiet(named(season.fixtureName(id)), ". Its figures count where it then stands."),
-    form(move, field("Gameweek", gameweek), field("Kick-off, in your own time", kickoff), make("button.main", { id: "move" }, "Move")),
+    form("move", "Move", move, field("Gameweek", gameweek), field("Kick-off, in your own time", kickoff)),
   ];
 }

@@ -2,18 +2,9 @@
 
 import { make, named, quiet } from "./elements.js";
 import { heading, playerLink, turning } from "./parts.js";
-import { counted, day, hour, when, whole } from "./words.js";
+import { STATS, counted, day, hour, when, whole } from "./words.js";
 
-const TOLD = {
-  goals_scored: "Goals",
-  own_goals: "Own goals",
-  assists: "Assists",
-  penalties_saved: "Penalties saved",
-  penalties_missed: "Penalties missed",
-  yellow_cards: "Yellow cards",
-  red_cards: "Red cards",
-  bonus: "Bonus",
-};
+const UNTOLD = ["saves", "bps"];
 
 export async function drawFixtures(page, given) {
   const season = await page.season();
@@ -52,8 +43,8 @@ function matchCard(season, it, more) {
 }
 
 function sides(season, { stats }) {
-  const shown = stats.filter((stat) => TOLD[stat.identifier] && stat.h.length + stat.a.length > 0);
+  const shown = stats.filter((stat) => !UNTOLD.includes(stat.identifier) && stat.h.length + stat.a.length > 0);
   const person = ({ element, value }) => make("li", playerLink(season, element), value > 1 ? ` ${whole(value)}` : "");
-  const lists = ({ identifier, h, a }) => [make("h3", TOLD[identifier]), make("ul", h.map(person)), make("ul", a.map(person))];
+  const lists = ({ identifier, h, a }) => [make("h3", STATS[identifier]), make("ul", h.map(person)), make("ul", a.map(person))];
   return make("div.sides", shown.map(lists));
 }

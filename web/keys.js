@@ -26,7 +26,7 @@ export async function drawKeys(page) {
   const row = (it) => [named(it.name), whole(it.entry), whole(it.started_event)];
   return [
     heading("Keys"),
-    form(send, field("Name of the team", name), make("button.main", { id: "make-key" }, "Make a key")),
+    form("make-key", "Make a key", send, field("Name of the team", name)),
     cards.length > 0 && cardsOf(page, cards),
     entries.length > 0 ? table("The teams", ["Team", "Number#", "From gameweek#"], entries.map(row)) : quiet("No team yet. Make a key for each manager."),
   ];
@@ -37,7 +37,7 @@ async function makeKey(page, busy, name) {
   const card = { name, key: randomLetters(LETTERS) };
   const before = recall(CARDS) ?? [];
   remember(CARDS, [card, ...before]);
-  if ((await page.send(page, busy, "/keys", card, { done: "The key is made. Hand it to the manager." })) === null) {
+  if ((await page.send(busy, "/keys", card, { done: "The key is made. Hand it to the manager." })) === null) {
     remember(CARDS, before);
   }
   await page.redraw();

@@ -35,7 +35,7 @@ async function ownLeagues(page, mine) {
   const rank = (it) => (it.scoring === "h" && !it.drawn ? "not drawn" : ranked(places.get(it.id)));
   const row = (it) => [leagueLink(it), rank(it), whole(it.members), make("code", it.code)];
   return mine.length > 0
-    ? table("My leagues", ["League", "Rank", "Members#", "Code"], mine.map(row))
+    ? table("My leagues", ["League", "Rank#", "Members#", "Code"], mine.map(row))
     : quiet("No league yet. Make one, or join by a code.");
 }
 
@@ -46,7 +46,7 @@ function joinForm(page, leagues) {
   const code = input("join-code", CODE);
   const join = async (busy) => {
     const league = which.value;
-    if (await page.send(page, busy, `/leagues/${league}/join`, { code: code.value }, { done: "You are in." })) {
+    if (await page.send(busy, `/leagues/${league}/join`, { code: code.value }, { done: "You are in." })) {
       location.hash = `#/league/${league}`;
     }
   };
@@ -54,7 +54,7 @@ function joinForm(page, leagues) {
     "details",
     { id: "join-a-league" },
     make("summary", "Join a league by its code"),
-    form(join, field("League", which), field("Its code", code), make("button.main", { id: "join" }, "Join")),
+    form("join", "Join", join, field("League", which), field("Its code", code)),
   );
 }
 
@@ -65,7 +65,7 @@ function makeForm(page, season) {
   const start = choice("league-start", season.openGameweeks());
   const send = async (busy) => {
     const members = { kind: kind.value, name: name.value, code: code.value, start: Number(start.value) };
-    const done = await page.send(page, busy, "/leagues", members, { done: `The league is made. Its code is ${members.code}.` });
+    const done = await page.send(busy, "/leagues", members, { done: `The league is made. Its code is ${members.code}.` });
     if (done) {
       location.hash = `#/league/${done.league}`;
     }
@@ -75,12 +75,13 @@ function makeForm(page, season) {
     { id: "make-a-league" },
     make("summary", "Make a league"),
     form(
+      "make-league",
+      "Make it",
       send,
       field("Kind", kind),
       field("Name", name),
       field("Code with which others join", code),
       field("From gameweek", start),
-      make("button.main", { id: "make-league" }, "Make it"),
     ),
   );
 }
@@ -113,7 +114,7 @@ function standingsTable(page, season, rows, isHead) {
     cells: [ranked(it), name(it), ...Object.values(figures).map((member) => whole(it[member]))],
     isOwn: it.entry === page.caller.entry,
   });
-  return table("The table. A name opens that team", ["Rank", "Team", ...Object.keys(figures)], rows.map(row), { isWide: isHead });
+  return table("The table. A name opens that team", ["Rank#", "Team", ...Object.keys(figures)], rows.map(row), { isWide: isHead });
 }
 
 async function matches(page, season, league, given) {

@@ -47,10 +47,9 @@ const FOR_ALL = { fixtures: "Fixtures", players: "Players", leagues: "Leagues" }
 const BAR_OF_MANAGERS = { points: "Points", team: "My team", transfers: "Transfers", ...FOR_ALL };
 const BAR_OF_THE_OPERATOR = { matches: "Matches", season: "Season", keys: "Keys", ...FOR_ALL };
 const REFRESHED = 60; // seconds until what is looked at is read again
-const DUE = 120; // seconds behind a deadline in which the host is asked whether it has passed
-const LONGEST_PAUSE = 8; // seconds until the host is asked again that gave no answer
 const part = (id) => document.getElementById(id);
 
+let saidAt = 0; // when a notice was shown last
 let turn = 0; // of several that draw at once, the last one shows
 let deadline = null; // of the next gameweek, in seconds, with its name
 
@@ -91,7 +90,8 @@ async function drawn(read) {
   const { name = null, ids } = placeNow();
   const place = name ?? (isOperator ? "matches" : "points");
   const team = isOperator ? "The team" : caller.name;
-  const page = { read, caller, isOperator, team, season: () => seasonBy(read), redraw, send };
+  const page = { read, caller, isOperator, team, season: () => seasonBy(read), redraw };
+  page.send = (...command) => send(page, ...command);
   const header = await headerOf(page);
   let nodes;
   try {
@@ -127,7 +127,7 @@ async function show({ isOpened = false } = {}) {
     }
   }
   work(true);
-  for (let pause = 1; mine === turn; pause = Math.min(2 * pause, LONGEST_PAUSE)) {
+  while (mine === turn) {
     const reader = freshReader();
     try {
       const found = await drawn(reader);
@@ -137,7 +137,7 @@ async function show({ isOpened = false } = {}) {
       part("unsaved").hidden ||= !host.isBusy();
       break;
     } catch (fault) {
-      await endure(fault, pause);
+      await endure(fault);
     }
   }
   if (mine === turn) {
@@ -146,10 +146,10 @@ async function show({ isOpened = false } = {}) {
 }
 
 /** Waits where the host gave no answer, and signs in again where it doesn't know the key. */
-async function endure(fault, pause) {
+async function endure(fault) {
   if (fault instanceof host.NoAnswer) {
     unsaved(host.isBusy() ? "Not saved yet, trying again." : "The host gives no answer. Trying again.");
-    await host.pauseOf(pause);
+    await host.pauseOf(2);
   } else if (fault instanceof host.Refusal) {
     host.signOut();
     signInForm(sentence(fault));
@@ -220,11 +220,15 @@ async function pointsIn({ caller, read }) {
   return points === null ? null : ` \u00b7 ${whole(points)} points`;
 }
 
+/** Tells how long it is to the deadline, and asks the host again once it is there. */
 function countDown() {
-  const left = deadline && countdown(deadline.moment);
-  const text = deadline ? `${deadline.name}: ${when(deadline.moment)}${left ? `, in ${left}` : ""}` : "";
-  if (part("next") && part("next").textContent !== text) {
-    part("next").textContent = text;
+  const shown = part("next");
+  if (shown && deadline) {
+    const left = countdown(deadline.moment);
+    shown.textContent = `${deadline.name}: ${when(deadline.moment)}${left ? `, in ${left}` : ""}`;
+    if (Math.ceil(deadline.moment - Date.now() / 1000) === -1) {
+      refresh();
+    }
   }
 }
 
@@ -259,8 +263,9 @@ function unsaved(text) {
   part("unsaved").hidden = false;
 }
 
-/** A notice over the place, until it is closed or another place is opened. */
+/** A notice over the place, until it is closed or another place is opened later. */
 function say(kind, text) {
+  saidAt = Date.now();
   const close = button("close-notice", "Close", () => part("notice").replaceChildren(), { kind: ".link" });
   part("notice").replaceChildren(make(`p.notice.${kind}`, make("span", text), close));
 }
@@ -337,7 +342,7 @@ function signInForm(wrong = "") {
   part("main").replaceChildren(
     heading("Kowhirupe"),
     make("p", "Sign in with the key that whoever runs the season gave you."),
-    form(enter, field("Key", key), make("button.main", { id: "sign-in" }, "Sign in")),
+    form("sign-in", "Sign in", enter, field("Key", key)),
   );
   part("notice").replaceChildren();
   if (wrong) {
@@ -375,15 +380,11 @@ function refresh() {
 
 setInterval(countDown, 1000);
 setInterval(refresh, REFRESHED * 1000);
-setInterval(() => {
-  const behind = deadline ? Date.now() / 1000 - deadline.moment : -1;
-  if (behind >= 0 && behind < DUE) {
-    refresh();
-  }
-}, 5000);
 document.addEventListener("visibilitychange", refresh);
 addEventListener("hashchange", () => {
-  part("notice").replaceChildren();
+  if (Date.now() - saidAt > 1000) {
+    part("notice").replaceChildren();
+  }
   if (host.signedIn()) {
     show({ isOpened: true });
   }

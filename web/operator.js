@@ -24,19 +24,19 @@ export async function drawSeason(page) {
 }
 
 /** A line with a field and its button. */
-function lineOf(about, entry, label, call) {
-  return make("li", make("div.who", about), form(call, entry, make("button", { id: `set-${entry.id}`, "aria-label": label }, "Set")));
+function lineOf(about, entry, call) {
+  return make("li", make("div.who", about), form(`set-${entry.id}`, "Set", call, entry));
 }
 
 function deadlineRow(page, { id, name, deadline_time_epoch: moment }) {
   const time = input(`deadline-${id}`, { type: "datetime-local", step: 1, value: fieldTime(moment), "aria-label": `Deadline of ${name}` });
-  const set = (busy) => page.send(page, busy, "/deadlines", { gameweek: id, deadline: momentOf(time.value) }, { done: `The deadline of gameweek ${id} is set.` });
-  return lineOf([name, make("small", when(moment))], time, `Set the deadline of ${name}`, set);
+  const set = (busy) => page.send(busy, "/deadlines", { gameweek: id, deadline: momentOf(time.value) }, { done: `The deadline of gameweek ${id} is set.` });
+  return lineOf([name, make("small", when(moment))], time, set);
 }
 
 function priceRow(page, season, player) {
   const { id, web_name: name, now_cost: cost } = player;
   const price = input(`price-${id}`, { type: "number", step: "0.1", value: (cost / 10).toFixed(1), "aria-label": `Price of ${name} in millions` });
-  const set = (busy) => page.send(page, busy, "/prices", { player: id, price: Math.round(10 * price.value) }, { done: `The price of ${name} is set.` });
-  return lineOf([playerLink(season, id), make("small", shortly(season, player))], price, `Set the price of ${name}`, set);
+  const set = (busy) => page.send(busy, "/prices", { player: id, price: Math.round(10 * price.value) }, { done: `The price of ${name} is set.` });
+  return lineOf([playerLink(season, id), make("small", shortly(season, player))], price, set);
 }

@@ -1,7 +1,7 @@
 // What several places draw: shirts, players on a pitch, tables, figures in a strip, the way from a gameweek to the next.
 
 import { draw, link, make, named } from "./elements.js";
-import { POSITIONS, whole } from "./words.js";
+import { POSITIONS, SHORT_POSITIONS, whole } from "./words.js";
 
 const SHIRT = "M14 3 6 7 1 16l8 4 2-3v21h22V17l2 3 8-4-5-9-8-4c-2 5-14 5-16 0z";
 const PATTERNS = [
@@ -109,5 +109,5 @@ export const playerLink = (season, id) => link(`player/${id}`, named(season.play
 
 /** A club by its three letters, and a position by its own. */
 export function shortly(season, { team, element_type: position }) {
-  return `${season.shortName(team)} \u00b7 ${POSITIONS[position]}`;
+  return `${season.shortName(team)} \u00b7 ${SHORT_POSITIONS[position]}`;
 }

@@ -4,39 +4,21 @@ import { browsing } from "./browsing.js";
 import { choice, field, form, input, link, make, named, quiet } from "./elements.js";
 import { goOnFrom } from "./host.js";
 import { heading, playerLink, shortly, strip, table } from "./parts.js";
-import { POSITIONS, money, when, whole } from "./words.js";
+import { POSITIONS, STATS, money, when, whole } from "./words.js";
 
-const COLUMNS = {
-  "Price#": (player) => money(player.now_cost),
-  "Points#": (player) => whole(player.total_points),
-  "A game#": (player) => player.points_per_game,
-  "Owned %#": (player) => player.selected_by_percent,
-  "Minutes#": (player) => whole(player.minutes),
-  "Goals#": (player) => whole(player.goals_scored),
-  "Assists#": (player) => whole(player.assists),
-  "Clean sheets#": (player) => whole(player.clean_sheets),
-  "Bonus#": (player) => whole(player.bonus),
-};
-const HISTORY = {
-  "Points#": "total_points",
-  "Minutes#": "minutes",
-  "Goals#": "goals_scored",
-  "Assists#": "assists",
-  "Bonus#": "bonus",
-  "Bonus number#": "bps",
-  "Conceded#": "goals_conceded",
-  "Saves#": "saves",
-  "Yellow#": "yellow_cards",
-  "Red#": "red_cards",
-};
+const STAT_NAMES = Object.keys(STATS);
+const STAT_HEADS = Object.values(STATS).map((text) => `${text}#`);
+const statsOf = (it) => STAT_NAMES.map((name) => whole(it[name]));
 
 export async function drawPlayers(page) {
   const season = await page.season();
-  const open = () => table("All players of the season", ["Player", ...Object.keys(COLUMNS)], [], { isWide: true });
+  const head = ["Player", "Price#", "Points#", "A game#", "Owned %#", ...STAT_HEADS];
+  const open = () => table("All players of the season", head, [], { isWide: true });
   const row = (player) => {
     const about = make("div.small", shortly(season, player), player.status === "u" && ", has left");
-    const figures = Object.values(COLUMNS).map((figure) => make("td.number", figure(player)));
-    return make("tr", make("th.text", { scope: "row" }, playerLink(season, player.id), about), figures);
+    const figures = [money(player.now_cost), whole(player.total_points), player.points_per_game, player.selected_by_percent, ...statsOf(player)];
+    const cells = figures.map((figure) => make("td.number", figure));
+    return make("tr", make("th.text", { scope: "row" }, playerLink(season, player.id), about), cells);
   };
   return [heading("Players"), browsing(season, "players", open, row)];
 }
@@ -68,8 +50,8 @@ function played(season, history) {
     const score = it.team_h_score === null ? "" : ` ${it.team_h_score}\u2013${it.team_a_score}`;
     return [link(`fixtures/${it.round}`, `Week ${it.round}`), " ", against, score];
   };
-  const row = (it) => [match(it), ...Object.values(HISTORY).map((name) => whole(it[name]))];
-  return table("Match by match", ["Match", ...Object.keys(HISTORY)], history.map(row), { isWide: true });
+  const row = (it) => [match(it), whole(it.total_points), ...statsOf(it)];
+  return table("Match by match", ["Match", "Points#", ...STAT_HEADS], history.map(row), { isWide: true });
 }
 
 function toCome(season, fixtures) {
@@ -84,8 +66,8 @@ function changes(page, season, { id, now_cost: cost, team, status }) {
   const price = input("price", { type: "number", step: "0.1", value: (cost / 10).toFixed(1) });
   const club = choice("club", [...season.clubs.values()].map((it) => [it.id, it.name]), team);
   const isGone = status === "u";
-  const set = (target, name, value) => (busy) => page.send(page, busy, target, { player: id, [name]: value() });
-  const one = (name, call, ...content) => make("div.card", form(call, ...content, make("button", { id: `set-${name}` }, "Set")));
+  const set = (target, name, value) => (busy) => page.send(busy, target, { player: id, [name]: value() });
+  const one = (name, call, content) => make("div.card", form(`set-${name}`, "Set", call, content));
   return make(
     "div.cards",
     one("price", set("/prices", "price", () => Math.round(10 * price.value)), field("Price in millions", price)),

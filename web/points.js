@@ -2,22 +2,7 @@
 
 import { ask, button, link, make, named, quiet } from "./elements.js";
 import { bench, heading, pitch, playerButton, strip, table, turning } from "./parts.js";
-import { CHIPS, whole } from "./words.js";
-
-const CAUSES = {
-  minutes: "Minutes played",
-  goals_scored: "Goals",
-  assists: "Assists",
-  clean_sheets: "Clean sheet",
-  goals_conceded: "Goals conceded",
-  own_goals: "Own goals",
-  penalties_saved: "Penalties saved",
-  penalties_missed: "Penalties missed",
-  yellow_cards: "Yellow card",
-  red_cards: "Red card",
-  saves: "Saves",
-  bonus: "Bonus",
-};
+import { CHIPS, STATS, whole } from "./words.js";
 
 /** One's own points of a gameweek, of the last locked one where none is named. */
 export async function drawPoints(page, gameweek) {
@@ -100,7 +85,7 @@ function pickButton(season, pick, player, gameweek, hasCome, hasGone) {
 /** What a player's points of a gameweek are made of, line by line. */
 export function explain(season, { id, explain: lines, stats }, gameweek, times = "") {
   const { team, web_name: name } = season.player(id);
-  const row = (it) => [CAUSES[it.identifier], whole(it.value), whole(it.points)];
+  const row = (it) => [STATS[it.identifier], whole(it.value), whole(it.points)];
   const tables = lines.map((line) => table(season.fixtureName(line.fixture), ["What", "Number#", "Points#"], line.stats.map(row)));
   ask(
     `${name}, ${season.clubName(team)}`,

@@ -1,6 +1,6 @@
 // The sheet of a match: its players and their 28 figures, checked as they are typed, with what changed marked, sent whole.
 
-import { button, check, make, named } from "./elements.js";
+import { button, check, mainButton, make, named } from "./elements.js";
 import { FIGURES, groups, wrongFigure } from "./figures.js";
 import { goOnFrom } from "./host.js";
 import { recall, remember } from "./kept.js";
@@ -40,7 +40,7 @@ class Sheet {
     this.isFinished = draft?.isFinished ?? told.finished;
     this.inputs = new Map(); // by player, in the order of the columns
     this.state = make("span", { role: "status" });
-    this.save = button("save", "Save the sheet", (busy) => this.send(busy), { kind: ".main" });
+    this.save = mainButton("save", "Save the sheet", (busy) => this.send(busy));
   }
 
   before(player) {
@@ -192,6 +192,6 @@ class Sheet {
   send(busy) {
     const lines = [...this.lines].filter(([player, line]) => !isEmpty(line) || this.told.has(player));
     const members = { lines: lines.map(([player, figures]) => ({ player, figures })), finished: this.isFinished };
-    return this.page.send(this.page, busy, `/fixtures/${this.id}/sheet`, members, { drafts: [this.name], done: "The sheet is saved." });
+    return this.page.send(busy, `/fixtures/${this.id}/sheet`, members, { drafts: [this.name], done: "The sheet is saved." });
   }
 }

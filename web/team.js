@@ -1,6 +1,6 @@
 // My team of the next gameweek: lineup, captain and vice-captain, chips.
 
-import { button, confirmed, link, make, named, quiet } from "./elements.js";
+import { button, confirmed, link, mainButton, make, named, quiet } from "./elements.js";
 import { goOnFrom, Refusal } from "./host.js";
 import { recall, remember } from "./kept.js";
 import { canChange, isStarter, withCaptain, withChange, withVice } from "./lineups.js";
@@ -128,8 +128,8 @@ function tools(view) {
     make("div", named(season.playerName(chosen)), " can change with those who are marked."),
     make("div.buttons", leads, link(`player/${chosen}`, "His matches")),
   ];
-  const save = (busy) => page.send(page, busy, "/lineup", lineup, { gameweek: me.gameweek, drafts: [DRAFT], done: "Your team is saved." });
-  const saving = isDraft && make("div.buttons", button("save", "Save", save, { kind: ".main" }), button("undo", "Undo", () => keep(page, null)), "Not saved yet");
+  const save = (busy) => page.send(busy, "/lineup", lineup, { gameweek: me.gameweek, drafts: [DRAFT], done: "Your team is saved." });
+  const saving = isDraft && make("div.buttons", mainButton("save", "Save", save), button("undo", "Undo", () => keep(page, null)), "Not saved yet");
   if (!about && !saving) {
     return quiet("Tap a player to change him, or to give him the armband.");
   }
@@ -154,10 +154,10 @@ function chipCard(page, me, chip, used) {
   const canGoBack = chip === "bench_boost" || chip === "triple_captain";
   const play = async (busy) => {
     if (await confirmed(`${name} in gameweek ${me.gameweek}?`, `Play ${name.toLowerCase()}`, make("p", does))) {
-      await page.send(page, busy, "/chip", { chip }, { gameweek: me.gameweek, done: `${name} is played in gameweek ${me.gameweek}.` });
+      await page.send(busy, "/chip", { chip }, { gameweek: me.gameweek, done: `${name} is played in gameweek ${me.gameweek}.` });
     }
   };
-  const cancel = (busy) => page.send(page, busy, "/chip/cancel", {}, { gameweek: me.gameweek, done: `${name} is taken back.` });
+  const cancel = (busy) => page.send(busy, "/chip/cancel", {}, { gameweek: me.gameweek, done: `${name} is taken back.` });
   const state = isActive ? "Played in this gameweek." : used && `Played in gameweek ${used}.`;
   return make(
     "div.card",

@@ -1,7 +1,7 @@
 // Transfers, and the first squad: whom to sell at which price, whom to buy, the bank as it would be, one command for all.
 
 import { browsing, filter, filtersOf } from "./browsing.js";
-import { button, choice, confirmed, field, make, named, quiet } from "./elements.js";
+import { button, choice, confirmed, field, mainButton, make, named, quiet } from "./elements.js";
 import { goOnFrom } from "./host.js";
 import { recall, remember } from "./kept.js";
 import { usualOrder } from "./lineups.js";
@@ -139,7 +139,7 @@ function confirmation(view) {
     `${counted(swaps.length, "transfer")}${missing > 0 ? `, ${missing} to choose` : ""}. Bank ${money(bank)}.`,
     make(
       "div.buttons",
-      button("confirm", "Confirm", (busy) => agreed(view, busy), { kind: ".main", disabled: missing > 0 }),
+      mainButton("confirm", "Confirm", (busy) => agreed(view, busy), { disabled: missing > 0 }),
       button("undo", "Undo", () => keep([])),
     ),
   );
@@ -156,7 +156,7 @@ async function agreed(view, busy) {
     make("ul", swaps.map(line)),
     make("p", `The bank is ${money(bank)} afterwards. They cost ${counted(cost, "point")}.`),
   );
-  if (isSure && (await page.send(page, busy, "/transfers", { swaps }, { gameweek: me.gameweek, drafts: [SWAPS], done: "The transfers are made." }))) {
+  if (isSure && (await page.send(busy, "/transfers", { swaps }, { gameweek: me.gameweek, drafts: [SWAPS], done: "The transfers are made." }))) {
     remember(`made ${me.gameweek}`, made + swaps.length);
     page.redraw();
   }
@@ -193,7 +193,7 @@ function firstSquad(page, season) {
       make(
         "div",
         pitch(season, picked, empty),
-        make("div.tools", `${missing} to pick, ${money(left)} left. `, button("confirm", "Enter this squad", enter, { kind: ".main", disabled: missing > 0 })),
+        make("div.tools", `${missing} to pick, ${money(left)} left. `, mainButton("confirm", "Enter this squad", enter, { disabled: missing > 0 })),
       ),
       market(season, "squad", mayCome, (player) => keep([...squad, player.id])),
     ),
@@ -226,7 +226,7 @@ async function registered(page, season, squad, busy) {
     field("Vice-captain, who stands in for him", vice),
   );
   const members = { players, captain: Number(captain.value), vice: Number(vice.value) };
-  if (isSure && (await page.send(page, busy, "/squad", members, { drafts: [SQUAD], done: "Your squad is entered." }))) {
+  if (isSure && (await page.send(busy, "/squad", members, { drafts: [SQUAD], done: "Your squad is entered." }))) {
     location.hash = "#/team";
   }
 }

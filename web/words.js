@@ -9,6 +9,23 @@ const moments = dates({ weekday: "short", day: "numeric", month: "short", ...clo
 const days = dates({ weekday: "long", day: "numeric", month: "long", year: "numeric" });
 const hours = dates(clock);
 
+/** What a player can have in a match, by the names of the views. */
+export const STATS = {
+  minutes: "Minutes",
+  goals_scored: "Goals",
+  assists: "Assists",
+  clean_sheets: "Clean sheets",
+  goals_conceded: "Conceded",
+  own_goals: "Own goals",
+  penalties_saved: "Penalties saved",
+  penalties_missed: "Penalties missed",
+  yellow_cards: "Yellow cards",
+  red_cards: "Red cards",
+  saves: "Saves",
+  bonus: "Bonus",
+  bps: "Bonus number",
+};
+
 export const POSITIONS = ["", "goalkeeper", "defender", "midfielder", "forward"];
 export const SHORT_POSITIONS = ["", "GKP", "DEF", "MID", "FWD"];
 
