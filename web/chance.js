@@ -5,26 +5,26 @@ const RANGE = 2 ** 32;
 
 /** A whole number below another one, each as likely as the others. */
 export function randomBelow(bound) {
-  const most = RANGE - (RANGE % bound);
-  for (;;) {
-    const [drawn] = crypto.getRandomValues(new Uint32Array(1));
-    if (drawn < most) {
-      return drawn % bound;
-    }
-  }
+	const most = RANGE - (RANGE % bound);
+	for (;;) {
+		const [drawn] = crypto.getRandomValues(new Uint32Array(1));
+		if (drawn < most) {
+			return drawn % bound;
+		}
+	}
 }
 
 /** A list in an order by lot. */
 export function shuffled(list) {
-  const drawn = [...list];
-  for (let place = drawn.length - 1; place > 0; place -= 1) {
-    const other = randomBelow(place + 1);
-    [drawn[place], drawn[other]] = [drawn[other], drawn[place]];
-  }
-  return drawn;
+	const drawn = [...list];
+	for (let place = drawn.length - 1; place > 0; place -= 1) {
+		const other = randomBelow(place + 1);
+		[drawn[place], drawn[other]] = [drawn[other], drawn[place]];
+	}
+	return drawn;
 }
 
 /** So many small letters and digits. */
 export function randomLetters(length) {
-  return Array.from({ length }, () => LETTERS[randomBelow(LETTERS.length)]).join("");
+	return Array.from({ length }, () => LETTERS[randomBelow(LETTERS.length)]).join("");
 }

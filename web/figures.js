@@ -1,40 +1,37 @@
-// The 28 figures of a line, in the host's order: a short name, the greatest value, and the group in which a sheet shows it.
-// The passes completed are at most those attempted.
+// The 28 figures of a line: name, group in a sheet, greatest value.
 
 export const FIGURES = [
-  { name: "Minutes", most: 120, group: "Match" },
-  { name: "Goals", most: 99, group: "Attack" },
-  { name: "Assists", most: 99, group: "Attack" },
-  { name: "Goals conceded", most: 99, group: "Match" },
-  { name: "Saves", most: 99, group: "Keeping" },
-  { name: "Penalties saved", most: 99, group: "Keeping" },
-  { name: "Penalties missed", most: 99, group: "Attack" },
-  { name: "Yellow card", most: 1, group: "Cards" },
-  { name: "Red card", most: 1, group: "Cards" },
-  { name: "Own goals", most: 99, group: "Match" },
-  { name: "Crosses", most: 99, group: "Passes" },
-  { name: "Big chances created", most: 99, group: "Passes" },
-  { name: "Clearances, blocks, interceptions", most: 99, group: "Defence" },
-  { name: "Recoveries", most: 99, group: "Defence" },
-  { name: "Key passes", most: 99, group: "Passes" },
-  { name: "Net tackles", most: 99, group: "Defence" },
-  { name: "Dribbles", most: 99, group: "Attack" },
-  { name: "Winning goal", most: 1, group: "Attack" },
-  { name: "Passes attempted", most: 400, group: "Passes" },
-  { name: "Passes completed", most: 400, group: "Passes" },
-  { name: "Penalties conceded", most: 99, group: "Faults" },
-  { name: "Big chances missed", most: 99, group: "Faults" },
-  { name: "Errors to a goal", most: 99, group: "Faults" },
-  { name: "Errors to an attempt", most: 99, group: "Faults" },
-  { name: "Times tackled", most: 99, group: "Faults" },
-  { name: "Fouls", most: 99, group: "Faults" },
-  { name: "Offsides", most: 99, group: "Faults" },
-  { name: "Shots off target", most: 99, group: "Faults" },
-];
+	["Minutes", "Match", 120],
+	["Goals", "Attack"],
+	["Assists", "Attack"],
+	["Goals conceded", "Match"],
+	["Saves", "Keeping"],
+	["Penalties saved", "Keeping"],
+	["Penalties missed", "Attack"],
+	["Yellow card", "Cards", 1],
+	["Red card", "Cards", 1],
+	["Own goals", "Match"],
+	["Crosses", "Passes"],
+	["Big chances created", "Passes"],
+	["Clearances, blocks, interceptions", "Defence"],
+	["Recoveries", "Defence"],
+	["Key passes", "Passes"],
+	["Net tackles", "Defence"],
+	["Dribbles", "Attack"],
+	["Winning goal", "Attack", 1],
+	["Passes attempted", "Passes", 400],
+	["Passes completed", "Passes", 400],
+	["Penalties conceded", "Faults"],
+	["Big chances missed", "Faults"],
+	["Errors to a goal", "Faults"],
+	["Errors to an attempt", "Faults"],
+	["Times tackled", "Faults"],
+	["Fouls", "Faults"],
+	["Offsides", "Faults"],
+	["Shots off target", "Faults"],
+].map(([name, group, most = 99]) => ({ name, group, most }));
 
 const placeOf = (name) => FIGURES.findIndex((figure) => figure.name === name);
-
-export const MINUTES = placeOf("Minutes");
 export const GOALS = placeOf("Goals");
 export const OWN_GOALS = placeOf("Own goals");
 export const WINNING_GOAL = placeOf("Winning goal");
@@ -43,20 +40,20 @@ const COMPLETED = placeOf("Passes completed");
 
 /** What is wrong with the figure at a place of a line, or null. */
 export function wrongFigure(line, place) {
-  const { name, most } = FIGURES[place];
-  const figure = line[place];
-  if (!Number.isInteger(figure) || figure < 0) {
-    return `${name} is a whole number.`;
-  }
-  if (place === COMPLETED && figure > line[ATTEMPTED]) {
-    return "More passes are completed than attempted.";
-  }
-  return figure > most ? `${name} goes up to ${most}.` : null;
+	const { name, most } = FIGURES[place];
+	const figure = line[place];
+	if (!Number.isInteger(figure) || figure < 0) {
+		return `${name} is a whole number.`;
+	}
+	if (place === COMPLETED && figure > line[ATTEMPTED]) {
+		return "More passes are completed than attempted.";
+	}
+	return figure > most ? `${name} goes up to ${most}.` : null;
 }
 
 /** The groups of a sheet, each with the places of its figures. */
 export function groups() {
-  const found = new Map();
-  FIGURES.forEach(({ group }, place) => found.set(group, [...(found.get(group) ?? []), place]));
-  return [...found];
+	const found = new Map();
+	FIGURES.forEach(({ group }, place) => found.set(group, [...(found.get(group) ?? []), place]));
+	return [...found];
 }

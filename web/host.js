@@ -1,4 +1,4 @@
-// Requests to the host: the key, the numbers of commands and their repeats, and what was read. Nothing else fetches.
+// Requests to the host: key, numbers of commands, repeats, what was read. Nothing else fetches.
 
 import { ownBy, recall, remember } from "./kept.js";
 
@@ -16,218 +16,207 @@ export class NotKept extends Error {}
 
 /** An answer other than the one that was hoped for. */
 export class Refusal extends Error {
-  constructor(status, body) {
-    super(`${status} ${JSON.stringify(body)}`);
-    this.status = status;
-    this.body = body;
-  }
+	constructor(status, body) {
+		super(`${status} ${JSON.stringify(body)}`);
+		Object.assign(this, { status, body });
+	}
 }
 
-/** The deadline passed before a command for its gameweek was done; `next` is the gameweek that is next now, or null. */
+/** The deadline passed before a command for its gameweek was done; `next` is the next one now, or null. */
 export class TooLate extends Error {
-  constructor(gameweek, next) {
-    super(`gameweek ${gameweek}`);
-    this.gameweek = gameweek;
-    this.next = next;
-  }
+	constructor(gameweek, next) {
+		super(`gameweek ${gameweek}`);
+		Object.assign(this, { gameweek, next });
+	}
 }
 
 let key = null;
 let last = null; // the number of the last command that is known to be done
 let isSending = false;
-const read = new Map(); // by target the text of an answer and its body
+let changed = 0;
+const read = new Map(); // by target the answer of a view
 let say = () => {}; // is told whether a command waits for its answer
 
 // The key: a window keeps its own, and a new one begins with the one that was used last.
 
+function own(newKey) {
+	key = newKey;
+	last = null;
+	read.clear();
+	ownBy(key);
+}
+
 export function signedIn() {
-  key = sessionStorage.getItem(KEY) ?? localStorage.getItem(KEY);
-  ownBy(key);
-  return key !== null;
+	own(sessionStorage.getItem(KEY) ?? localStorage.getItem(KEY));
+	return key !== null;
 }
 
 export function signIn(newKey) {
-  key = newKey;
-  last = null;
-  read.clear();
-  sessionStorage.setItem(KEY, key);
-  localStorage.setItem(KEY, key);
-  ownBy(key);
+	sessionStorage.setItem(KEY, newKey);
+	localStorage.setItem(KEY, newKey);
+	own(newKey);
 }
 
 export function signOut() {
-  if (localStorage.getItem(KEY) === key) {
-    localStorage.removeItem(KEY);
-  }
-  sessionStorage.removeItem(KEY);
-  key = null;
-  last = null;
-  read.clear();
-  ownBy(null);
+	if (localStorage.getItem(KEY) === key) {
+		localStorage.removeItem(KEY);
+	}
+	sessionStorage.removeItem(KEY);
+	own(null);
 }
 
 // Asking
 
 async function ask(method, target, text) {
-  const controller = new AbortController();
-  const timer = setTimeout(() => controller.abort(), SECONDS * 1000);
-  try {
-    const answer = await fetch(target, { method, body: text, headers: { "Fpl-Key": key }, cache: "no-store", signal: controller.signal });
-    const told = await answer.text();
-    return { status: answer.status, text: told, body: JSON.parse(told) };
-  } catch {
-    throw new NoAnswer(target);
-  } finally {
-    clearTimeout(timer);
-  }
+	const controller = new AbortController();
+	const timer = setTimeout(() => controller.abort(), SECONDS * 1000);
+	try {
+		const answer = await fetch(target, { method, body: text, headers: { "Fpl-Key": key }, cache: "no-store", signal: controller.signal });
+		const told = await answer.text();
+		return { status: answer.status, text: told, body: JSON.parse(told) };
+	} catch {
+		throw new NoAnswer(target);
+	} finally {
+		clearTimeout(timer);
+	}
 }
 
 // Views
 
 /** The body of a view as it was read last. */
 export function readKept(target) {
-  if (!read.has(target)) {
-    throw new NotKept(target);
-  }
-  const { status, body } = read.get(target);
-  if (status !== 200) {
-    throw new Refusal(status, body);
-  }
-  return body;
+	if (!read.has(target)) {
+		throw new NotKept(target);
+	}
+	const { status, body } = read.get(target);
+	if (status !== 200) {
+		throw new Refusal(status, body);
+	}
+	return body;
 }
 
 /** Reads a view anew. Where it is as it was, the body is the same object as before. */
 export async function readAnew(target) {
-  const answer = await ask("GET", target);
-  if (TRY_AGAIN.includes(answer.status)) {
-    throw new NoAnswer(target);
-  }
-  const before = read.get(target);
-  if (before?.text !== answer.text || before.status !== answer.status) {
-    read.set(target, answer);
-  }
-  return readKept(target);
+	const answer = await ask("GET", target);
+	if (TRY_AGAIN.includes(answer.status)) {
+		throw new NoAnswer(target);
+	}
+	const before = read.get(target);
+	if (before?.text !== answer.text || before.status !== answer.status) {
+		read.set(target, answer);
+		changed += 1;
+	}
+	return readKept(target);
 }
 
-/** How a view was told last, to be compared. */
-export function textOf(target) {
-  return read.get(target)?.text;
-}
+/** How often something was read that was other than before. */
+export const changes = () => changed;
 
-/** What is shown stands behind the caller's command of this number, and nothing was begun on what stood before it. */
+/** What is shown stands behind this command, and nothing was begun on what stood before it. */
 export function goOnFrom(number) {
-  if (!isSending && (last === null || number > last)) {
-    last = number;
-  }
+	if (!isSending && (last === null || number > last)) {
+		last = number;
+	}
 }
 
 // Commands: one at a time, each kept until it is answered.
 
 /** Has a watcher told whether a command waits for its answer. */
 export function watch(watcher) {
-  say = watcher;
+	say = watcher;
 }
 
 export function isBusy() {
-  return isSending;
+	return isSending;
 }
 
 /**
- * Sends a command with the next number, and sends it again until it is answered. `drafts` names what is kept in this window
- * for it, which goes once it is done; with `gameweek` it is not sent once that gameweek is locked. Gives the body of the
- * answer; else throws TooLate or a Refusal, whose `isElsewhere` says that another window or device took the number.
+ * Sends a command with the next number, again and again until it is answered, and gives the answer's body; else throws
+ * TooLate or a Refusal. `drafts` names what is kept here for it, which goes once it is done; with `gameweek` it is not sent
+ * once that is locked.
  */
-export async function command(target, members, { drafts = [], gameweek = null } = {}) {
-  if (isSending) {
-    throw new Error("one command at a time");
-  }
-  isSending = true;
-  try {
-    if (last === null) {
-      last = (await readAnew("/api/me/")).last;
-    }
-    const number = last + 1;
-    remember("command", { target, text: JSON.stringify({ number, ...members }), number, drafts, gameweek });
-    return await deliver();
-  } finally {
-    isSending = false;
-  }
+export function command(target, members, { drafts = [], gameweek = null } = {}) {
+	return alone(async () => {
+		last ??= (await readAnew("/api/me/")).last;
+		const number = last + 1;
+		remember("command", { target, text: JSON.stringify({ number, ...members }), number, drafts, gameweek });
+		return deliver();
+	});
 }
 
 /** Goes on with a command that was sent before a reload; null where there is none. */
-export async function resume() {
-  if (isSending || recall("command") === null) {
-    return null;
-  }
-  isSending = true;
-  try {
-    return await deliver();
-  } finally {
-    isSending = false;
-  }
+export function resume() {
+	return alone(() => (recall("command") === null ? null : deliver()));
+}
+
+async function alone(deed) {
+	isSending = true;
+	try {
+		return await deed();
+	} finally {
+		isSending = false;
+	}
 }
 
 async function deliver() {
-  const sent = recall("command");
-  let answer;
-  try {
-    answer = await answered(sent);
-  } finally {
-    remember("command", null);
-    say(false);
-  }
-  if (answer.status === 200 || answer.status === 201) {
-    last = sent.number;
-    sent.drafts.forEach((name) => remember(name, null));
-    return answer.body;
-  }
-  const refusal = new Refusal(answer.status, answer.body);
-  refusal.isElsewhere = answer.status === 409 && NUMBERED.includes(answer.body.rule);
-  if (refusal.isElsewhere) {
-    last = answer.body.last;
-  }
-  throw refusal;
+	const sent = recall("command");
+	let answer;
+	try {
+		answer = await answered(sent);
+	} finally {
+		remember("command", null);
+		say(false);
+	}
+	if (answer.status === 200 || answer.status === 201) {
+		last = sent.number;
+		sent.drafts.forEach((name) => remember(name, null));
+		return answer.body;
+	}
+	if (answer.status === 409 && NUMBERED.includes(answer.body.rule)) {
+		last = answer.body.last;
+	}
+	throw new Refusal(answer.status, answer.body);
 }
 
 /** The answer to a command, however long it takes: again after 1, 2, 4, 8 seconds, the same bytes. */
 async function answered(sent) {
-  for (let pause = 1; ; pause = Math.min(2 * pause, LONGEST_PAUSE)) {
-    try {
-      await refuseTooLate(sent);
-      const answer = await ask("POST", sent.target, sent.text);
-      if (!TRY_AGAIN.includes(answer.status)) {
-        return answer;
-      }
-    } catch (fault) {
-      if (!(fault instanceof NoAnswer)) {
-        throw fault;
-      }
-    }
-    say(true);
-    await pauseOf(pause);
-  }
+	for (let pause = 1; ; pause = Math.min(2 * pause, LONGEST_PAUSE)) {
+		try {
+			await refuseTooLate(sent);
+			const answer = await ask("POST", sent.target, sent.text);
+			if (!TRY_AGAIN.includes(answer.status)) {
+				return answer;
+			}
+		} catch (fault) {
+			if (!(fault instanceof NoAnswer)) {
+				throw fault;
+			}
+		}
+		say(true);
+		await pauseOf(pause);
+	}
 }
 
-/** Where the deadline has passed, a command of which it is known that it was not done is not sent any more. */
+/** Where the deadline has passed, a command that was surely not done is not sent any more. */
 async function refuseTooLate({ gameweek, number }) {
-  if (gameweek === null) {
-    return;
-  }
-  const me = await readAnew("/me");
-  if (me.gameweek !== gameweek && me.last < number) {
-    throw new TooLate(gameweek, me.gameweek);
-  }
+	if (gameweek === null) {
+		return;
+	}
+	const me = await readAnew("/me");
+	if (me.gameweek !== gameweek && me.last < number) {
+		throw new TooLate(gameweek, me.gameweek);
+	}
 }
 
 /** Waits so many seconds, or until the network is back. */
 export function pauseOf(seconds) {
-  return new Promise((go) => {
-    const end = () => {
-      clearTimeout(timer);
-      removeEventListener("online", end);
-      go();
-    };
-    const timer = setTimeout(end, seconds * 1000);
-    addEventListener("online", end);
-  });
+	return new Promise((go) => {
+		const end = () => {
+			clearTimeout(timer);
+			removeEventListener("online", end);
+			go();
+		};
+		const timer = setTimeout(end, seconds * 1000);
+		addEventListener("online", end);
+	});
 }

@@ -36,10 +36,10 @@ def before_a_season(stage):
     stage.window(OPERATOR).sees("There is no season yet")
 
 
-def choose(page, players):
-    """Picks these players from the list, each found by his number."""
+def choose(page, season, players):
+    """Picks these players from the list, each found by his name."""
     for player in players:
-        page.tap(f"buy-{player}")
+        page.set("squad-search", season.names[player]).tap(f"buy-{player}")
         page.find(f"#player-{player}")
 
 
@@ -55,12 +55,14 @@ def first_squad(stage):
     page = stage.window(KEA)
     page.go("transfers").sees("Pick your first squad")
     four_of_one = [1, 16, 3, 4, 18, 33, 34, 8, 23, 38, 53, 54, 58, 73, 88]
-    choose(page, four_of_one[:9])
+    choose(page, season, four_of_one[:9])
     page.reload().find("#player-23")
-    choose(page, four_of_one[9:])
+    choose(page, season, four_of_one[9:])
     page.tap("confirm").tap("yes")
     page.sees("Over the limit: Kea Kickers would have more than three players of Arrowtown", "#notice")
-    page.tap("player-8").tap("buy-68").tap("confirm")
+    page.tap("player-8")
+    choose(page, season, [68])
+    page.tap("confirm")
     page.set("squad-captain", 58).set("squad-vice", 73).tap("yes")
     page.sees("Your squad is entered", "#notice")
     page.sees("My team for gameweek 1")
@@ -221,7 +223,7 @@ def correction(stage):
     operator.go(f"correct/{fixture}")
     operator.tap(f"from-{scorer}-1").tap(f"to-{taker}-1").tap("correct")
     operator.sees("What it changed")
-    operator.sees(season.names[scorer], ".card")
+    operator.sees(f"{season.names[scorer]}: points")
     operator.picture("1280-corrected")
     lines = {it["player"]: it["figures"] for it in ask(f"/api/fixtures/{fixture}/sheet/")["lines"]}
     need(lines[taker][1] >= 1, "no goal for who scored it")
@@ -284,9 +286,9 @@ def evening(stage):
     page.go("season").set("deadline-3", time.strftime("%Y-%m-%dT%H:%M:%S", time.localtime(deadline(3) - 600))).tap("set-deadline-3")
     page.sees("deadline of gameweek 3 is set", "#notice")
     need(ask("/season")["deadlines"][2] == deadline(3) - 600, "another deadline")
-    page.set("prices-search", season.names[7]).set("price-7", "9.9").tap("set-price-7").sees("is set", "#notice")
+    page.go("player/7").type("price", "9.9").tap("set-price").sees("Saved", "#notice")
     need(ask("/players/7")["price"] == 99, "another price")
-    page.go("player/7").set("club", 5).tap("set-club")
+    page.set("club", 5).tap("set-club")
     page.until(lambda: ask("/players/7")["club"] == 5, "another club")
     page.go("keys").type("team-name", "Ruru Two").tap("make-key").sees("The key is made", "#notice")
     key = page.text(".key")
