@@ -44,7 +44,7 @@ export function browsing(season, name, open, row) {
 		drawOn(players, place, holder.querySelector("tbody") ?? holder, row);
 	};
 	redraw();
-	return make("section", { "aria-label": "Players" }, filters(season, name, redraw), count, place);
+	return make("section", filters(season, name, redraw), count, place);
 }
 
 /** Draws some more whenever the end of what is drawn comes near. */

@@ -36,7 +36,7 @@ function give(element, name, value) {
 	}
 }
 
-export const isThere = (value) => value !== null && value !== undefined && value !== false;
+const isThere = (value) => value !== null && value !== undefined && value !== false;
 
 /** A text by a person, which may run in another direction than the page. */
 export const named = (text) => make("bdi", text);

@@ -46,9 +46,11 @@ function own(newKey) {
 	ownBy(key);
 }
 
-export function signedIn() {
+export const hasKey = () => key !== null;
+
+/** Takes the key that is kept. */
+export function signInAgain() {
 	own(sessionStorage.getItem(KEY) ?? localStorage.getItem(KEY));
-	return key !== null;
 }
 
 export function signIn(newKey) {

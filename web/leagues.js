@@ -6,7 +6,7 @@ import { heading, noTeam, ranked, table, turning } from "./parts.js";
 import { counted, whole } from "./words.js";
 
 const KINDS = { c: "Classic", h: "Head-to-head" };
-const CODE = { pattern: "[a-z0-9]{4,16}", title: "4 to 16 small letters and digits", autocapitalize: "none" };
+const CODE = { pattern: "[a-z0-9]{4,16}", title: "4 to 16 small letters and digits" };
 
 export async function drawLeagues(page) {
 	const { read, caller, isOperator } = page;

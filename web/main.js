@@ -352,13 +352,9 @@ async function signOut() {
 	}
 }
 
-async function begin() {
-	if (!host.signedIn()) {
-		signInForm();
-		return;
-	}
+function begin() {
 	resume();
-	await show({ isOpened: true });
+	show({ isOpened: true });
 }
 
 // What happens on its own
@@ -377,11 +373,16 @@ addEventListener("hashchange", () => {
 	if (Date.now() - saidAt > 1000) {
 		part("notice").replaceChildren();
 	}
-	if (part("places").firstChild) {
+	if (host.hasKey()) {
 		show({ isOpened: true });
 	}
 });
 part("main").addEventListener("input", ({ target }) => target.closest(".form") && typed.set(target.id, target));
 part("skip").addEventListener("click", () => part("main").querySelector("h1").focus());
 
-begin();
+host.signInAgain();
+if (host.hasKey()) {
+	begin();
+} else {
+	signInForm();
+}

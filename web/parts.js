@@ -37,7 +37,6 @@ export function playerButton(season, id, { worth, badges = [], about = [], state
 		id: `player-${id}`,
 		"aria-label": [player.web_name, season.clubName(player.team), POSITIONS[player.element_type], ...about].filter(Boolean).join(", "),
 		"aria-pressed": state && String(state === "chosen"),
-		title: player.web_name,
 		onclick,
 	};
 	return make(

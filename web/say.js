@@ -5,13 +5,13 @@ import { FIGURES } from "./figures.js";
 import { money } from "./words.js";
 
 const REFUSALS = {
-	1: "The host has fewer commands of yours than this page knew. What stands is read anew: look, and save again.",
+	1: "The host is behind what this page knew. What stands is read anew: look, and save again.",
 	2: "This was changed on another device, or in another window. What stands is read anew: look, and save again.",
 	3: "This was changed on another device, or in another window. What stands is read anew: look, and save again.",
 	4: "There is no season yet. The operator loads it.",
 	5: "There is a season already.",
 	6: "The season is over: every gameweek is locked.",
-	7: "The deadline of gameweek {gameweek} has to come after the one before it and before the next one.",
+	7: "The deadline of gameweek {gameweek} has to stand between the one before and the next.",
 	8: "Gameweek {gameweek} is locked, or that deadline has passed already.",
 	9: "{fixture} would kick off less than 90 minutes after the deadline.",
 	10: "{fixture} has figures or is finished, so it can only be moved to a gameweek that is locked.",
@@ -29,10 +29,10 @@ const REFUSALS = {
 	22: "{team} doesn't have {player}.",
 	23: "{team} has {player} already.",
 	24: "{player} plays in another position than the one who goes.",
-	25: "That would be more transfers than a gameweek has: 20, and 1,000 where they are free.",
+	25: "A gameweek has at most 20 transfers, and 1,000 where they are free.",
 	26: "This chip was played in gameweek {gameweek}.",
 	27: "A chip is played in this gameweek already.",
-	28: "No wildcard or free hit is played in your first gameweek: all transfers are free.",
+	28: "In your first gameweek all transfers are free: no wildcard, no free hit.",
 	29: "A wildcard and a free hit can't be taken back.",
 	30: "No chip is played in this gameweek.",
 	31: "{team} has its squad already.",

@@ -28,7 +28,7 @@ def sentences(stage):
         if row:
             told.setdefault(int(row[1]), set()).update(re.findall("`([a-z_]+)`", row[3]))
     source = (stage.web / "say.js").read_text()
-    said = {int(number): set(re.findall(r"\{(\w+)\}", text)) - {"team"} for number, text in re.findall(r'^  (\d{1,2}): "(.*)",$', source, re.M)}
+    said = {int(number): set(re.findall(r"\{(\w+)\}", text)) - {"team"} for number, text in re.findall(r'^\s+(\d{1,2}): "(.*)",$', source, re.M)}
     need(set(said) == set(told), f"sentences for others: {sorted(set(said) ^ set(told))}")
     for number, names in said.items():
         need(names <= told[number], f"the sentence of {number} names {names}, and the refusal {told[number]}")
@@ -42,7 +42,7 @@ def luminance(colour):
 
 def contrast(stage):
     """Texts stand out from what is behind them by 4.5 to 1, in both themes."""
-    themes = [dict(re.findall(r"--([a-z-]+): (#[0-9a-f]{6});", block)) for block in re.findall(r":root \{(.*?)\n *\}", (stage.web / "style.css").read_text(), re.S)[:2]]
+    themes = [dict(re.findall(r"--([a-z-]+): (#[0-9a-f]{6});", block)) for block in re.findall(r":root \{(.*?)\n\s*\}", (stage.web / "style.css").read_text(), re.S)[:2]]
     light, dark = themes[0], {**themes[0], **themes[1]}
     for theme in (light, dark):
         for text, ground in PAIRS:
