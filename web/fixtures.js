@@ -21,7 +21,7 @@ export function matchesOf(season, gameweek, more) {
 	const matches = season.fixturesIn(gameweek);
 	const nowhere = season.fixturesIn(null);
 	const days = [...new Set(matches.map((it) => day(it.kickoff_time)))];
-	const ofDay = (title) => [make("h2", title), matches.filter((it) => day(it.kickoff_time) === title).map(card)];
+	const ofDay = (title) => [make("h2", title), make("div.cards", matches.filter((it) => day(it.kickoff_time) === title).map(card))];
 	const card = (it) => matchCard(season, it, more(it));
 	return [
 		matches.length > 0 ? days.map(ofDay) : quiet("No match stands in this gameweek."),

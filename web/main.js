@@ -196,7 +196,7 @@ async function headerOf(page) {
 	const name = page.isOperator ? "The operator" : named(page.caller.name);
 	deadline = await nextDeadline(page);
 	const points = await pointsIn(page);
-	return [make("span.who", name, points), make("span.next", { id: "next" }), button("sign-out", "Sign out", signOut, { kind: ".link" })];
+	return [make("span.who", name, points), button("sign-out", "Sign out", signOut, { kind: ".link" }), make("span", { id: "next" })];
 }
 
 async function nextDeadline(page) {

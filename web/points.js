@@ -35,7 +35,6 @@ async function gameweekOf(page, entry, first, given, address) {
 		summary(season.gameweeks[gameweek - 1], picks),
 		pitch(season, on),
 		bench("Bench, in its order", off),
-		substitutes(season, came),
 		make("p", link(`week/${gameweek}`, "Team of the week")),
 	];
 }
@@ -82,11 +81,6 @@ export function explain(season, { id, explain: lines, stats }, gameweek, times =
 		tables.length > 0 ? tables : quiet(`No figures yet: ${season.opponents(team, gameweek)}.`),
 		make("div.buttons", button("no", "Close", () => {}), link(`player/${id}`, "All his matches")),
 	);
-}
-
-function substitutes(season, came) {
-	const line = ([into, out]) => make("li", named(season.playerName(into)), " came in for ", named(season.playerName(out)), ".");
-	return came.size > 0 && [make("h2", "Substitutes"), make("ul", [...came].map(line))];
 }
 
 export async function drawWeek(page, given) {

@@ -60,6 +60,19 @@ def free_port():
         return free.getsockname()[1]
 
 
+class Server(ThreadingHTTPServer):
+    """Clients that go away in mid-answer are nothing to tell of."""
+
+    daemon_threads, block_on_close, allow_reuse_address = True, False, True
+
+    def __init__(self, *place):
+        super().__init__(*place)
+        self.kept = set()
+
+    def handle_error(self, *_):
+        pass
+
+
 class StandIn(Served):
     """The second host; a season outlives that it is stopped."""
 
@@ -85,10 +98,7 @@ class StandIn(Served):
             def log_message(self, *_):
                 pass
 
-        ThreadingHTTPServer.allow_reuse_address = True
-        self.server = ThreadingHTTPServer(("127.0.0.1", self.port), Handler)
-        self.server.daemon_threads, self.server.block_on_close = True, False
-        self.server.kept = set()
+        self.server = Server(("127.0.0.1", self.port), Handler)
         threading.Thread(target=self.server.serve_forever, kwargs={"poll_interval": 0.05}, daemon=True).start()
         return self
 
