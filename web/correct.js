@@ -14,7 +14,7 @@ let report = null; // what the last correction changed
 export async function drawCorrection(page, id) {
 	const season = await page.season();
 	const sheet = await page.read(`/api/fixtures/${id}/sheet/`);
-	const fixture = season.fixtureOf.get(id);
+	const fixture = season.fixture(id);
 	chosen = chosen.fixture === id ? chosen : { fixture: id };
 	const view = { page, season, sheet, fixture };
 	return [

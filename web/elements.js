@@ -52,7 +52,6 @@ export function button(id, text, call, { kind = "", ...properties } = {}) {
 	return make(`button${kind}`, { type: "button", id, onclick: (event) => call(event.currentTarget), ...properties }, text);
 }
 
-/** The button of what is done most. */
 export const mainButton = (id, text, call, properties = {}) => button(id, text, call, { kind: ".main", ...properties });
 
 /** A form with its button, with which it calls. */

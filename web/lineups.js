@@ -8,7 +8,6 @@ const FORWARD = 4;
 
 export const isStarter = (slot) => slot <= STARTERS;
 
-/** The order in which two slots are changed. */
 function changed(players, one, other) {
 	const order = [...players];
 	[order[one - 1], order[other - 1]] = [order[other - 1], order[one - 1]];

@@ -211,7 +211,6 @@ async function nextDeadline(page) {
 	}
 }
 
-/** The points of the gameweek that was locked last. */
 async function pointsIn({ caller, read }) {
 	const points = caller.started_event && (await read(`/api/entry/${caller.entry}/`)).summary_event_points;
 	return points === null ? null : ` \u00b7 ${whole(points)} points`;
@@ -328,8 +327,13 @@ function signInForm(wrong = "") {
 	part("unsaved").hidden = true;
 	const key = input("key", { type: "password", autocomplete: "current-password" });
 	const enter = () => {
-		host.signIn(key.value.trim().toLowerCase());
-		begin();
+		const text = key.value.trim().toLowerCase();
+		if (/^[a-z0-9]+$/.test(text)) {
+			host.signIn(text);
+			begin();
+		} else {
+			signInForm("A key is letters and digits.");
+		}
 	};
 	part("main").replaceChildren(
 		heading("Kowhirupe"),

@@ -33,7 +33,7 @@ const timeInput = (id, moment) => input(id, { type: "datetime-local", step: 1, v
 
 export async function drawMove(page, id) {
 	const season = await page.season();
-	const { event, kickoff_time: stands } = season.fixtureOf.get(id);
+	const { event, kickoff_time: stands } = season.fixture(id);
 	const gameweek = choice("gameweek", [["", "None: it is postponed"], ...season.gameweeks.map((it) => [it.id, it.name])], event ?? "");
 	const kickoff = timeInput("kickoff", stands);
 	const move = async (busy) => {

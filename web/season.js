@@ -1,7 +1,16 @@
 // The season as the host tells it, by numbers.
 
+import { Refusal } from "./host.js";
+
 const seasons = new WeakMap(); // by the host's answers, so that each is gone through once
 const byId = (list) => new Map(list.map((item) => [item.id, item]));
+
+function there(found) {
+	if (!found) {
+		throw new Refusal(404, {});
+	}
+	return found;
+}
 
 /** Reads the season by the reader of a place. */
 export async function seasonBy(read) {
@@ -47,7 +56,11 @@ class Season {
 	}
 
 	deadline(gameweek) {
-		return this.gameweeks[gameweek - 1].deadline_time_epoch;
+		return there(this.gameweeks[gameweek - 1]).deadline_time_epoch;
+	}
+
+	fixture(id) {
+		return there(this.fixtureOf.get(id));
 	}
 
 	/** The fixtures that stand in a gameweek, or in none where it is null. */

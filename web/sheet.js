@@ -27,7 +27,7 @@ export async function drawSheet(page, id) {
 class Sheet {
 	constructor(page, season, id, told, draft) {
 		Object.assign(this, { page, season, id, name: `draft sheet ${id}` });
-		this.match = season.fixtureOf.get(id);
+		this.match = season.fixture(id);
 		this.told = new Map(told.lines.map((line) => [line.player, line.figures]));
 		this.wasFinished = told.finished;
 		this.lines = draft ? new Map(draft.lines) : new Map(this.told);

@@ -42,7 +42,7 @@ function market(season, name, mayCome, come) {
 			button(`buy-${player.id}`, "+", () => come(player), buy),
 		);
 	};
-	return make("div", make("h2", "Players"), browsing(season, name, () => make("ul.list"), row));
+	return browsing(season, name, () => make("ul.list"), row);
 }
 
 // Transfers of a squad that stands

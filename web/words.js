@@ -1,7 +1,7 @@
 // How numbers, money and times are written.
 
 const MINUS = "\u2212";
-const LENGTHS = { day: 86400, hour: 3600, minute: 60 };
+const LENGTHS = { d: 86400, h: 3600, min: 60 };
 
 const dates = (parts) => new Intl.DateTimeFormat("en-GB", parts);
 const clock = { hour: "2-digit", minute: "2-digit" };
@@ -62,7 +62,7 @@ export function countdown(moment) {
 		const count = Math.floor(left / length);
 		left -= count * length;
 		if (count > 0) {
-			parts.push(counted(count, name));
+			parts.push(`${count} ${name}`);
 		}
 	}
 	return parts.slice(0, 2).join(" ") || "less than a minute";

@@ -20,9 +20,13 @@ def signing_in(stage):
     played_season(stage.served, 1)
     page = stage.window("nosuchkey1")
     page.sees("not known here", "#notice")
+    page.sign_in("\u043a\u043b\u044e\u0447 1")
+    page.sees("A key is letters and digits", "#notice")
     page.sign_in(KEA)
     page.sees("Kea Kickers", "#header")
     page.reload().sees("Kea Kickers", "#header")
+    for place in ("points/9", "fixtures/99", "player/999", "league/9", "cup/9", "entry/9/1", "week/99"):
+        page.go(place).sees("There is nothing here")
     page.tap("sign-out").tap("yes")
     page.find("#key")
     page.reload().find("#key")
