@@ -1,6 +1,6 @@
 // Fixtures by gameweek, with results, scorers and bonus.
 
-import { make, named, quiet } from "./elements.js";
+import { link, make, named, quiet } from "./elements.js";
 import { heading, playerLink, turning } from "./parts.js";
 import { STATS, counted, day, hour, when, whole } from "./words.js";
 
@@ -12,6 +12,7 @@ export async function drawFixtures(page, given) {
 	return [
 		turning(heading(`Gameweek ${gameweek}`), "fixtures", gameweek, 1, season.last),
 		quiet(`Deadline: ${when(season.deadline(gameweek))}`),
+		gameweek <= season.current && link(`week/${gameweek}`, "Team of the week"),
 		matchesOf(season, gameweek, () => null),
 	];
 }

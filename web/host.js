@@ -73,7 +73,7 @@ async function ask(method, target, text) {
 	const controller = new AbortController();
 	const timer = setTimeout(() => controller.abort(), SECONDS * 1000);
 	try {
-		const answer = await fetch(target, { method, body: text, headers: { "Fpl-Key": key }, cache: "no-store", signal: controller.signal });
+		const answer = await fetch(`.${target}`, { method, body: text, headers: { "Fpl-Key": key }, cache: "no-store", signal: controller.signal });
 		const told = await answer.text();
 		return { status: answer.status, text: told, body: JSON.parse(told) };
 	} catch {

@@ -50,7 +50,6 @@ function summary(event, { entry_history: row, active_chip: active }) {
 			["Highest", event.highest_score],
 			["Overall rank", row.overall_rank],
 			["Total", row.total_points],
-			["On the bench", row.points_on_bench],
 		]),
 		quiet(chip ? `${chip.name} was played. ` : "", event.finished ? "All matches are finished." : "Not all matches are finished."),
 	];

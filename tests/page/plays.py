@@ -2,7 +2,7 @@
 import time
 
 from looks import LOOKS, pictures
-from seasons import GAMEWEEKS, Caller, Generated, Small, deadline, played_season
+from seasons import GAMEWEEKS, Caller, Small, deadline, played_season
 from served import OPERATOR
 from stage import need
 from written import WRITTEN
@@ -216,12 +216,15 @@ def correction(stage):
     season = played_season(stage.served, 3)
     stage.served.tell(deadline(3) + 3 * 86400)
     ask = lambda target: stage.served.ask("GET", target, OPERATOR)[1]
-    _, live = stage.served.ask("GET", "/api/event/3/live/", OPERATOR)
-    held = {it["element"] for entry in range(1, 5) for it in ask(f"/api/entry/{entry}/event/3/picks/")["picks"] if it["multiplier"]}
+    held = {player for entry in range(1, 5) for player in counting(ask, entry)}
     fixture, scorer, taker = goal_to_move(season, ask, held)
+    holder = next(it for it in range(1, 5) if scorer in counting(ask, it))
     manager = stage.window(KEA)
     manager.go("league/1")
     before = manager.text()
+    manager.go(f"entry/{holder}/3").tap(f"player-{scorer}")
+    explained = manager.text("dialog")
+    manager.tap("no").go("league/1")
     operator = stage.window(OPERATOR, is_new=True)
     operator.go("matches/3")
     operator.go(f"correct/{fixture}")
@@ -233,6 +236,14 @@ def correction(stage):
     need(lines[taker][1] >= 1, "no goal for who scored it")
     manager.here().refresh()
     manager.until(lambda: manager.text() != before, "another table")
+    manager.go(f"entry/{holder}/3").tap(f"player-{scorer}")
+    manager.until(lambda: manager.text("dialog") != explained, "another explanation")
+    manager.tap("no")
+
+
+def counting(ask, entry):
+    """The players of an entry who count in gameweek 3."""
+    return [it["element"] for it in ask(f"/api/entry/{entry}/event/3/picks/")["picks"] if it["multiplier"]]
 
 
 def goal_to_move(season, ask, held):
@@ -503,8 +514,7 @@ def odd_gameweeks(stage):
 def generated_season(stage):
     """The season of `generate`: a key press in the list of 600 players is answered within a frame, a table of many rows."""
     stage.open()
-    stage.serve()
-    Generated(stage.served, entries=60).make()
+    stage.serve_generated()
     page = stage.window("entrykey0001")
     page.go("players").sees("600 players")
     script = """
@@ -523,7 +533,7 @@ def generated_season(stage):
     page.driver.execute_script("scrollTo(0, document.body.scrollHeight)")
     page.until(lambda: len(page.all("tbody tr")) > 40, "the next rows")
     page.go("league/1")
-    need(len(page.all("tbody tr")) == 60, "another number of rows")
+    need(len(page.all("tbody tr")) == 500, "another number of rows")
 
 
 PLAYS = {

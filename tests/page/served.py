@@ -162,6 +162,11 @@ class Program(Served):
         fresh.write_text(f"{moment}\n")
         fresh.rename(self.now)
 
+    def generate(self):
+        """Makes the season of `generate` in the store; its moments are its own."""
+        subprocess.run([self.program, "generate", "--seed", "7", "--store", self.store], check=True, stdout=subprocess.DEVNULL)
+        self.tell(1691790000)
+
     def start(self):
         words = ["serve", "--key", OPERATOR, "--port", str(self.port), "--clients", "64", "--pages", self.pages, "--store", self.store]
         surroundings = os.environ | {"LD_PRELOAD": str(self.outside), "KOWHIRUPE_NOW": str(self.now)}

@@ -7,6 +7,7 @@ from selenium.common.exceptions import NoSuchElementException, StaleElementRefer
 from selenium.webdriver.chrome.service import Service
 from selenium.webdriver.common.by import By
 
+from seasons import Generated
 from served import Program, StandIn
 
 SECONDS = 15  # the page may take
@@ -52,6 +53,16 @@ class Stage:
         """A fresh host."""
         self.served = StandIn(self.web) if self.program is None else Program(self.web, self.program)
         return self.served.start()
+
+    def serve_generated(self):
+        """A host with the season of `generate`."""
+        if self.program is None:
+            self.serve()
+            Generated(self.served).make()
+        else:
+            self.served = Program(self.web, self.program)
+            self.served.generate()
+            self.served.start()
 
     # Windows
 

@@ -5,7 +5,7 @@ from stage import need
 
 MOST_BYTES = 120_000
 PAIRS = (("ink", "page"), ("ink", "surface"), ("ink", "raised"), ("ink", "mark"), ("quiet", "page"), ("quiet", "surface"), ("quiet", "raised"))
-PAIRS += (("accent", "page"), ("accent", "surface"), ("on-accent", "accent"), ("bad", "page"), ("bad", "surface"))
+PAIRS += (("accent", "page"), ("accent", "surface"), ("accent", "mark"), ("quiet", "mark"), ("on-accent", "accent"), ("bad", "page"), ("bad", "surface"))
 LEAST_CONTRAST = 4.5
 
 
