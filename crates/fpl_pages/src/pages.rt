@@ -1,10 +1,10 @@
 // The pages of a folder.
-ghost use Rattle.std.specs.Prelude.{◌≡◌, ◌≤◌, ◌+◌, ◌&&◌, [], None, Some, OnErr, MatchResult, length, nat_le, nat_lt, option_map};
+ghost use Rattle.std.specs.Prelude.{◌≡◌, ◌≤◌, ◌+◌, ◌&&◌, ◌++◌, ◌∷◌, [], true, None, Some, OnErr, OnOk, MatchResult, length, nat_le, nat_lt, option_map};
 ghost use Rattle.fpl_pages.specs.Pages.{bytes_in, or_index, page_at, page_named, with_page};
 ghost use Rattle.fpl_pages.specs.declared.pages.Unfit.TheVariants as unfit;
 
 use crate::kinds::Kind;
-use fpl_base::{Bytes, Text};
+use fpl_base::{Bytes, Memory, Text};
 use std::alloc::Global;
 use std::marker::Model;
 
@@ -74,9 +74,9 @@ impl Pages {
         let Ok(name) = Text::new(alloc, name) else {
             return Err(Unfit::Memory);
         };
-        match self.pages.push(Page { name, kind, bytes }) {
+        match put(&mut self.pages, Page { name, kind, bytes }) {
             Ok(()) => Ok(()),
-            Err(_) => Err(Unfit::Memory),
+            Err(Memory) => Err(Unfit::Memory),
         }
     }
 
@@ -97,10 +97,25 @@ impl Pages {
     }
 }
 
+// Puts a page behind the others.
+#[tactic(auto, using(crate::proofs::PagesLemmas::bytes_in_more))]
+fn put(pages: &mut Vec<Page>, page: Page) -> Result<(), Memory>
+    ensures more { OnOk result (pages.new.items ≡ pages.old.items ++ page ∷ []) }
+    ensures kept { OnErr result (pages.new.items ≡ pages.old.items) }
+    ensures room { bytes_in pages.new.items ≤ length page.bytes + bytes_in pages.old.items }
+{
+    match pages.push(page) {
+        Ok(()) => Ok(()),
+        Err(_) => Err(Memory),
+    }
+}
+
 // Whether there is room for one page more, of so many bytes.
 fn has_room(pages: &[Page], size: usize) -> bool
     requires { bytes_in pages.now ≤ 8388608 }
-    ensures { result ≡ (nat_lt (length pages.now) 64 && nat_le (size + bytes_in pages.now) 8388608) }
+    ensures value { result ≡ (nat_lt (length pages.now) 64
+        && nat_le (size + bytes_in pages.now) 8388608) }
+    ensures room { result ≡ true → size + bytes_in pages.now ≤ 8388608 }
 {
     pages.len() < MOST && size <= ROOM - bytes_in(pages)
 }
