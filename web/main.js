@@ -93,7 +93,7 @@ async function drawn(read) {
 	} catch (fault) {
 		nodes = instead(fault);
 	}
-	return { header, bar: barOf(isOperator, PLACES[place][1]), nodes: [nodes].flat(Infinity).filter(Boolean) };
+	return { header, isOperator, here: PLACES[place][1], nodes: [nodes].flat(Infinity).filter(Boolean) };
 }
 
 /** What is drawn where the host refused what a place reads. */
@@ -162,13 +162,13 @@ async function redraw() {
 }
 
 /** Puts what was drawn into the page; focus, what was typed, what is open and scrolled stay. */
-function put({ header, bar, nodes }, isOpened) {
+function put({ header, isOperator, here, nodes }, isOpened) {
 	const { id, selectionStart } = document.activeElement ?? {};
 	shown = host.changes();
 	const open = [...part("main").querySelectorAll("details[open][id]")].map((it) => it.id);
 	const scrolled = [...part("main").querySelectorAll(".scroll[id]")].map((it) => [it.id, it.scrollLeft]);
 	part("header").replaceChildren(...header);
-	part("places").replaceChildren(bar);
+	showBar(isOperator, here);
 	part("main").replaceChildren(...nodes);
 	const title = part("main").querySelector("h1");
 	document.title = `${title.textContent} \u00b7 Kowhirupe`;
@@ -228,10 +228,14 @@ function countDown() {
 	}
 }
 
-function barOf(isOperator, here) {
-	const places = Object.entries(isOperator ? BAR_OF_THE_OPERATOR : BAR_OF_MANAGERS);
-	const way = (place, text) => make("a", { href: `#/${place}`, "aria-current": place === here ? "page" : null }, icon(place), text);
-	return make("ul", places.map(([place, text]) => make("li", way(place, text))));
+/** Marks where one is in the bar, which is made once. */
+function showBar(isOperator, here) {
+	const places = isOperator ? BAR_OF_THE_OPERATOR : BAR_OF_MANAGERS;
+	const way = ([place, text]) => make("li", make("a", { href: `#/${place}`, id: `to-${place}` }, icon(place), text));
+	if (!part(`to-${Object.keys(places)[0]}`)) {
+		part("places").replaceChildren(make("ul", Object.entries(places).map(way)));
+	}
+	Object.keys(places).forEach((place) => part(`to-${place}`).setAttribute("aria-current", place === here ? "page" : "false"));
 }
 
 // What is told
