@@ -93,7 +93,7 @@ export function strip(pairs) {
 	return make("dl.strip", pairs.map(([word, value]) => make("div", make("dt", word), make("dd", shown(value)))));
 }
 
-export const heading = (...title) => make("h1", { tabindex: -1 }, ...title);
+export const heading = (...title) => make("h1", { id: "title", tabindex: -1 }, ...title);
 
 /** A heading with ways to the gameweeks before and after. */
 export function turning(title, address, gameweek, first, last) {

@@ -427,7 +427,7 @@ def names_that_are_markup(stage):
 
 
 def screen_reader(stage):
-    """Each place has a main part, one heading that has the focus, and a name for whatever can be acted on."""
+    """Each place has a main part, one heading that has and keeps the focus, and a name for whatever can be acted on."""
     stage.open()
     stage.serve()
     played_season(stage.served, 3)
@@ -446,6 +446,7 @@ def screen_reader(stage):
             roles = [role for role, _ in tree]
             need(roles.count("main") == 1 and "navigation" in roles, f"{place}: {set(roles)}")
             need(len(page.all("main h1")) == 1, f"{place} has not one heading")
+            need(page.driver.switch_to.active_element.tag_name == "h1", f"{place}: the focus is lost")
         page.tap("sign-out").tap("yes")
 
 
