@@ -2,6 +2,7 @@
 
 import { randomBelow, shuffled } from "./chance.js";
 import { button, check, choice, confirmed, field, form, make, named, quiet } from "./elements.js";
+import { readAnew } from "./host.js";
 import { heading } from "./parts.js";
 import { counted } from "./words.js";
 
@@ -19,7 +20,7 @@ export async function drawDraws(page) {
 
 function leagueRow(page, { id, name, members, start_event: start }) {
 	const draw = async (busy) => {
-		const { standings } = await page.read(`/api/leagues-h2h/${id}/standings/`);
+		const { standings } = await readAnew(`/api/leagues-h2h/${id}/standings/`);
 		const order = shuffled(standings.results.map((row) => row.entry));
 		const says = make("p", named(name), `: ${counted(order.length, "member")} get their places by lot, and nobody can join afterwards.`);
 		if (await confirmed("Draw this league?", "Draw", says)) {

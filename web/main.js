@@ -139,14 +139,14 @@ async function showKept() {
 	}
 }
 
-/** Waits where the host gave no answer, and signs in again where it doesn't know the key. */
+/** Signs in again where the host doesn't know the key; waits where it can't answer. */
 async function endure(fault) {
-	if (fault instanceof host.NoAnswer) {
-		unsaved(host.isBusy() ? NOT_SAVED : "The host gives no answer. Trying again.");
-		await host.pauseOf(2);
-	} else if (fault instanceof host.Refusal) {
+	if (fault.status === 401) {
 		host.signOut();
 		signInForm(sentence(fault));
+	} else if (fault instanceof host.NoAnswer || fault instanceof host.Refusal) {
+		unsaved(host.isBusy() ? NOT_SAVED : fault.status ? sentence(fault) : "The host gives no answer. Trying again.");
+		await host.pauseOf(2);
 	} else {
 		throw fault;
 	}
