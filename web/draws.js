@@ -33,12 +33,10 @@ function leagueRow(page, { id, name, members, start_event: start }) {
 function cupForm(page, season, entries) {
 	const start = choice("cup-start", season.openGameweeks());
 	const boxes = make("div.choices", entries.map((it) => check(`in-cup-${it.entry}`, named(it.name), true, { value: it.entry })));
-	const send = async (busy) => {
+	const send = (busy) => {
 		const chosen = [...boxes.querySelectorAll(":checked")].map((box) => Number(box.value));
-		const done = await page.send(busy, "/cups", { start: Number(start.value), ...bracketOf(chosen) }, { done: "The cup is drawn." });
-		if (done) {
-			location.hash = `#/cup/${done.cup}`;
-		}
+		const members = { start: Number(start.value), ...bracketOf(chosen) };
+		page.send(busy, "/cups", members, { done: "The cup is drawn.", next: (body) => `#/cup/${body.cup}` });
 	};
 	return form(
 		"draw-cup",

@@ -210,7 +210,7 @@ async function registered(page, season, squad, busy) {
 		field("Vice-captain, who stands in for him", vice),
 	);
 	const members = { players, captain: Number(captain.value), vice: Number(vice.value) };
-	if (isSure && (await page.send(busy, "/squad", members, { drafts: [SQUAD], done: "Your squad is entered." }))) {
-		location.hash = "#/team";
+	if (isSure) {
+		await page.send(busy, "/squad", members, { drafts: [SQUAD], done: "Your squad is entered.", next: () => "#/team" });
 	}
 }
