@@ -10,7 +10,7 @@ export const SORTS = {
 	total_points: { text: "Points", shown: whole },
 	points_per_game: { text: "Points a game", shown: String },
 	selected_by_percent: { text: "Owned by", shown: (percent) => `${percent}%` },
-	event_points: { text: "This gameweek", shown: whole },
+	event_points: { text: "This week", shown: whole },
 	now_cost: { text: "Price", shown: money },
 };
 const PRICES = [45, 50, 55, 60, 70, 80, 90, 100, 120, 150];
@@ -21,7 +21,6 @@ export const filtersOf = (name) => ({ ...ALL, ...recall(`list ${name}`) });
 
 export const filter = (name, changed) => remember(`list ${name}`, { ...filtersOf(name), ...changed });
 
-/** The players that are looked for, in their order. */
 function found(season, { search, position, club, price, sort }) {
 	const words = plain(search.trim());
 	const fits = (player) =>

@@ -2,6 +2,7 @@
 
 import { randomBelow, shuffled } from "./chance.js";
 import { button, check, choice, confirmed, field, form, make, named, quiet } from "./elements.js";
+import { readAnew } from "./host.js";
 import { heading } from "./parts.js";
 import { counted } from "./words.js";
 
@@ -19,7 +20,7 @@ export async function drawDraws(page) {
 
 function leagueRow(page, { id, name, members, start_event: start }) {
 	const draw = async (busy) => {
-		const { standings } = await page.read(`/api/leagues-h2h/${id}/standings/`);
+		const { standings } = await readAnew(`/api/leagues-h2h/${id}/standings/`);
 		const order = shuffled(standings.results.map((row) => row.entry));
 		const says = make("p", named(name), `: ${counted(order.length, "member")} get their places by lot, and nobody can join afterwards.`);
 		if (await confirmed("Draw this league?", "Draw", says)) {
@@ -32,12 +33,10 @@ function leagueRow(page, { id, name, members, start_event: start }) {
 function cupForm(page, season, entries) {
 	const start = choice("cup-start", season.openGameweeks());
 	const boxes = make("div.choices", entries.map((it) => check(`in-cup-${it.entry}`, named(it.name), true, { value: it.entry })));
-	const send = async (busy) => {
+	const send = (busy) => {
 		const chosen = [...boxes.querySelectorAll(":checked")].map((box) => Number(box.value));
-		const done = await page.send(busy, "/cups", { start: Number(start.value), ...bracketOf(chosen) }, { done: "The cup is drawn." });
-		if (done) {
-			location.hash = `#/cup/${done.cup}`;
-		}
+		const members = { start: Number(start.value), ...bracketOf(chosen) };
+		page.send(busy, "/cups", members, { done: "The cup is drawn.", next: (body) => `#/cup/${body.cup}` });
 	};
 	return form(
 		"draw-cup",

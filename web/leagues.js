@@ -44,11 +44,9 @@ async function ownLeagues(page, mine) {
 function joinForm(page, leagues) {
 	const which = choice("join-league", leagues.map((it) => [it.id, it.name]));
 	const code = input("join-code", CODE);
-	const join = async (busy) => {
+	const join = (busy) => {
 		const league = which.value;
-		if (await page.send(busy, `/leagues/${league}/join`, { code: code.value }, { done: "You are in." })) {
-			location.hash = `#/league/${league}`;
-		}
+		page.send(busy, `/leagues/${league}/join`, { code: code.value }, { done: "You are in.", next: () => `#/league/${league}` });
 	};
 	return make(
 		"details",
@@ -63,12 +61,10 @@ function makeForm(page, season) {
 	const name = nameInput("league-name");
 	const code = input("league-code", { ...CODE, value: randomLetters(8) });
 	const start = choice("league-start", season.openGameweeks());
-	const send = async (busy) => {
+	const send = (busy) => {
 		const members = { kind: kind.value, name: name.value, code: code.value, start: Number(start.value) };
-		const done = await page.send(busy, "/leagues", members, { done: `The league is made. Its code is ${members.code}.` });
-		if (done) {
-			location.hash = `#/league/${done.league}`;
-		}
+		const done = `The league is made. Its code is ${members.code}.`;
+		page.send(busy, "/leagues", members, { done, next: (body) => `#/league/${body.league}` });
 	};
 	return make(
 		"details",

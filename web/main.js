@@ -51,7 +51,8 @@ const part = (id) => document.getElementById(id);
 const typed = new Map(); // by their ids, fields of forms that were typed into and not sent
 let saidAt = 0; // when a notice was shown last
 let turn = 0; // of several that draw at once, the last one shows
-let shown = -1; // how often something was read anew when the place was put into the page
+let open = null; // the address of the place that is in the page
+let shown = 0; // how often something was read anew when it was put there
 let deadline = null; // of the next gameweek, in seconds, with its name
 
 // Drawing a place
@@ -81,6 +82,7 @@ async function drawn(read) {
 		host.goOnFrom(caller.last);
 	}
 	const isOperator = caller.entry === null;
+	const { hash } = location;
 	const { name = null, ids } = placeNow();
 	const place = name ?? (isOperator ? "matches" : "points");
 	const team = isOperator ? "The team" : caller.name;
@@ -93,7 +95,7 @@ async function drawn(read) {
 	} catch (fault) {
 		nodes = instead(fault);
 	}
-	return { header, bar: barOf(isOperator, PLACES[place][1]), nodes: [nodes].flat(Infinity).filter(Boolean) };
+	return { hash, header, isOperator, here: PLACES[place][1], nodes: [nodes].flat(Infinity).filter(Boolean) };
 }
 
 /** What is drawn where the host refused what a place reads. */
@@ -105,15 +107,17 @@ function instead(fault) {
 }
 
 /** Shows the open place: as it is kept where it was opened just now, and then as the host tells it. */
-async function show({ isOpened = false } = {}) {
+async function show() {
 	const mine = ++turn;
-	const isShown = !isOpened || (await showKept());
+	if (open !== location.hash) {
+		await showKept();
+	}
 	work(true);
 	while (mine === turn) {
 		try {
 			const found = await drawn(freshReader());
-			if (mine === turn && (!isShown || shown !== host.changes())) {
-				put(found, !isShown);
+			if (mine === turn && (open !== found.hash || shown !== host.changes())) {
+				put(found);
 			}
 			part("unsaved").hidden ||= !host.isBusy();
 			break;
@@ -126,49 +130,48 @@ async function show({ isOpened = false } = {}) {
 	}
 }
 
-/** Shows the open place as it is kept; false where something of it is not. */
 async function showKept() {
 	try {
-		put(await drawn(keptReader), true);
-		return true;
+		put(await drawn(keptReader));
 	} catch (fault) {
-		if (fault instanceof host.NotKept) {
-			return false;
+		if (!(fault instanceof host.NotKept)) {
+			throw fault;
 		}
-		throw fault;
 	}
 }
 
-/** Waits where the host gave no answer, and signs in again where it doesn't know the key. */
+/** Signs in again where the host doesn't know the key; waits where it can't answer. */
 async function endure(fault) {
-	if (fault instanceof host.NoAnswer) {
-		unsaved(host.isBusy() ? NOT_SAVED : "The host gives no answer. Trying again.");
-		await host.pauseOf(2);
-	} else if (fault instanceof host.Refusal) {
+	if (fault.status === 401) {
 		host.signOut();
 		signInForm(sentence(fault));
+	} else if (fault instanceof host.NoAnswer || fault instanceof host.Refusal) {
+		unsaved(host.isBusy() ? NOT_SAVED : fault.status ? sentence(fault) : "The host gives no answer. Trying again.");
+		await host.pauseOf(2);
 	} else {
 		throw fault;
 	}
 }
 
-/** Draws the place again from what is kept: something was chosen here. */
+/** Draws the place again: something was chosen here. */
 async function redraw() {
 	const mine = turn;
 	const found = await drawn(keptReader);
 	if (mine === turn) {
-		put(found, false);
+		put(found);
 	}
 }
 
 /** Puts what was drawn into the page; focus, what was typed, what is open and scrolled stay. */
-function put({ header, bar, nodes }, isOpened) {
+function put({ hash, header, isOperator, here, nodes }) {
+	const isOpened = open !== hash;
+	open = hash;
 	const { id, selectionStart } = document.activeElement ?? {};
 	shown = host.changes();
-	const open = [...part("main").querySelectorAll("details[open][id]")].map((it) => it.id);
+	const unfolded = [...part("main").querySelectorAll("details[open][id]")].map((it) => it.id);
 	const scrolled = [...part("main").querySelectorAll(".scroll[id]")].map((it) => [it.id, it.scrollLeft]);
 	part("header").replaceChildren(...header);
-	part("places").replaceChildren(bar);
+	showBar(isOperator, here);
 	part("main").replaceChildren(...nodes);
 	const title = part("main").querySelector("h1");
 	document.title = `${title.textContent} \u00b7 Kowhirupe`;
@@ -180,7 +183,7 @@ function put({ header, bar, nodes }, isOpened) {
 		return;
 	}
 	typed.forEach(({ value, checked }, it) => part(it) && Object.assign(part(it), { value, checked }));
-	open.forEach((it) => part(it)?.setAttribute("open", ""));
+	unfolded.forEach((it) => part(it)?.setAttribute("open", ""));
 	scrolled.forEach(([it, left]) => part(it)?.scrollTo(left, 0));
 	if (id) {
 		part(id)?.focus({ preventScroll: true });
@@ -228,10 +231,14 @@ function countDown() {
 	}
 }
 
-function barOf(isOperator, here) {
-	const places = Object.entries(isOperator ? BAR_OF_THE_OPERATOR : BAR_OF_MANAGERS);
-	const way = (place, text) => make("a", { href: `#/${place}`, "aria-current": place === here ? "page" : null }, icon(place), text);
-	return make("ul", places.map(([place, text]) => make("li", way(place, text))));
+/** Marks where one is in the bar, which is made once. */
+function showBar(isOperator, here) {
+	const places = isOperator ? BAR_OF_THE_OPERATOR : BAR_OF_MANAGERS;
+	const way = ([place, text]) => make("li", make("a", { href: `#/${place}`, id: `to-${place}` }, icon(place), text));
+	if (!part(`to-${Object.keys(places)[0]}`)) {
+		part("places").replaceChildren(make("ul", Object.entries(places).map(way)));
+	}
+	Object.keys(places).forEach((place) => part(`to-${place}`).setAttribute("aria-current", place === here ? "page" : "false"));
 }
 
 // What is told
@@ -264,9 +271,10 @@ function say(kind, text) {
 
 /**
  * Sends a command for a button, which is busy meanwhile, says how it ended, and shows the place anew. `done` is said where it
- * is done; the others are those of `host.command`. Gives the answer's body, or null where it was refused.
+ * is done, and `next` gives the place that is opened then; the others are those of `host.command`. Gives the answer's body, or null where it was refused.
  */
-async function send(page, busy, target, members, { done = "Saved.", ...others } = {}) {
+async function send(page, busy, target, members, { done = "Saved.", next = null, ...others } = {}) {
+	const from = location.hash;
 	if (host.isBusy()) {
 		say("bad", "Something else is being saved. Wait until it is.");
 		return null;
@@ -282,7 +290,11 @@ async function send(page, busy, target, members, { done = "Saved.", ...others } 
 		say("bad", await inWords(fault, page));
 	}
 	busy.disabled = false;
-	await show();
+	if (body && next && location.hash === from) {
+		location.hash = next(body);
+	} else {
+		await show();
+	}
 	return body;
 }
 
@@ -320,7 +332,7 @@ host.watch((isWaiting) => (isWaiting ? unsaved(NOT_SAVED) : (part("unsaved").hid
 
 function signInForm(wrong = "") {
 	turn += 1;
-	shown = -1;
+	open = null;
 	work(false);
 	part("header").replaceChildren();
 	part("places").replaceChildren();
@@ -358,7 +370,7 @@ async function signOut() {
 
 function begin() {
 	resume();
-	show({ isOpened: true });
+	show();
 }
 
 // What happens on its own
@@ -378,7 +390,7 @@ addEventListener("hashchange", () => {
 		part("notice").replaceChildren();
 	}
 	if (host.hasKey()) {
-		show({ isOpened: true });
+		show();
 	}
 });
 part("main").addEventListener("input", ({ target }) => target.closest(".form") && typed.set(target.id, target));

@@ -36,11 +36,10 @@ export async function drawMove(page, id) {
 	const { event, kickoff_time: stands } = season.fixture(id);
 	const gameweek = choice("gameweek", [["", "None: it is postponed"], ...season.gameweeks.map((it) => [it.id, it.name])], event ?? "");
 	const kickoff = timeInput("kickoff", stands);
-	const move = async (busy) => {
+	const move = (busy) => {
 		const to = Number(gameweek.value) || null;
-		if (await page.send(busy, `/fixtures/${id}/move`, { gameweek: to, kickoff: momentOf(kickoff.value) }, { done: "The match is moved." })) {
-			location.hash = to === null ? "#/matches" : `#/matches/${to}`;
-		}
+		const next = () => (to === null ? "#/matches" : `#/matches/${to}`);
+		page.send(busy, `/fixtures/${id}/move`, { gameweek: to, kickoff: momentOf(kickoff.value) }, { done: "The match is moved.", next });
 	};
 	return [
 		heading("Move a match"),

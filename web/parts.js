@@ -12,7 +12,7 @@ const PATTERNS = [
 	"M11 9 33 30v8L11 17z", // a sash
 ];
 
-/** A shirt in two colours that follow from the club's number: a hue a club, a pattern by its remainder. */
+/** A shirt: a hue a club, a pattern by its number's remainder. */
 export function shirt(club, isKeeper = false) {
 	const hue = Math.round((club * 137.5) % 360);
 	const colours = [`hsl(${hue} 65% 36%)`, `hsl(${(hue + 50) % 360} 85% 88%)`];
@@ -78,7 +78,7 @@ export function table(caption, head, rows, { isWide = false } = {}) {
 	);
 }
 
-/** A rank, and how it has moved: an arrow with a number, and words for who does not see it. */
+/** A rank and how it has moved, also for who does not see the arrow. */
 export function ranked({ rank, last_rank: lastRank }) {
 	const places = lastRank - rank;
 	const [kind, arrow, word] = places > 0 ? ["up", "\u25b2", "up"] : ["down", "\u25bc", "down"];
@@ -93,9 +93,9 @@ export function strip(pairs) {
 	return make("dl.strip", pairs.map(([word, value]) => make("div", make("dt", word), make("dd", shown(value)))));
 }
 
-export const heading = (...title) => make("h1", { tabindex: -1 }, ...title);
+export const heading = (...title) => make("h1", { id: "title", tabindex: -1 }, ...title);
 
-/** A heading with ways to the gameweek before and the one after, where they are. */
+/** A heading with ways to the gameweeks before and after. */
 export function turning(title, address, gameweek, first, last) {
 	const way = (number, arrow) =>
 		number >= first && number <= last
@@ -104,7 +104,6 @@ export function turning(title, address, gameweek, first, last) {
 	return make("div.turning", way(gameweek - 1, "\u2039"), title, way(gameweek + 1, "\u203a"));
 }
 
-/** What stands where the caller has no team. */
 export const noTeam = (title) => [heading(title), make("p", "There is no team of yours yet. ", link("transfers", "Pick your first squad."))];
 
 export const playerLink = (season, id) => link(`player/${id}`, named(season.playerName(id)));

@@ -58,7 +58,7 @@ function toCome(season, fixtures) {
 	return table("The matches of his club", ["Against", "Kick-off", "Week#"], fixtures.map(row));
 }
 
-/** What the operator changes: price, club, and that he has left. Each is a command of its own. */
+/** What the operator changes, each by a command of its own. */
 function changes(page, season, { id, now_cost: cost, team, status }) {
 	const price = input("price", { type: "number", step: "0.1", value: (cost / 10).toFixed(1) });
 	const club = choice("club", [...season.clubs.values()].map((it) => [it.id, it.name]), team);

@@ -4,13 +4,11 @@ import { ask, button, link, make, named, quiet } from "./elements.js";
 import { bench, heading, noTeam, pitch, playerButton, strip, table, turning } from "./parts.js";
 import { CHIPS, STATS, whole } from "./words.js";
 
-/** One's own points of a gameweek, of the last locked one where none is named. */
 export async function drawPoints(page, gameweek) {
 	const { entry, started_event: first } = page.caller;
 	return first === null ? noTeam("Points") : gameweekOf(page, entry, first, gameweek, "points");
 }
 
-/** The points of any team. */
 export async function drawEntry(page, entry, gameweek) {
 	const { started_event: first, name } = await page.read(`/api/entry/${entry}/`);
 	const [title, ...others] = await gameweekOf(page, entry, first, gameweek, `entry/${entry}`);

@@ -63,12 +63,12 @@ class Season {
 		return there(this.fixtureOf.get(id));
 	}
 
-	/** The fixtures that stand in a gameweek, or in none where it is null. */
+	/** Those in a gameweek, or in none where it is null. */
 	fixturesIn(gameweek) {
 		return this.fixtures.filter((fixture) => fixture.event === gameweek);
 	}
 
-	/** The gameweeks that are open, as choices. */
+	/** As choices. */
 	openGameweeks() {
 		return this.gameweeks.filter((event) => event.id > this.current).map((event) => [event.id, event.name]);
 	}

@@ -28,9 +28,11 @@ const sum = (numbers) => numbers.reduce((total, number) => total + number, 0);
 
 /** The list of players, with a button for each who may come. */
 function market(season, name, mayCome, come) {
-	const isShown = (sort) => sort === filtersOf(name).sort || sort === "now_cost";
-	const figure = (player) => ([sort, { text, shown }]) =>
-		make(isShown(sort) ? "span" : "span.more", { title: text }, make("span.unseen", `${text} `), shown(player[sort]));
+	const figures = (content) => {
+		const isShown = (sort) => sort === filtersOf(name).sort || sort === "now_cost";
+		const one = ([sort, told]) => make(isShown(sort) ? "span" : "span.more", content(told, sort));
+		return make("span.figures", Object.entries(SORTS).map(one));
+	};
 	const row = (player) => {
 		const isGone = player.status === "u";
 		const buy = { disabled: isGone || !mayCome(player), "aria-label": `Buy ${player.web_name}` };
@@ -38,11 +40,11 @@ function market(season, name, mayCome, come) {
 			"li",
 			shirt(player.team, player.element_type === 1),
 			make("span.who", playerLink(season, player.id), make("small", shortly(season, player), isGone && ", has left")),
-			make("span.figures", Object.entries(SORTS).map(figure(player))),
+			figures(({ text, shown }, sort) => [make("span.unseen", `${text} `), shown(player[sort])]),
 			button(`buy-${player.id}`, "+", () => come(player), buy),
 		);
 	};
-	return browsing(season, name, () => make("ul.list"), row);
+	return browsing(season, name, () => make("ul.list", make("li.small", figures(({ text }) => text))), row);
 }
 
 // Transfers of a squad that stands
@@ -208,7 +210,7 @@ async function registered(page, season, squad, busy) {
 		field("Vice-captain, who stands in for him", vice),
 	);
 	const members = { players, captain: Number(captain.value), vice: Number(vice.value) };
-	if (isSure && (await page.send(busy, "/squad", members, { drafts: [SQUAD], done: "Your squad is entered." }))) {
-		location.hash = "#/team";
+	if (isSure) {
+		await page.send(busy, "/squad", members, { drafts: [SQUAD], done: "Your squad is entered.", next: () => "#/team" });
 	}
 }

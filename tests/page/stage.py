@@ -10,7 +10,7 @@ from selenium.webdriver.common.by import By
 from seasons import Generated
 from served import Program, StandIn
 
-SECONDS = 15  # the page may take
+SECONDS = 30  # the page may take, on a machine that is busy
 ARGUMENTS = ("--headless=new", "--no-sandbox", "--disable-dev-shm-usage", "--lang=en-GB", "--disable-background-timer-throttling")
 EXPECTED = ("Failed to load resource", "net::ERR_")  # what Chromium says of answers that are refusals, and of a host that is gone
 # The page's clock stands at a moment that a play tells, and goes on from there.

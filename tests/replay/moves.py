@@ -1,6 +1,6 @@
 """What is asked in a stream: each command and each view with members drawn at random, mostly such that it is done."""
 from asking import OPERATOR, Asking
-from bodies import CHIPS, LAST_MOMENT, MOST_IDS, WINDOWS
+from bodies import CHIPS, LAST_MOMENT, MOST_IDS
 from figures import COMPLETED, DEFENDER, FORWARD, GOALKEEPER, GREATEST, MIDFIELDER, POSITIONS, Line, selling_price
 from spoiling import NAMES, spoiled_member, spoiled_target
 
@@ -639,7 +639,7 @@ class Moves(OperatorMoves):
             "dream-team": self.any_gameweek,
             "element-summary": self.any_player,
         }
-        parts = self.chance.choice(list(WINDOWS)).split("/")
+        parts = self.chance.choice(self.windows).split("/")
         for place, part in enumerate(parts):
             if part == "ID":
                 of = parts[place - 1]
@@ -648,7 +648,7 @@ class Moves(OperatorMoves):
 
     def all_windows(self, share):
         """Each view below /api/ a few times, as whoever it is."""
-        for _ in range(int(4 * len(WINDOWS) * share)):
+        for _ in range(int(4 * len(self.windows) * share)):
             self.get(self.any_window(), self.chance.randint(0, len(self.host.entries)))
 
     def view(self, kind=None):
@@ -656,7 +656,7 @@ class Moves(OperatorMoves):
         chance, entries = self.chance, len(self.host.entries)
         caller = chance.randint(0, entries)
         kind = kind or chance.choice("season me me player player_gameweek fixture entry entry league league cup cup".split())
-        if self.asks_windows and chance.random() < 0.5:
+        if self.windows and chance.random() < 0.5:
             kind = "window"
         method, target, key = "GET", self.target_of(kind), self.key_of(caller)
         draw = chance.random()
@@ -695,5 +695,5 @@ class Moves(OperatorMoves):
                 self.get("/me", entry)
         if chance.random() < share:
             self.get("/season")
-        if self.asks_windows:
+        if self.windows:
             self.all_windows(share)
