@@ -6,6 +6,3 @@ mod memory;
 
 pub use listening::{Hearing, Listening, Telling};
 pub use memory::{FaultyDoors, MemoryDoors, MemorySink};
-
-#[cfg(test)]
-mod tests;

@@ -9,6 +9,3 @@ pub use memory::{FaultyShelf, MemoryShelf};
 
 /// How many bytes a file has at most.
 pub(crate) const LONGEST: usize = 4_194_304;
-
-#[cfg(test)]
-mod tests;

@@ -1,5 +1,5 @@
-use crate::{FaultyShelf, MemoryShelf};
 use fpl_base::Shelf;
+use fpl_shelves::{FaultyShelf, MemoryShelf};
 use outside_forms::Plan;
 use std::alloc::Global;
 

@@ -1,5 +1,5 @@
-use crate::{FaultyDoors, MemoryDoors};
 use fpl_base::{Doors, Sink, Source};
+use fpl_doors::{FaultyDoors, MemoryDoors};
 use outside_forms::Plan;
 use std::alloc::Global;
 
