@@ -1,5 +1,6 @@
-use Rattle.std.proofs.Common.{◌≡◌, ◌<◌, ◌∙◌, length, get_or, arith, sym, ap, subst}
+use Rattle.std.proofs.Common.{◌≡◌, ◌<◌, ◌∙◌, length, get_or, arith, sym, subst}
 use Rattle.std.specs.List.{zip}
+use Rattle.rule_book.specs.declared.line.Line.{Line}
 use Rattle.json_members.proofs.AppendLemmas.{one_more}
 use Rattle.json_members.proofs.ListLemmas.{get_or-zip, length-zip}
 use Rattle.season_book.specs.Windows.{figures_row}
@@ -10,5 +11,14 @@ loop-place-preserved c =
     let players = c.args.players.now in
     let lines = c.args.lines.now in
     let place = c.loop-place.place in
+    let player = c.index-players-place.result in
+    let line : Line = c.index-lines-place.result in
     let below : place < length players = c.loop-place-test.true in
-    ?
+    let within : place < length (zip players lines) = subst (λ n. place < n) (sym (length-zip players lines c.requires)) below in
+    let is : (player, line) ≡ get_or (zip players lines) place (player, line) =
+    (λ i. (c.index-players-place.is i, c.index-lines-place.is i)) ∙ sym (get_or-zip players lines place player line c.requires below) in
+    let wrote = c.in_ok-write_line.ensures in
+    record {
+      tokens = one_more figures_row (zip players lines) place (player, line) within is wrote c.loop-place.invariant.tokens;
+      before = wrote.before ∙ c.loop-place.invariant.before;
+    }
