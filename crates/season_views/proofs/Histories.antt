@@ -72,13 +72,12 @@ name_in_books managers e name one is players entries are =
 pub entry_seen : (facts : Facts) (managers : Managers) (entries : List EntryFacts) (e : ℕ) (row : EntryFacts) (name : List ℕ) (first : Option ℕ)
     → ArePlayers facts.players → 1 ≤ e → Some name ≡ name_by managers e → OfEachHistory facts managers e (λ h. FirstTold h first)
     → AreEntries facts.players managers.managers entries → entry_in entries e ≡ Some row → (name ≡ row.name) × (first ≡ start_of row.history)
-entry_seen facts managers entries e row name first players one is told are there =
-    (
-      name_in_books managers e name one is facts.players entries are ∙ ap (λ o. option_map_or (λ (entry : EntryFacts). entry.name) o []) there,
-      (first_is_the_start row.history first).0
+entry_seen facts managers entries e row name first players one is told are there = (
+  name_in_books managers e name one is facts.players entries are ∙ ap (λ o. option_map_or (λ (entry : EntryFacts). entry.name) o []) there,
+  (first_is_the_start row.history first).0
       (subst (λ o. FirstTold (option_map_or (λ (entry : EntryFacts). entry.history) o []) first) there
-      (in_books facts managers e (λ h. FirstTold h first) players one told entries are))
-    )
+      (in_books facts managers e (λ h. FirstTold h first) players one told entries are)),
+)
 
 -- what a result that is there has, and what follows from it
 pub if_ok : {T E : Type 0} (r : Result T E) (P Q : T → Type 0) → ((x : T) → P x → Q x) → IfOk r P → IfOk r Q

@@ -55,13 +55,13 @@ ended {r = r} {b = b} rest xs i none past wrote so before = record {
 
 -- Who a caller is.
 
+either_way : {X : Type 0} (b : Bool) (x : X) → (if b then x else x) ≡ x
+either_way true x = refl
+either_way false x = refl
+
 -- where no entry was made there is none
 pub nobody_at : (e : ℕ) → entry_in {X = EntryFacts} [] e ≡ None
-nobody_at e = either (e == 0)
-  where
-    either : (b : Bool) → (if b then None {T = EntryFacts} else None) ≡ None
-    either true = refl
-    either false = refl
+nobody_at e = either_way (e == 0) None
 
 module _ (entries : List EntryFacts) (caller : Caller) (last : ℕ) where
   pub me_nobody : entry_in entries (caller_number caller) ≡ None → me_data (own_number caller) last None None ≡ me_window entries caller last

@@ -11,6 +11,6 @@ returns g c = λ entries are row there.
     let season = c.self.inside.season.now in
     let managers = c.self.inside.managers.now in
     let one : 1 ≤ c.args.entry = search rules in
-    let players : ArePlayers season.players = subst ArePlayers c.players.ensures c.len-_count.ensures.lawful in
+    let players : ArePlayers season.players = subst ArePlayers c.players.ensures c.len-count.ensures.lawful in
     let stand : AreEntries season.players managers.managers entries = subst (λ (s : SeenSeason). AreEntries s.facts.players s.managers.managers entries) (sym c.self.view_is) are in
     entry_seen season managers entries c.args.entry row c.in-Some.name.now c.first.result players one c.in-Some.ensures (c.first.ensures.history (position_in season.players)) stand there
