@@ -108,6 +108,7 @@ eight_of (shown.EntryGameweek x) = omega arith
 eight_of (shown.Classic x) = omega arith
 eight_of (shown.Head x) = omega arith
 eight_of (shown.Cup x) = omega arith
+eight_of (shown.Page x) = omega arith
 
 pub eight : (a : Answer) → 8 ≤ reads_allowed a
 eight (answer.Shown s) = eight_of s

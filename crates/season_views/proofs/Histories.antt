@@ -7,9 +7,13 @@ use Rattle.std.proofs.lemmas.Option.{none-some, same_Some}
 use Rattle.fpl_base.specs.declared.kinds.Position.{Position}
 use Rattle.rule_book.specs.declared.player.Player.{Player}
 use Rattle.rule_book.specs.Batch.{HavePositions}
+use Rattle.rule_book.specs.Entries.{entry_in}
 use Rattle.rule_book.specs.History.{Event}
+use Rattle.rule_book.specs.HistoryRules.{FirstTold}
 use Rattle.rule_book.specs.PlayerFigures.{position_in}
 use Rattle.rule_book.specs.Players.{ArePlayers}
+use Rattle.rule_book.specs.UpTo.{start_of}
+use Rattle.rule_book.proofs.TeamFacts.{first_is_the_start}
 use Rattle.season_ledger.specs.Stands.{StandsFor}
 use Rattle.manager_book.specs.declared.manager.Manager.{Manager}
 use Rattle.manager_book.specs.Managers.{Managers, name_of as name_by, nobody, season_of}
@@ -63,6 +67,17 @@ pub name_in_books : (managers : Managers) (e : ℕ) (name : List ℕ) → 1 ≤ 
 name_in_books managers e name one is players entries are =
     named name (slice_get entries (e - 1)) (is ∙ names_at players managers.managers entries (e - 1) are)
     ∙ ap (λ b. option_map_or (λ entry. entry.name) (if b then None else slice_get entries (e - 1)) []) (some_number e one)
+
+-- what a book's entry has of its manager: his name, and the first gameweek that his rows tell
+pub entry_seen : (facts : Facts) (managers : Managers) (entries : List EntryFacts) (e : ℕ) (row : EntryFacts) (name : List ℕ) (first : Option ℕ)
+    → ArePlayers facts.players → 1 ≤ e → Some name ≡ name_by managers e → OfEachHistory facts managers e (λ h. FirstTold h first)
+    → AreEntries facts.players managers.managers entries → entry_in entries e ≡ Some row → (name ≡ row.name) × (first ≡ start_of row.history)
+entry_seen facts managers entries e row name first players one is told are there = (
+  name_in_books managers e name one is facts.players entries are ∙ ap (λ o. option_map_or (λ (entry : EntryFacts). entry.name) o []) there,
+  (first_is_the_start row.history first).0
+      (subst (λ o. FirstTold (option_map_or (λ (entry : EntryFacts). entry.history) o []) first) there
+      (in_books facts managers e (λ h. FirstTold h first) players one told entries are)),
+)
 
 -- what a result that is there has, and what follows from it
 pub if_ok : {T E : Type 0} (r : Result T E) (P Q : T → Type 0) → ((x : T) → P x → Q x) → IfOk r P → IfOk r Q

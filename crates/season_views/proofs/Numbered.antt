@@ -24,13 +24,14 @@ numbered_is xs i n is =
 pub numbered_at : {X : Type 0} (xs : List X) (i n : ℕ) → i < length xs → 1 + i ≡ n → (x : X) × (slice_get xs i ≡ Some x) × (entry_in xs n ≡ Some x)
 numbered_at xs i n below is = let there = stands xs i below in (there.0, there.1, numbered_is xs i n is ∙ there.1)
 
+-- managers stand for as many entries
+pub as_many : (players : List Player) (managers : List Manager) (entries : List EntryFacts) → AreEntries players managers entries → length managers ≡ length entries
+as_many players [] [] are = refl
+as_many players [] (entry ∷ entries) are = absurd are
+as_many players (m ∷ managers) [] are = absurd are
+as_many players (m ∷ managers) (entry ∷ entries) are = ap suc (as_many players managers entries are.1)
+
 -- so it is with the entries of a book that managers stand for
 pub entry_numbered : (players : List Player) (managers : List Manager) (entries : List EntryFacts) (i n : ℕ) → AreEntries players managers entries → i < length managers → 1 + i ≡ n
     → (entry : EntryFacts) × (slice_get entries i ≡ Some entry) × (entry_in entries n ≡ Some entry)
 entry_numbered players managers entries i n are below is = numbered_at entries i n (subst (λ m. i < m) (as_many players managers entries are) below) is
-  where
-    as_many : (players : List Player) (managers : List Manager) (entries : List EntryFacts) → AreEntries players managers entries → length managers ≡ length entries
-    as_many players [] [] are = refl
-    as_many players [] (entry ∷ entries) are = absurd are
-    as_many players (m ∷ managers) [] are = absurd are
-    as_many players (m ∷ managers) (entry ∷ entries) are = ap suc (as_many players managers entries are.1)

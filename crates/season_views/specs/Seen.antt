@@ -26,7 +26,7 @@ OfEachSeen seen Holds = OfEachBook seen.facts seen.managers Holds
 
 -- a value is written by each of these books
 abbrev pub WritesEach : SeenSeason → (List EntryFacts → Data) → Result (Unit {0}) AllocError → Written → Written → Type 0
-WritesEach seen data result old new = OfEachSeen seen (λ entries. Appends result old new (tokens_of (data entries)))
+WritesEach seen due result old new = OfEachSeen seen (λ entries. Appends result old new (tokens_of (due entries)))
 
 -- so is what a window shows, where its ids are there
 abbrev pub WritesWindow : SeenSeason → Caller → ℕ → Window → Result (Unit {0}) AllocError → Written → Written → Type 0

@@ -132,7 +132,7 @@ impl<'a, L: Ledger> Seen<'a, L> {
     pub(crate) fn rows(&self, fixture: FixtureId, steps: &mut Steps<L>) -> (&[PlayerId], &[Line])
         ensures rows { zip result.0.now result.1.now ≡ lines_of self.now.facts.matches fixture }
         ensures paired { length result.1.now ≡ length result.0.now }
-        ensures counted { steps.new ≡ steps.old + length result.0.now }
+        ensures counted { steps.new ≡ steps.old + length (lines_of self.now.facts.matches fixture) }
     {
         self.season.rows(fixture, steps)
     }

@@ -1,6 +1,6 @@
 // What windows show, written as it is read.
-ghost use Rattle.std.specs.Prelude.{◌≡◌, ◌≤◌, ◌+◌, ℕ, List, [], Some, if◌then◌else◌, IfOk, IsSome, OnErr, is_some, length, option_copied};
-ghost use Rattle.std.specs.List.{zip};
+ghost use Rattle.std.specs.Prelude.{◌≡◌, ◌≤◌, ◌+◌, ◌==◌, ℕ, List, [], Some, if◌then◌else◌, IfOk, IsSome, OnErr, is_some, length, option_copied};
+ghost use Rattle.std.specs.List.{list_any, zip};
 ghost use Rattle.std.specs.Option.{option_map};
 ghost use Rattle.serde_json.specs.Written.{compact_text};
 ghost use Rattle.json_members.specs.Members.{count};
@@ -269,9 +269,16 @@ fn is_own(league: &League, caller: &Caller) -> bool
     ensures { result ≡ is_member league.now (caller_number caller.now) }
 {
     match caller {
-        Caller::Operator => false,
+        Caller::Operator => has_number(league.members(), 0),
         Caller::Entry(entry) => league.is_member(*entry),
     }
+}
+
+// Whether one of the members has this number.
+fn has_number(members: &[EntryId], number: u32) -> bool
+    ensures { result ≡ list_any (λ member. member == number) members.now }
+{
+    members.iter().any(|member| member.get() == number)
 }
 
 fn write_league(out: &mut Writer, id: LeagueId, league: &League) -> Result<(), AllocError>
