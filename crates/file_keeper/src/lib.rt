@@ -3,5 +3,7 @@
 
 mod keeper;
 mod opened;
+mod over;
 
 pub use keeper::{FileKeeper, file_at};
+pub use over::{OverKeeper, over_file, over_file_behind};

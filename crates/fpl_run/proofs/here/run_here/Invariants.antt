@@ -1,4 +1,4 @@
-use Rattle.fpl_host.proofs.kept.Given as goal
+use Rattle.fpl_run.proofs.here.run_here.Given as goal
 
 abbrev pub ghosts-counted : goal.ghosts-counted
 ghosts-counted a b = record { name = b.blank.name; parts = b.blank.parts }
