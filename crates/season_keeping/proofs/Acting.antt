@@ -24,7 +24,7 @@ use Rattle.season_records.specs.Touched.{touched}
 use Rattle.season_rows.specs.Laws.{RowsTellRecords}
 use Rattle.season_running.specs.EntryLaws.{IsOrderlyHost}
 use Rattle.season_running.specs.Standing.{Follows, HostRows, StandsIn}
-use Rattle.season_keeping.specs.Answering.{Commits, EndsCommit, LeadsOn, StopsEnding, WouldAct}
+use Rattle.season_keeping.specs.Answering.{Commits, EndsCommit, HoldsKept, LeadsOn, StopsEnding, WouldAct}
 use Rattle.season_keeping.specs.Housed.{Backs, Housed}
 use Rattle.season_keeping.proofs.Ending.{acts_of, granted_of, leads_map, verdict_of}
 use Rattle.season_keeping.proofs.Leading.{commit_leads, commit_stops}
@@ -122,12 +122,12 @@ module _ (keep : CommandsKeepRecords) (early : VerdictsAreEarly) (orders : Verdi
 
   pub acted_stops : old.stale ≡ false → StopsEnding operator tells holds passes before after old book caller now asked
   acted_stops fresh tell_on backs x passed = either (commit_stops T K tells serves holds passes before after slots looks old mid new book behind
-      (tell mid.rows behind orderly stood) leads_slots stood result commits fresh tell_on backs x passed)
+      (tell mid.rows behind orderly stood) leads_slots stood keepable result commits fresh tell_on backs x passed)
     where
-      either : (x ≡ records book) ⊎ (x ≡ records behind)
-          → (x ≡ records book) ⊎ ((due : Answer) × (left : Book) × IsVerdictIn operator book caller now asked (record { answer = due; book = left }) × (x ≡ records left))
+      either : (x ≡ records book) ⊎ ((x ≡ records behind) × IsKeepable behind)
+          → (x ≡ records book) ⊎ ((due : Answer) × (left : Book) × IsVerdictIn operator book caller now asked (record { answer = due; book = left }) × IsKeepable left × (x ≡ records left))
       either (inl was) = inl was
-      either (inr is) = inr (answer.Done number accepts.0.made, done, verdict, is ∙ ap records accepts.3)
+      either (inr (is, kept)) = inr (answer.Done number accepts.0.made, done, verdict, subst IsKeepable accepts.3 kept, is ∙ ap records accepts.3)
 
 -- One thing and then another.
 
@@ -178,14 +178,19 @@ followed own rows new caller now number command reply slots is =
 
 -- What a stop leaves behind both.
 
-pub left_of_commit : (operator : List ℕ) (book : Book) (caller : Caller) (now : ℕ) (asked : Request) (x : Map)
-    → (x ≡ records book) ⊎ (x ≡ records (pass book now)) → HoldsLeft operator book caller now asked x
-left_of_commit operator book caller now asked x (inl was) = (book, inl refl, was)
-left_of_commit operator book caller now asked x (inr is) = (pass book now, inr (inl refl), is)
+pub kept_of_commit : (operator : List ℕ) (book : Book) (caller : Caller) (now : ℕ) (asked : Request) (x : Map) → IsKeepable book
+    → (x ≡ records book) ⊎ ((x ≡ records (pass book now)) × IsKeepable (pass book now)) → HoldsKept operator book caller now asked x
+kept_of_commit operator book caller now asked x keepable (inl was) = (book, inl refl, keepable, was)
+kept_of_commit operator book caller now asked x keepable (inr (is, kept)) = (pass book now, inr (inl refl), kept, is)
 
-pub left_of_ending : (operator : List ℕ) (book : Book) (caller : Caller) (now : ℕ) (asked : Request) (x : Map)
+pub kept_of_ending : (operator : List ℕ) (book : Book) (caller : Caller) (now : ℕ) (asked : Request) (x : Map) → IsKeepable (pass book now)
     → (x ≡ records (pass book now))
-    ⊎ ((due : Answer) × (left : Book) × IsVerdictIn operator (pass book now) caller now asked (record { answer = due; book = left }) × (x ≡ records left))
-    → HoldsLeft operator book caller now asked x
-left_of_ending operator book caller now asked x (inl was) = (pass book now, inr (inl refl), was)
-left_of_ending operator book caller now asked x (inr (due, left, verdict, is)) = (left, inr (inr (due, verdict)), is)
+    ⊎ ((due : Answer) × (left : Book) × IsVerdictIn operator (pass book now) caller now asked (record { answer = due; book = left }) × IsKeepable left × (x ≡ records left))
+    → HoldsKept operator book caller now asked x
+kept_of_ending operator book caller now asked x keepable (inl was) = (pass book now, inr (inl refl), keepable, was)
+kept_of_ending operator book caller now asked x keepable (inr (due, left, verdict, kept, is)) = (left, inr (inr (due, verdict)), kept, is)
+
+-- which are the records of a book that may be left
+pub left_of_kept : (operator : List ℕ) (book : Book) (caller : Caller) (now : ℕ) (asked : Request) (x : Map)
+    → HoldsKept operator book caller now asked x → HoldsLeft operator book caller now asked x
+left_of_kept operator book caller now asked x (left, may, kept, is) = (left, may, is)

@@ -1,5 +1,5 @@
 -- A commit of the batch that rows tell, by what its keeper says.
-use Rattle.std.proofs.Common.{◌≡◌, ◌∙◌, ◌⊎◌, List, Err, Result, OnErr, OnOk, ap, subst, true}
+use Rattle.std.proofs.Common.{◌≡◌, ◌∙◌, ◌⊎◌, List, Err, Result, OnErr, OnOk, ap, inr, subst, true}
 use Rattle.fpl_base.specs.Keeping.{Map, applied}
 use Rattle.fpl_base.specs.declared.outside.KeeperFault.{KeeperFault}
 use Rattle.fpl_base.specs.declared.outside.KeeperFault.TheVariants as fault
@@ -37,6 +37,7 @@ module _ (T K : Type 0) (tells serves : K → Type 0) (holds passes : K → Map 
         kept = said.kept;
         stops = said.stops;
         items = λ _. subst (λ (r : HostRows). TellItemsBy r slots) is items;
+        asked = inr (subst (λ (r : HostRows). TellItemsBy r slots) is items);
       }
 
   -- the same slots

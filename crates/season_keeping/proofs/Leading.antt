@@ -95,9 +95,11 @@ module _ (T K : Type 0) (tells serves : K → Type 0) (holds passes : K → Map 
       by_records = λ tell_on serve backs. commit_by_records result c tell_on serve backs;
     }
 
-  pub commit_stops : (result : Result T KeeperFault) → Committed result → first.stale ≡ false → StopsCommit tells holds passes before after first book behind
-  commit_stops result c fresh tell_on backs x passed = either (c.stops tell_on (records book) backs.held x passed)
-    where
-      either : passes before x ⊎ (x ≡ applied (records book) (batch (told_by old.rows) slots)) → (x ≡ records book) ⊎ (x ≡ records behind)
-      either (inl was) = inl (backs.alone fresh x was)
-      either (inr is) = inr (is ∙ committed_map backs.keepable)
+    pub commit_stops : (result : Result T KeeperFault) → Committed result → first.stale ≡ false → StopsCommit tells holds passes before after first book behind
+    commit_stops result c fresh tell_on backs x passed = either (c.stops tell_on (records book) backs.held x passed) c.asked
+      where
+        either : passes before x ⊎ (x ≡ applied (records book) (batch (told_by old.rows) slots)) → (after ≡ before) ⊎ TellItemsBy old.rows slots
+            → (x ≡ records book) ⊎ ((x ≡ records behind) × IsKeepable behind)
+        either (inl was) asked = inl (backs.alone fresh x was)
+        either (inr is) (inl same) = inl (backs.alone fresh x (subst (λ (k : K). passes k x) same passed))
+        either (inr is) (inr items) = inr (is ∙ committed_map backs.keepable, keep backs.keepable (items_of items))

@@ -6,3 +6,4 @@ pub mod Committing
 pub mod Loading
 pub mod Wanting
 pub mod Counting
+pub mod Restarting

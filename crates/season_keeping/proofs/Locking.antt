@@ -93,7 +93,7 @@ module _ (early : MomentsAreEarly) (orders : MomentsKeepOrder) (items : LockedIt
       locked_stops result c fresh book stands =
           let here = stands_passed book stands in
           commit_stops T K tells serves holds passes before after locked_slots looks old mid new book (pass book now)
-          (tell mid.rows (pass book now) orderly here) (λ _. keep book now) here result c fresh
+          (tell mid.rows (pass book now) orderly here) (λ _. keep book now) here (λ was _. keepable_pass mid.rows book now here was) result c fresh
 
     -- none more is locked: the book stays, and nothing is committed
     module _ (same : after ≡ before) (fresh : old.stale ≡ mid.stale) (stays : (book : Book) → StandsIn old.rows book → pass book now ≡ book) where

@@ -6,7 +6,7 @@ use Rattle.fpl_base.specs.declared.kinds.Caller.{Caller}
 use Rattle.fpl_base.specs.declared.outside.KeeperFault.{KeeperFault}
 use Rattle.fpl_base.specs.declared.outside.KeeperFault.TheVariants as fault
 use Rattle.season_book.specs.Book.{Book}
-use Rattle.season_book.specs.Verdict.{Failures, IsVerdict, IsVerdictIn, Verdict}
+use Rattle.season_book.specs.Verdict.{Failures, IsVerdict, IsVerdictIn, MayBeLeft, Verdict}
 use Rattle.season_book.specs.declared.answer.Answer.{Answer}
 use Rattle.season_book.specs.declared.answer.Answer.TheVariants as answer
 use Rattle.season_book.specs.declared.request.Request.{Request}
@@ -21,6 +21,7 @@ use Rattle.season_cells.specs.Kept.{CellRows}
 use Rattle.season_host.specs.Cells.{AreCorrected, IsCheapCommand, IsCheapNow, running_in}
 use Rattle.season_running.specs.Standing.{HostRows, StandsIn}
 use Rattle.season_views.specs.Reads.{view_reads}
+use Rattle.season_opening.specs.Opening.{IsKeepable}
 use Rattle.season_keeping.specs.Housed.{Backs, Housed}
 
 -- Answers.
@@ -59,11 +60,22 @@ abbrev pub StopsLeave : {K : Type 0} → List ℕ → (K → Type 0) → (K → 
 StopsLeave operator tells holds passes before after old book caller now request =
     tells after → Backs holds passes before old book → (x : Map) → passes after x → HoldsLeft operator book caller now request x
 
+-- the map holds the records of a book that the request may leave where memory ran out or the keeper failed, and that can be
+-- made anew of them
+abbrev pub HoldsKept : List ℕ → Book → Caller → ℕ → Request → Map → Type 0
+HoldsKept operator book caller now asked m = (left : Book) × MayBeLeft operator book caller now asked left × IsKeepable left × (m ≡ records left)
+
+-- and so it is of what a stop leaves behind a request
+abbrev pub StopsKeep : {K : Type 0} → List ℕ → (K → Type 0) → (K → Map → Type 0) → (K → Map → Type 0) → K → K → Housed → Book → Caller → ℕ → Request → Type 0
+StopsKeep operator tells holds passes before after old book caller now request =
+    tells after → Backs holds passes before old book → (x : Map) → passes after x → HoldsKept operator book caller now request x
+
 -- The parts of a request: a commit, the moment's locks, and what is answered in the book in which these are.
 
 -- what some slots tell was committed: the rows stay, and where the commit did not go well the host is stale. After Ok the
 -- keeper holds what it held with the commit, and a stop leaves that alone; after want of memory it holds what it held, and
--- where it failed one of the two. Unless memory ran out, what was told of the slots has values in their ranges
+-- where it failed one of the two. Unless memory ran out, what was told of the slots has values in their ranges; and so it has
+-- wherever the keeper was asked
 pub record Commits {T K : Type 0} (tells serves : K → Type 0) (holds passes : K → Map → Type 0) (before after : K) (slots : List Slot) (old new : Housed) (result : Result T KeeperFault) : Type 0 where
   pub rows : new.rows ≡ old.rows
   pub reread : new.reread ≡ old.reread
@@ -75,16 +87,17 @@ pub record Commits {T K : Type 0} (tells serves : K → Type 0) (holds passes : 
   pub kept : result ≡ Err fault.Memory → tells after → serves after → (m : Map) → holds before m → holds after m
   pub stops : tells after → (m : Map) → holds before m → (x : Map) → passes after x → passes before x ⊎ (x ≡ applied m (batch (told_by old.rows) slots))
   pub items : (result ≡ Err fault.Memory → ⊥) → TellItemsBy old.rows slots
+  pub asked : (after ≡ before) ⊎ TellItemsBy old.rows slots
 
 -- what is left of a commit that leads from a book to another: the other, or where it did not go well one of the two
 abbrev pub EndsCommit : {T : Type 0} → Result T KeeperFault → Book → Book → Book → Type 0
 EndsCommit (Ok done) book behind left = left ≡ behind
 EndsCommit (Err fault) book behind left = (left ≡ book) ⊎ (left ≡ behind)
 
--- what a stop leaves behind such a commit are the records of one of the two
+-- what a stop leaves behind such a commit are the records of one of the two, and the other one can be made anew of them
 abbrev pub StopsCommit : {K : Type 0} → (K → Type 0) → (K → Map → Type 0) → (K → Map → Type 0) → K → K → Housed → Book → Book → Type 0
 StopsCommit tells holds passes before after old book behind =
-    tells after → Backs holds passes before old book → (x : Map) → passes after x → (x ≡ records book) ⊎ (x ≡ records behind)
+    tells after → Backs holds passes before old book → (x : Map) → passes after x → (x ≡ records book) ⊎ ((x ≡ records behind) × IsKeepable behind)
 
 -- memory ran out, or the keeper failed, whose count then rose meanwhile
 abbrev pub Fails : Failures → Answer → Type 0
@@ -103,12 +116,12 @@ abbrev pub WouldAct : List ℕ → Book → Caller → ℕ → Request → Type 
 WouldAct operator book caller now request =
     (verdict : Verdict) → IsVerdictIn operator book caller now request verdict → verdict.book.lasts ≡ book.lasts → ⊥
 
--- and what a stop leaves are the records of the book, or of a verdict's
+-- and what a stop leaves are the records of the book, or of a verdict's that can be made anew of them
 abbrev pub StopsEnding : {K : Type 0} → List ℕ → (K → Type 0) → (K → Map → Type 0) → (K → Map → Type 0) → K → K → Housed → Book → Caller → ℕ → Request → Type 0
 StopsEnding operator tells holds passes before after old book caller now request =
     tells after → Backs holds passes before old book → (x : Map) → passes after x
     → (x ≡ records book)
-    ⊎ ((due : Answer) × (left : Book) × IsVerdictIn operator book caller now request (record { answer = due; book = left }) × (x ≡ records left))
+    ⊎ ((due : Answer) × (left : Book) × IsVerdictIn operator book caller now request (record { answer = due; book = left }) × IsKeepable left × (x ≡ records left))
 
 -- some verdict in that book leaves each caller's last command as it is: the request is refused or repeated, or it is a view
 abbrev pub MayRest : List ℕ → Book → Caller → ℕ → Request → Type 0

@@ -1,3 +1,4 @@
 pub mod Housed
 pub mod Answering
 pub mod Opening
+pub mod Restarting

@@ -15,7 +15,7 @@ ghost use Rattle.season_running.specs.Standing.{StandsIn, keys_in, number_at, pa
 ghost use Rattle.season_opening.specs.declared.loading.OpenFault.TheVariants as fault;
 ghost use Rattle.season_host.specs.Accepted.{locks_more};
 ghost use Rattle.season_host.specs.Cells.{AreCellsOfHost, AreCorrected, IsCheapCommand, IsCheapNow, running_in};
-ghost use Rattle.season_keeping.specs.Answering.{Answers, AreCorrectedBoth, Commits, CountsFew, EndsCommit, IsCaused, IsCheapRequest, LeavesAll, MayEnd, MayRest, ReadsFew, StopsEnding, StopsLeave, StopsCommit, WouldAct, WouldChange, answer_of_fault};
+ghost use Rattle.season_keeping.specs.Answering.{Answers, AreCorrectedBoth, Commits, CountsFew, EndsCommit, IsCaused, IsCheapRequest, LeavesAll, MayEnd, MayRest, ReadsFew, StopsEnding, StopsKeep, StopsLeave, StopsCommit, WouldAct, WouldChange, answer_of_fault};
 ghost use Rattle.season_keeping.specs.Housed.{Backs};
 ghost use Rattle.season_keeping.specs.Opening.{HoldsOn, Opens, Withholds};
 
@@ -239,6 +239,9 @@ impl Host {
             → CountsFew request.now steps.old steps.new }
         ensures stops { (book : Book) → StandsIn self.old.rows book
             → StopsLeave self.old.rows.operator K.tells K.holds K.passes keeper.old keeper.new
+            self.old book caller now request.now }
+        ensures restarts { (book : Book) → StandsIn self.old.rows book
+            → StopsKeep self.old.rows.operator K.tells K.holds K.passes keeper.old keeper.new
             self.old book caller now request.now }
         ensures caused { IsCaused
             (record { before = K.faults keeper.old; behind = K.faults keeper.new }) result }

@@ -2,5 +2,7 @@
 #![tactic(auto)]
 
 mod host;
+mod laws;
 
 pub use host::Host;
+pub use laws::stops_restart;

@@ -1,6 +1,7 @@
 pub mod AnswerFacts
 pub mod ChangedFacts
 pub mod HostFacts
+pub mod JudgedFacts
 pub mod LastFacts
 pub mod MoneyFacts
 pub mod RuledFacts

@@ -19,6 +19,7 @@ ghost use Rattle.season_competitions.specs.Leagues.{IsLeagueGranted};
 ghost use Rattle.season_entries.specs.Deeds.{IsDeedGranted};
 ghost use Rattle.season_entries.specs.Keys.{keys_of};
 ghost use Rattle.season_book.specs.Hosts.{entry_with};
+ghost use Rattle.season_facts.specs.Judged.{CountsJudged};
 ghost use Rattle.season_running.specs.Accepting.{HasRoom, IsDone, IsGrantedTo, IsRefusal, IsRuled, made_by};
 ghost use Rattle.season_running.specs.Changed.{IsChangedBy};
 ghost use Rattle.season_running.specs.Kept.{AreKeptBy};
@@ -192,6 +193,7 @@ impl RunningSeason {
             → IsRuled (ruled operator.now book caller.now now command.now) result }
         ensures refusal { IfErr result IsRefusal }
         ensures counted { steps.new ≤ steps.old + 1 }
+        ensures exact { CountsJudged command.now result steps.old steps.new }
     {
         match command.part() {
             Part::Facts => self.season.judge(now, command, steps),

@@ -77,7 +77,7 @@ returns-in-Window-clause-shown g c =
     let running = c.in-Some.running in
     let plays = stood_for c.args.self.now c.self.inside.operator c.self.inside.running c.self.inside.lasts running book c.self.view_is c.in-Some.is stands in
     seen_answered book c.args.caller.now (view.Window c.in-Window.window) running.facts c.window.result plays.facts
-    (c.window.ensures.seen book plays (last_is c.self.inside.operator c.self.inside.running c.self.inside.lasts c.args.self.now book c.args.caller.now c.number.result c.self.view_is c.number.ensures stands)))
+    (c.window.ensures.seen book plays (last_is c.self.inside.operator c.self.inside.running c.self.inside.lasts c.args.self.now book c.args.caller.now c.number-in-Window.result c.self.view_is c.number-in-Window.ensures stands)))
 
 pub returns-in-Window-clause-cost : goal.returns-in-Window-clause-cost
 returns-in-Window-clause-cost g c =

@@ -2,12 +2,11 @@ use Rattle.std.proofs.Common.{◌⊎◌, ◌≡◌, ℕ, List, ap, subst, sym}
 use Rattle.season_book.specs.Doing.{IsOutLate}
 use Rattle.season_book.specs.Verdict.{Failures, MayAnswer, pass}
 use Rattle.season_book.specs.declared.answer.Answer.{Answer}
-use Rattle.season_records.specs.Commits.{HoldsLeft}
 use Rattle.season_running.specs.Standing.{HostRows}
 use Rattle.season_host.specs.Accepted.{locks_more}
-use Rattle.season_keeping.specs.Answering.{AreCorrectedBoth, IsCaused, MayEnd, MayRest, ReadsFew, WouldChange}
+use Rattle.season_keeping.specs.Answering.{AreCorrectedBoth, HoldsKept, IsCaused, MayEnd, MayRest, ReadsFew, WouldChange}
 use Rattle.season_keeping.proofs.Counting.{cheap_from, few_from, leaves_from}
-use Rattle.season_keeping.proofs.Acting.{backs_between, left_of_commit, left_of_ending, stands_between, then_leads}
+use Rattle.season_keeping.proofs.Acting.{backs_between, kept_of_commit, kept_of_ending, left_of_kept, stands_between, then_leads}
 use Rattle.season_keeping.proofs.Ending.{caused_fault, change_of_act, change_of_lock, fails_by, leads_map, may_behind, may_of_lock, ok_is}
 use Rattle.season_keeping.proofs.Leading.{is_fresh}
 use Rattle.season_keeping.proofs.host.Host.answer.Goals as goal
@@ -118,8 +117,8 @@ pub returns-in-Err-clause-changes : goal.returns-in-Err-clause-changes
 returns-in-Err-clause-changes g c = λ is book stands.
     change_of_lock c.args.self.now.rows.operator book c.args.caller c.args.now c.args.request.now (c.in-Err.ensures.locks book stands)
 
-pub returns-in-Ok-clause-stops : goal.returns-in-Ok-clause-stops
-returns-in-Ok-clause-stops g c = λ book stands tell backs x passed.
+pub returns-in-Ok-clause-restarts : goal.returns-in-Ok-clause-restarts
+returns-in-Ok-clause-restarts g c = λ book stands tell backs x passed.
     let old = c.args.self.now in
     let mid = c.lock.new.self in
     let new = c.answer_locked.new.self in
@@ -133,12 +132,20 @@ returns-in-Ok-clause-stops g c = λ book stands tell backs x passed.
     c.in-Ok.ensures.ok c.answer_locked.ensures.told c.answer_locked.ensures.served one in
     let held = backs_between _ g.K.Keeper.tells g.K.Keeper.serves g.K.Keeper.holds g.K.Keeper.passes first middle last old mid new book here
     c.in-Ok.ensures.ok c.answer_locked.ensures.told c.answer_locked.ensures.served one tell backs in
-    subst (λ (operator : List ℕ). HoldsLeft operator book c.args.caller c.args.now c.args.request.now x) own
-    (left_of_ending mid.rows.operator book c.args.caller c.args.now c.args.request.now x (c.answer_locked.ensures.stops here stood tell held x passed))
+    subst (λ (operator : List ℕ). HoldsKept operator book c.args.caller c.args.now c.args.request.now x) own
+    (kept_of_ending mid.rows.operator book c.args.caller c.args.now c.args.request.now x held.keepable (c.answer_locked.ensures.stops here stood tell held x passed))
+
+pub returns-in-Err-clause-restarts : goal.returns-in-Err-clause-restarts
+returns-in-Err-clause-restarts g c = λ book stands tell backs x passed.
+    kept_of_commit c.args.self.now.rows.operator book c.args.caller c.args.now c.args.request.now x backs.keepable (c.in-Err.ensures.stops book stands tell backs x passed)
+
+pub returns-in-Ok-clause-stops : goal.returns-in-Ok-clause-stops
+returns-in-Ok-clause-stops g c = λ book stands tell backs x passed.
+    left_of_kept c.args.self.now.rows.operator book c.args.caller c.args.now c.args.request.now x (returns-in-Ok-clause-restarts g c book stands tell backs x passed)
 
 pub returns-in-Err-clause-stops : goal.returns-in-Err-clause-stops
 returns-in-Err-clause-stops g c = λ book stands tell backs x passed.
-    left_of_commit c.args.self.now.rows.operator book c.args.caller c.args.now c.args.request.now x (c.in-Err.ensures.stops book stands tell backs x passed)
+    left_of_kept c.args.self.now.rows.operator book c.args.caller c.args.now c.args.request.now x (returns-in-Err-clause-restarts g c book stands tell backs x passed)
 
 pub returns-in-Ok-clause-caused : goal.returns-in-Ok-clause-caused
 returns-in-Ok-clause-caused g c =

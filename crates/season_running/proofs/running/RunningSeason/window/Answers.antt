@@ -22,11 +22,11 @@ returns-clause-seen g c = λ book plays is_last.
     let here : Plays running book = subst (λ r. Plays r book) (sym c.self.view_is) plays in
     let caller = c.args.caller.now in
     let due : Option Data = window_data season book.entries running.leagues running.cups caller c.args.last c.args.asked in
-    let value = subst (λ (s : SeenSeason). IfOk c.window.result (λ page. OfEachSeen s (λ entries. page ≡ option_map compact_text (window_data s.facts entries s.leagues s.cups caller c.args.last c.args.asked)))) c.of.ensures c.window.ensures.value in
+    let value = subst (λ (s : SeenSeason). IfOk c.window.result (λ page. OfEachSeen s (λ entries. page ≡ option_map compact_text (window_data s.facts entries s.leagues s.cups caller c.args.last c.args.asked)))) c.of-seen.ensures c.window.ensures.value in
     let told : IfOk c.window.result (λ page. page ≡ option_map compact_text due) =
     if_ok (λ page. (entries : List EntryFacts) → AreEntries season.players managers.managers entries → page ≡ option_map compact_text (window_data season entries running.leagues running.cups caller c.args.last c.args.asked))
     (λ page. page ≡ option_map compact_text due) c.window.result (λ page each. each book.entries here.entries) value in
-    let out = subst (λ (s : SeenSeason). OfEachSeen s (λ entries. OnErr c.window.result (IsSome (window_data s.facts entries s.leagues s.cups caller c.args.last c.args.asked)))) c.of.ensures c.window.ensures.out in
+    let out = subst (λ (s : SeenSeason). OfEachSeen s (λ entries. OnErr c.window.result (IsSome (window_data s.facts entries s.leagues s.cups caller c.args.last c.args.asked)))) c.of-seen.ensures c.window.ensures.out in
     let facts = ap (λ (r : Running). r.facts) c.self.view_is in
     let leagues = sym here.leagues in
     let cups = sym here.cups in
@@ -38,5 +38,5 @@ returns-clause-seen g c = λ book plays is_last.
 pub returns-clause-cost : goal.returns-clause-cost
 returns-clause-cost g c =
     let facts = ap (λ (r : Running). r.facts) c.self.view_is in
-    let of : c.of.result.facts ≡ c.args.self.now.facts = ap (λ (s : SeenSeason). s.facts) c.of.ensures ∙ facts in
+    let of : c.of-seen.result.facts ≡ c.args.self.now.facts = ap (λ (s : SeenSeason). s.facts) c.of-seen.ensures ∙ facts in
     subst (λ f. c.window.new.steps ≤ c.args.steps.now + window_reads f c.args.asked) of c.window.ensures.cost
