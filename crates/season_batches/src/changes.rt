@@ -1,5 +1,5 @@
 // The change of one record.
-ghost use Rattle.std.specs.Prelude.{◌≡◌, None, Some, IfOk, IsTrue};
+ghost use Rattle.std.specs.Prelude.{◌≡◌, ◌<◌, None, Some, IfOk, IsTrue, OnErr};
 ghost use Rattle.record_codec.specs.Items.{is_item, slot_of_item};
 ghost use Rattle.season_batches.specs.Batches.{Keeps};
 ghost use Rattle.season_records.specs.Touched.{op_of};
@@ -25,9 +25,10 @@ pub fn delete(slot: Slot) -> Op
 }
 
 // A price as two bytes, which tell it: no player costs more than 20.0 million. One that they can't tell is answered as want
-// of memory, so that no other price is ever kept.
+// of memory, so that no other price is ever kept; every other price is told.
 pub fn price_told(price: Tenths) -> Result<u16, Memory>
-    ensures { IfOk result (λ told. told ≡ price) }
+    ensures told { IfOk result (λ told. told ≡ price) }
+    ensures whole { OnErr result (65535 < price) }
 {
     match u16::try_from(price.get()) {
         Ok(told) => Ok(told),
