@@ -1,5 +1,5 @@
 // Work over the keeper of a file, which names none of its types.
-use crate::keeper::{FileKeeper, file_at};
+use crate::keeper::{file_at, file_behind};
 use fpl_base::{Keeper, Text};
 use sqlite::Unknown;
 
@@ -24,5 +24,5 @@ pub fn over_file<W: OverKeeper>(rt: &HostRuntime, path: Text, work: W) -> u8
 pub fn over_file_behind<W: OverKeeper>(rt: &HostRuntime, path: Text, work: W) -> u8
     requires { W.may work }
 {
-    work.over(&mut FileKeeper::shut(rt, path))
+    work.over(&mut file_behind(rt, path))
 }

@@ -31,7 +31,7 @@ host_with now book = record { operator = now.kept.host.rows.operator; book = boo
 
 -- Looks.
 
--- a caller asks a view, whose answer in the book allows so many reads
+-- a caller asks a view, which makes so many counted reads in the book at most
 abbrev pub IsViewOf : Book → Caller → Request → ℕ → Type 0
 IsViewOf book caller (request.View view) most = most ≡ view_reads book caller view
 IsViewOf book caller (request.Command number command) most = ⊥
