@@ -1,7 +1,7 @@
 // Work over the keeper of a file, which names none of its types.
 use crate::keeper::{file_at, file_behind};
 use fpl_base::{Keeper, Text};
-use sqlite::Unknown;
+use sqlite::{File, FileStore, Unknown};
 
 /// What is done over a keeper of any kind, and answers an exit status.
 pub trait OverKeeper {
@@ -24,5 +24,5 @@ pub fn over_file<W: OverKeeper>(rt: &HostRuntime, path: Text, work: W) -> u8
 pub fn over_file_behind<W: OverKeeper>(rt: &HostRuntime, path: Text, work: W) -> u8
     requires { W.may work }
 {
-    work.over(&mut file_behind(rt, path))
+    work.over(&mut file_behind::<FileStore<File>>(rt, path))
 }
