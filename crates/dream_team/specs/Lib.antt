@@ -1,0 +1,2 @@
+pub mod Dreams
+pub mod Elevens

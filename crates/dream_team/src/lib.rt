@@ -1,0 +1,6 @@
+//! The team of the week (docs/RULES.md, "Team of the week"): the legal eleven with the most points.
+#![tactic(auto)]
+
+mod dream;
+
+pub use dream::{Dream, dream_team};
