@@ -1,2 +1,3 @@
 pub mod Dreams
 pub mod Elevens
+pub mod Pools

@@ -1,9 +1,13 @@
 // The best legal eleven of players with points.
-ghost use Rattle.std.specs.Prelude.{◌≤◌, length, map, All, IfNone, IfOk, IfSome};
+ghost use Rattle.std.specs.Prelude.{◌≡◌, ◌≤◌, ◌+◌, true, length, map, take, drop, ◌++◌, All, IfNone, IfOk, IfSome};
 ghost use Rattle.rule_book.specs.FigureRange.{IsWithin};
+ghost use Rattle.rule_book.specs.Lineups.{is_formation};
 ghost use Rattle.rule_book.specs.Ranks.{AllDiffer};
 ghost use Rattle.dream_team.specs.Dreams.{HasNoEleven, IsDream};
+ghost use Rattle.dream_team.specs.Pools.{first_of, has_enough, pool_of};
 
+use crate::formations::{Best, best_of};
+use crate::pools::{Candidate, Pools, make_pools};
 use fpl_base::{Memory, PlayerId, Position};
 use std::alloc::Global;
 
@@ -30,6 +34,48 @@ pub fn dream_team(
     ensures some { IfOk result (λ team. IfSome team (IsDream rows.now)) }
     ensures none { IfOk result (λ team. IfNone team (HasNoEleven rows.now)) }
 {
-    let _rows: Vec<(PlayerId, Position, i32)> = Vec::from_slice(alloc, rows)?;
-    Err(Memory)
+    let pools = make_pools(alloc, rows)?;
+    match best_of(&pools) {
+        Some(best) => Ok(Some(dream_of(&pools, &best))),
+        None => Ok(None),
+    }
+}
+
+// The team of the best of each position in a formation.
+fn dream_of(pools: &Pools, best: &Best) -> Dream
+    requires formation { is_formation best.now.defenders best.now.midfielders best.now.forwards ≡ true }
+    requires enough { has_enough (pool_of pools.now) best.now.defenders best.now.midfielders best.now.forwards
+        ≡ true }
+    ensures players { result.players ≡ map (λ row. row.0) (first_of
+        (pool_of pools.now) best.now.defenders best.now.midfielders best.now.forwards) }
+    ensures defenders { result.defenders ≡ best.now.defenders }
+    ensures midfielders { result.midfielders ≡ best.now.midfielders }
+    ensures forwards { result.forwards ≡ best.now.forwards }
+    ensures total { result.total ≡ best.now.total }
+{
+    let d = best.defenders as usize;
+    let m = best.midfielders as usize;
+    let f = best.forwards as usize;
+    let mut players = [pools.keepers[0].player; 11];
+    put(&mut players, 1, &pools.defenders[..d]);
+    put(&mut players, 1 + d, &pools.midfielders[..m]);
+    put(&mut players, 1 + d + m, &pools.forwards[..f]);
+    Dream {
+        players,
+        defenders: best.defenders,
+        midfielders: best.midfielders,
+        forwards: best.forwards,
+        total: best.total,
+    }
+}
+
+// Puts candidates in the places from this one on.
+fn put(players: &mut [PlayerId; 11], from: usize, candidates: &[Candidate])
+    requires { from + length candidates.now ≤ 11 }
+    ensures { players.new ≡ take from players.old ++ (map (λ candidate. candidate.player)
+        candidates.now ++ drop (from + length candidates.now) players.old) }
+{
+    for (place, candidate) in candidates.iter().enumerate() {
+        players[from + place] = candidate.player;
+    }
 }

@@ -2,5 +2,7 @@
 #![tactic(auto)]
 
 mod dream;
+mod formations;
+mod pools;
 
 pub use dream::{Dream, dream_team};

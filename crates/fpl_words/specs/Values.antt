@@ -72,6 +72,14 @@ profile_or_first (Some text) = profile_named text
 abbrev pub profile : List Row → Option Profile
 profile given = profile_or_first (first_of (codes "profile") given)
 
+abbrev pub length_or_full : Option Text → Option ℕ
+length_or_full None = Some 90
+length_or_full (Some text) = number_in 1 120 text
+
+-- how many minutes a match has, 90 where nothing is said
+abbrev pub match_length : List Row → Option ℕ
+match_length given = length_or_full (first_of (codes "length") given)
+
 -- what is said where an option that it does not need is not given
 abbrev pub without : {T : Type 0} → Text → List Row → Option T → Option T
 without name given said = if is_some (first_of name given) then None else said
