@@ -1,24 +1,24 @@
 -- The candidates for a position, collected and sorted.
-use Rattle.std.proofs.Common.{◌≡◌, ◌≢◌, ◌∙◌, sym, refl, ap, subst, suc, zero, ℕ, ◌+◌, ◌<◌, ◌≤◌, ℤ, pos, ◌+ℤ◌, Bool, true, false, ◌&&◌, ◌||◌, ◌==◌, cond, List, [], ◌∷◌, ◌++◌, length, map, filter, take, get_or, nat_lt, int_lt, arith, All, AllPairs, IsPermutation, IsSorted, eqb}
+use Rattle.std.proofs.Common.{◌≡◌, ◌≢◌, ◌∙◌, sym, refl, ap, subst, suc, zero, ℕ, ◌+◌, ◌<◌, ◌≤◌, ℤ, pos, ◌+ℤ◌, Bool, true, false, ◌&&◌, ◌||◌, ◌==◌, cond, List, [], ◌∷◌, ◌++◌, length, map, filter, take, get_or, nat_lt, int_lt, arith, All, AllPairs, IsPermutation, IsSorted, nat_eq, Option, Some, None}
 use Rattle.std.specs.Cmp.{IsTotalOrder}
 use Rattle.std.specs.List.{IsDistinct, fold}
 use Rattle.std.specs.Ordering.{is_eq, is_lt, nat_cmp, int_cmp, int_eq, ordering_then}
 use Rattle.std.specs.declared.cmp.Ordering.{Ordering}
 use Rattle.std.specs.declared.cmp.Ordering.TheVariants.{Less, Equal, Greater}
-use Rattle.std.proofs.lemmas.Bool.{false≢true, true≢false, ne_eqb, eqb-false, lt-ltb, ltb-false, eqb-true}
-use Rattle.std.proofs.lemmas.Cmp.{int_cmp_total, nat_cmp_total, on_total, then_total, back_total}
+use Rattle.std.proofs.lemmas.Bool.{true≢false, le-leb, lt-leb, ne_eqb, eqb-false, lt-ltb, ltb-false}
+use Rattle.std.proofs.lemmas.Cmp.{int_cmp_total, nat_cmp_total, nat_eq_equiv, on_total, then_total, back_total}
 use Rattle.std.proofs.lemmas.List.{get_or-map, length-map, map_push, map_more, take-map}
 use Rattle.std.proofs.lemmas.List.Elements.{All-filter, filter_more}
 use Rattle.std.proofs.lemmas.List.Kept.{AllPairs-filter}
 use Rattle.std.proofs.lemmas.List.Sorted.{All-permutation, IsPermutation-map, ranks_by, sorted_far}
 use Rattle.std.proofs.lemmas.List.Sums.{fold_push}
-use Rattle.std.proofs.lemmas.Map.Keys.{IsDistinct-IsPermutation}
+use Rattle.std.proofs.lemmas.Map.Keys.{IsDistinct-IsPermutation, IsDistinct-from_apart, apart_from_distinct}
 use Rattle.fpl_base.specs.declared.kinds.Position.{Position}
 use Rattle.rule_book.specs.FigureRange.{IsWithin}
 use Rattle.rule_book.specs.HeadToHead.{total_of}
 use Rattle.rule_book.specs.Ranks.{AllDiffer}
 use Rattle.dream_team.specs.Elevens.{Row, is_better, total_points}
-use Rattle.dream_team.specs.Pools.{IsPool, is_at, row_of}
+use Rattle.dream_team.specs.Pools.{IsPool, first_total, is_at, row_of}
 use Rattle.dream_team.specs.declared.pools.Candidate.{Candidate}
 use Rattle.dream_team.proofs.Choosing.{part}
 use Rattle.dream_team.proofs.Places.{at_is}
@@ -73,14 +73,11 @@ better_before position a b apart not =
     less : a.player ≤ b.player → a.player < b.player
     less le = omega (arith, le, apart)
 
-distinct : (xs : List ℕ) → AllPairs (λ a b. a ≢ b) xs → IsDistinct (λ a b. a == b) xs
-distinct xs apart i j d less inside = ne_eqb (get_or xs i d) (get_or xs j d) (apart i j d less inside)
+distinct : (xs : List ℕ) → AllPairs (λ a b. a ≢ b) xs → IsDistinct nat_eq xs
+distinct xs apart = IsDistinct-from_apart nat_eq xs (λ i j d less inside. ne_eqb (get_or xs i d) (get_or xs j d) (apart i j d less inside))
 
-apart : (xs : List ℕ) → IsDistinct (λ a b. a == b) xs → AllPairs (λ a b. a ≢ b) xs
-apart xs is i j d less inside = eqb-false (get_or xs i d) (get_or xs j d) (is i j d less inside)
-
-eq_flips : (x y : ℕ) → (x == y) ≡ (y == x)
-eq_flips x y = grind (arith)
+apart : (xs : List ℕ) → IsDistinct nat_eq xs → AllPairs (λ a b. a ≢ b) xs
+apart xs is i j d less inside = eqb-false (get_or xs i d) (get_or xs j d) (apart_from_distinct nat_eq xs i j d is less inside)
 
 -- the rows of a position have different ids
 part_differs : (position : Position) (rows : List Row) → AllDiffer (map (λ row. row.0) rows) → AllDiffer (map (λ row. row.0) (part position rows))
@@ -99,7 +96,7 @@ part_differs position rows differ i j d less inside same =
         all i j x less below
         (sym (get_or-map (λ (row : Row). row.0) (x ∷ xs) i x d (omega arith)) ∙ equal ∙ get_or-map (λ (row : Row). row.0) (x ∷ xs) j x d below)
 
-names_map : (position : Position) (cs : List Candidate) → map (λ (row : Row). row.0) (map (row_of position) cs) ≡ map (λ (c : Candidate). c.player) cs
+pub names_map : (position : Position) (cs : List Candidate) → map (λ (row : Row). row.0) (map (row_of position) cs) ≡ map (λ (c : Candidate). c.player) cs
 names_map position [] = refl
 names_map position (c ∷ cs) = ap (λ l. c.player ∷ l) (names_map position cs)
 
@@ -109,11 +106,11 @@ pub sorted_pool : (rows : List Row) (position : Position) (found sorted : List C
 sorted_pool rows position found sorted differ near are moved order =
     let pool = map (row_of position) sorted in
     let same : IsPermutation (part position rows) pool = subst (λ (l : List Row). IsPermutation l pool) are (IsPermutation-map (row_of position) found sorted moved) in
-    let names : IsDistinct (λ a b. a == b) (map (λ (row : Row). row.0) pool)
-    = IsDistinct-IsPermutation (λ (a b : ℕ). a == b) eq_flips (map (λ (row : Row). row.0) (part position rows)) (map (λ (row : Row). row.0) pool)
+    let names : IsDistinct nat_eq (map (λ (row : Row). row.0) pool)
+    = IsDistinct-IsPermutation nat_eq nat_eq_equiv.symm (map (λ (row : Row). row.0) (part position rows)) (map (λ (row : Row). row.0) pool)
     (IsPermutation-map (λ (row : Row). row.0) (part position rows) pool same) (distinct (map (λ (row : Row). row.0) (part position rows)) (part_differs position rows differ)) in
     let players : AllPairs (λ a b. a ≢ b) (map (λ (c : Candidate). c.player) sorted)
-    = apart (map (λ (c : Candidate). c.player) sorted) (subst (IsDistinct (λ (a b : ℕ). a == b)) (names_map position sorted) names) in
+    = apart (map (λ (c : Candidate). c.player) sorted) (subst (IsDistinct nat_eq) (names_map position sorted) names) in
     record {
       same = same;
       ranked = ranked_all players;
@@ -157,3 +154,12 @@ pub near_first : (position : Position) (cs : List Candidate) → All (λ (row : 
 near_first position cs near k c inside =
     let at : get_or (map (row_of position) cs) k (row_of position c) ≡ row_of position (get_or cs k c) = get_or-map (row_of position) cs k c (row_of position c) inside in
     subst (λ (row : Row). IsWithin 1000000 row.2) at (near k (row_of position c) (omega (arith, length-map cs (row_of position), inside)))
+
+pub first_is : (position : Position) (cs : List Candidate) (n : ℕ) (total : ℤ) → n ≤ length cs → total ≡ total_of (points_in (take n cs)) → Some total ≡ first_total (map (row_of position) cs) n
+first_is position cs n total enough is =
+    ap (λ (z : ℤ). Some z) (is ∙ sym (first_points position n cs))
+    ∙ sym (ap (λ b. cond b (Some (total_points (take n (map (row_of position) cs)))) None) (le-leb n (length (map (row_of position) cs)) (omega (arith, length-map cs (row_of position), enough))))
+
+pub first_none : (position : Position) (cs : List Candidate) (n : ℕ) → length cs < n → None ≡ first_total (map (row_of position) cs) n
+first_none position cs n few =
+    sym (ap (λ b. cond b (Some (total_points (take n (map (row_of position) cs)))) None) (lt-leb n (length (map (row_of position) cs)) (omega (arith, length-map cs (row_of position), few))))

@@ -1,5 +1,6 @@
 mod Choosing
 mod Collecting
+mod Lined
 mod Places
 mod Putting
 mod Ranking

@@ -18,10 +18,10 @@ use Rattle.rule_book.specs.Ranks.{AllDiffer}
 use Rattle.dream_team.specs.Elevens.{Row, chosen, count_in, IsLegalEleven, total_points, is_better, IsEven}
 use Rattle.dream_team.specs.Dreams.{is_among, place_of, stands_before, StandInOrder}
 use Rattle.dream_team.specs.Pools.{is_at, IsPool, ArePools, first_of, has_enough}
-use Rattle.dream_team.proofs.Choosing.{part, filter_swap, filter_head, keeps_first, chosen_total, chosen_length, four_parts, total-append}
+use Rattle.dream_team.proofs.Choosing.{part, filter_swap, filter_head, keeps_first, chosen_total, chosen_length, four_parts}
 use Rattle.dream_team.proofs.Places.{at_is, at_itself}
 use Rattle.dream_team.proofs.Ranking.{Ranked, few_chosen, not_both_better, first_are_most}
-use Rattle.dream_team.proofs.Trying.{all_four, four_tests, in_range}
+use Rattle.dream_team.proofs.Trying.{all_four, four_tests, in_range, points_of_first}
 
 -- rows who differ, and are as many as others and all among them, are the others
 pub all_there : (members order : List Row) → AllPairs (λ a b. a ≢ b) members → length order ≡ length members → All (Contains order) members → IsPermutation members order
@@ -165,12 +165,6 @@ module _ (rows : List Row) (differ : AllDiffer (map (λ row. row.0) rows)) (pool
   sum_of_four : (t a b c d a' b' c' d' : ℤ) → t ≡ (a +ℤ b) +ℤ (c +ℤ d) → a ≤ℤ a' → b ≤ℤ b' → c ≤ℤ c' → d ≤ℤ d' → t ≤ℤ (a' +ℤ (b' +ℤ (c' +ℤ d')))
   sum_of_four t a b c d a' b' c' d' e f g h i = omega (arith, ints, e, f, g, h, i)
 
-  first_total : (d m f : ℕ) → total_points (first_of pools d m f) ≡ total_points (take 1 (pools Keeper)) +ℤ (total_points (take d (pools Defender)) +ℤ (total_points (take m (pools Midfielder)) +ℤ total_points (take f (pools Forward))))
-  first_total d m f =
-      total-append (take 1 (pools Keeper)) (take d (pools Defender) ++ (take m (pools Midfielder) ++ take f (pools Forward)))
-      ∙ ap (λ z. total_points (take 1 (pools Keeper)) +ℤ z) (total-append (take d (pools Defender)) (take m (pools Midfielder) ++ take f (pools Forward))
-      ∙ ap (λ z. total_points (take d (pools Defender)) +ℤ z) (total-append (take m (pools Midfielder)) (take f (pools Forward))))
-
   part_most : (choice : ℕ → Bool) (p : Position) (n : ℕ) → length (chosen choice (pools p)) ≡ n → total_points (part p (chosen choice rows)) ≤ℤ total_points (take n (pools p))
   part_most choice p n e =
       subst (λ (k : ℕ). total_points (part p (chosen choice rows)) ≤ℤ total_points (take k (pools p))) e
@@ -191,7 +185,7 @@ module _ (rows : List Row) (differ : AllDiffer (map (λ row. row.0) rows)) (pool
             (le-leb (count_in is_defender eleven) (length (pools Defender)) (subst (λ n. n ≤ length (pools Defender)) d (part_few choice Defender)))
             (le-leb (count_in is_midfielder eleven) (length (pools Midfielder)) (subst (λ n. n ≤ length (pools Midfielder)) m (part_few choice Midfielder)))
             (le-leb (count_in is_forward eleven) (length (pools Forward)) (subst (λ n. n ≤ length (pools Forward)) f (part_few choice Forward))),
-        subst (λ (z : ℤ). total_points eleven ≤ℤ z) (sym (first_total (count_in is_defender eleven) (count_in is_midfielder eleven) (count_in is_forward eleven)))
+        subst (λ (z : ℤ). total_points eleven ≤ℤ z) (sym (points_of_first pools (count_in is_defender eleven) (count_in is_midfielder eleven) (count_in is_forward eleven)))
             (sum_of_four _ _ _ _ _ _ _ _ _ (four_parts eleven).total (part_most choice Keeper 1 k) (part_most choice Defender _ d) (part_most choice Midfielder _ m) (part_most choice Forward _ f)),
       )
 
@@ -306,7 +300,7 @@ module _ (rows : List Row) (differ : AllDiffer (map (λ row. row.0) rows)) (pool
     pub own_total : total_points (chosen own rows) ≡ total_points standing
     own_total =
         sum_same _ _ _ _ _ _ _ _ _ (four_parts (chosen own rows)).total (own_part_total Keeper) (own_part_total Defender) (own_part_total Midfielder) (own_part_total Forward)
-        ∙ sym (first_total d m f)
+        ∙ sym (points_of_first pools d m f)
 
     ten_behind : d + m + f ≡ 10
     ten_behind = (in_range d m f formation).ten

@@ -1,13 +1,15 @@
 -- The formations, tried one after another.
-use Rattle.std.proofs.Common.{◌≡◌, ◌≢◌, ◌∙◌, sym, refl, ap, subst, zero, suc, ℕ, ◌+◌, ◌-◌, ◌<◌, ◌≤◌, ℤ, ◌≤ℤ◌, Bool, true, false, ◌&&◌, ◌||◌, ◌==◌, ◌⊎◌, inl, inr, List, Option, Some, None, nat_lt, nat_le, int_lt, cond, arith}
+use Rattle.std.proofs.Common.{◌≡◌, ◌≢◌, ◌∙◌, sym, refl, ap, subst, zero, suc, ℕ, ◌+◌, ◌-◌, ◌<◌, ◌≤◌, ℤ, ◌+ℤ◌, ◌≤ℤ◌, Bool, true, false, ◌&&◌, ◌||◌, ◌==◌, ◌⊎◌, inl, inr, List, ◌++◌, length, take, Option, Some, None, option_and_then, nat_lt, nat_le, int_lt, cond, arith}
 use Rattle.std.proofs.lemmas.Bool.{and_parts, and_from, or_cases, or_left, or_right, false≢true, true≢false, cases_Bool, ltb-true, lt-ltb, eqb-true, eq-eqb, cases_order}
 use Rattle.std.proofs.lemmas.Bool.Decides.{nat_tests}
 use Rattle.std.proofs.lemmas.Int.{ints}
 use Rattle.fpl_base.specs.declared.kinds.Position.{Position}
+use Rattle.fpl_base.specs.declared.kinds.Position.TheVariants.{Keeper, Defender, Midfielder, Forward}
 use Rattle.rule_book.specs.Lineups.{is_formation}
 use Rattle.dream_team.specs.Elevens.{Row, total_points}
 use Rattle.dream_team.specs.Pools.{first_of, has_enough, tried, preferred, is_before, IsBestBefore, HasNoneBefore, Finds}
 use Rattle.dream_team.specs.declared.formations.Best.{Best}
+use Rattle.dream_team.proofs.Choosing.{total-append}
 
 pub four_tests : (a b c d : Bool) → (a && b && c && d) ≡ true → (a ≡ true) × (b ≡ true) × (c ≡ true) × (d ≡ true)
 four_tests a b c d e =
@@ -141,6 +143,9 @@ no_other d m f ten none c = go (cases_Bool (is_formation d m c))
         ap (is_formation d m) same ∙ none
     go (inr e) = e
 
+abbrev best_with : ℕ → ℕ → ℕ → ℤ → Best
+best_with d m f total = record { defenders = d; midfielders = m; forwards = f; total = total }
+
 less_chain : (a b c : ℤ) → a ≤ℤ b → int_lt b c ≡ true → a ≤ℤ c
 less_chain a b c le less = grind (arith, ints)
 
@@ -152,6 +157,23 @@ below_not_same a b c le less same = grind (arith, ints)
 
 less_itself : (a : ℤ) → a ≤ℤ a
 less_itself a = omega (arith, ints)
+
+pub points_of_first : (pools : Position → List Row) (d m f : ℕ) → total_points (first_of pools d m f) ≡ total_points (take 1 (pools Keeper)) +ℤ (total_points (take d (pools Defender)) +ℤ (total_points (take m (pools Midfielder)) +ℤ total_points (take f (pools Forward))))
+points_of_first pools d m f =
+    total-append (take 1 (pools Keeper)) (take d (pools Defender) ++ (take m (pools Midfielder) ++ take f (pools Forward)))
+    ∙ ap (λ z. total_points (take 1 (pools Keeper)) +ℤ z) (total-append (take d (pools Defender)) (take m (pools Midfielder) ++ take f (pools Forward))
+    ∙ ap (λ z. total_points (take d (pools Defender)) +ℤ z) (total-append (take m (pools Midfielder)) (take f (pools Forward))))
+
+by_four : (d m f : ℕ) (a b c e : Bool) (w x y z : ℤ)
+    → option_and_then (λ in_goal. option_and_then (λ behind. option_and_then (λ middle.
+    option_and_then (λ front. Some (best_with d m f (in_goal +ℤ (behind +ℤ (middle +ℤ front))))) (cond e (Some z) None))
+    (cond c (Some y) None)) (cond b (Some x) None)) (cond a (Some w) None)
+    ≡ cond (a && b && c && e) (Some (best_with d m f (w +ℤ (x +ℤ (y +ℤ z))))) None
+by_four d m f true true true true w x y z = refl
+by_four d m f true true true false w x y z = refl
+by_four d m f true true false e w x y z = refl
+by_four d m f true false c e w x y z = refl
+by_four d m f false b c e w x y z = refl
 
 module _ (pools : Position → List Row) (d m f : ℕ) (formation : is_formation d m f ≡ true) where
   abbrev made : Best
@@ -254,6 +276,12 @@ module _ (pools : Position → List Row) (d m f : ℕ) (formation : is_formation
   by_enough best true e finds = with_enough best e finds
   by_enough best false e finds = subst (Finds pools d (m + 1)) (sym (old_kept best)) (too_few best e finds)
 
+  tried_is : tried pools d m f ≡ cond (has_enough pools d m f) (Some made) None
+  tried_is =
+      by_four d m f (nat_le 1 (length (pools Keeper))) (nat_le d (length (pools Defender))) (nat_le m (length (pools Midfielder))) (nat_le f (length (pools Forward))) _ _ _ _
+      ∙ ap (λ z. cond (has_enough pools d m f) (Some (best_with d m f z)) None) (sym (points_of_first pools d m f))
+
   -- one more formation tried
   pub one_more : (best : Option Best) → Finds pools d m best → Finds pools d (m + 1) (preferred best (tried pools d m f))
-  one_more best finds = by_enough best (has_enough pools d m f) refl finds
+  one_more best finds =
+      subst (λ (o : Option Best). Finds pools d (m + 1) (preferred best o)) (sym tried_is) (by_enough best (has_enough pools d m f) refl finds)

@@ -1,5 +1,5 @@
 -- The players of each position, the better first, and what the first of them make together.
-use Rattle.std.specs.Prelude.{◌≡◌, ◌≢◌, ℕ, ℤ, ◌≤ℤ◌, Bool, true, false, ◌&&◌, ◌||◌, ◌==◌, nat_lt, nat_le, int_lt, if◌then◌else◌, List, ◌++◌, length, map, filter, take, All, AllPairs, IsPermutation, Option, Some, None}
+use Rattle.std.specs.Prelude.{◌≡◌, ◌≢◌, ℕ, ◌+◌, ℤ, ◌+ℤ◌, ◌≤ℤ◌, Bool, true, false, ◌&&◌, ◌||◌, ◌==◌, nat_lt, nat_le, int_lt, if◌then◌else◌, List, ◌++◌, length, map, filter, take, drop, All, AllPairs, IsPermutation, Option, Some, None, option_and_then}
 use Rattle.fpl_base.specs.declared.kinds.Position.{Position}
 use Rattle.fpl_base.specs.declared.kinds.Position.TheVariants.{Keeper, Defender, Midfielder, Forward}
 use Rattle.rule_book.specs.FigureRange.{IsWithin}
@@ -51,10 +51,16 @@ abbrev pub first_of : (Position → List Row) → ℕ → ℕ → ℕ → List R
 first_of pools d m f =
     take 1 (pools Keeper) ++ (take d (pools Defender) ++ (take m (pools Midfielder) ++ take f (pools Forward)))
 
--- what a formation makes, where there are enough players for it
+-- what the first of a pool make; none where there are too few
+abbrev pub first_total : List Row → ℕ → Option ℤ
+first_total pool count = if nat_le count (length pool) then Some (total_points (take count pool)) else None
+
+-- what a formation makes, if there are enough players for it
 abbrev pub tried : (Position → List Row) → ℕ → ℕ → ℕ → Option Best
 tried pools d m f =
-    if has_enough pools d m f then Some (record { defenders = d; midfielders = m; forwards = f; total = total_points (first_of pools d m f) }) else None
+    option_and_then (λ in_goal. option_and_then (λ behind. option_and_then (λ middle.
+    option_and_then (λ front. Some (record { defenders = d; midfielders = m; forwards = f; total = in_goal +ℤ (behind +ℤ (middle +ℤ front)) })) (first_total (pools Forward) f))
+    (first_total (pools Midfielder) m)) (first_total (pools Defender) d)) (first_total (pools Keeper) 1)
 
 -- the one that was found first, unless the other has more
 abbrev pub preferred : Option Best → Option Best → Option Best
@@ -83,3 +89,7 @@ HasNoneBefore pools d m = (a b c : ℕ) → is_before a b d m ≡ true → is_fo
 abbrev pub Finds : (Position → List Row) → ℕ → ℕ → Option Best → Type 0
 Finds pools d m None = HasNoneBefore pools d m
 Finds pools d m (Some best) = IsBestBefore pools d m best
+
+-- a list where others stand in the places from one on
+abbrev pub placed_at : List ℕ → ℕ → List ℕ → List ℕ
+placed_at old from others = take from old ++ (others ++ drop (from + length others) old)

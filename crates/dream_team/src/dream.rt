@@ -1,10 +1,10 @@
 // The best legal eleven of players with points.
-ghost use Rattle.std.specs.Prelude.{◌≡◌, ◌≤◌, ◌+◌, true, length, map, take, drop, ◌++◌, All, IfNone, IfOk, IfSome};
+ghost use Rattle.std.specs.Prelude.{◌≡◌, ◌≤◌, ◌+◌, true, length, map, All, IfNone, IfOk, IfSome};
 ghost use Rattle.rule_book.specs.FigureRange.{IsWithin};
 ghost use Rattle.rule_book.specs.Lineups.{is_formation};
 ghost use Rattle.rule_book.specs.Ranks.{AllDiffer};
 ghost use Rattle.dream_team.specs.Dreams.{HasNoEleven, IsDream};
-ghost use Rattle.dream_team.specs.Pools.{first_of, has_enough, pool_of};
+ghost use Rattle.dream_team.specs.Pools.{first_of, has_enough, placed_at, pool_of};
 
 use crate::formations::{Best, best_of};
 use crate::pools::{Candidate, Pools, make_pools};
@@ -53,15 +53,8 @@ fn dream_of(pools: &Pools, best: &Best) -> Dream
     ensures forwards { result.forwards ≡ best.now.forwards }
     ensures total { result.total ≡ best.now.total }
 {
-    let d = best.defenders as usize;
-    let m = best.midfielders as usize;
-    let f = best.forwards as usize;
-    let mut players = [pools.keepers[0].player; 11];
-    put(&mut players, 1, &pools.defenders[..d]);
-    put(&mut players, 1 + d, &pools.midfielders[..m]);
-    put(&mut players, 1 + d + m, &pools.forwards[..f]);
     Dream {
-        players,
+        players: players_of(pools, best),
         defenders: best.defenders,
         midfielders: best.midfielders,
         forwards: best.forwards,
@@ -69,13 +62,39 @@ fn dream_of(pools: &Pools, best: &Best) -> Dream
     }
 }
 
-// Puts candidates in the places from this one on.
-fn put(players: &mut [PlayerId; 11], from: usize, candidates: &[Candidate])
-    requires { from + length candidates.now ≤ 11 }
-    ensures { players.new ≡ take from players.old ++ (map (λ candidate. candidate.player)
-        candidates.now ++ drop (from + length candidates.now) players.old) }
+// The best of each position in a formation, in their order.
+fn players_of(pools: &Pools, best: &Best) -> [PlayerId; 11]
+    requires formation { is_formation best.now.defenders best.now.midfielders best.now.forwards ≡ true }
+    requires enough { has_enough (pool_of pools.now) best.now.defenders best.now.midfielders best.now.forwards
+        ≡ true }
+    ensures { result ≡ map (λ row. row.0) (first_of
+        (pool_of pools.now) best.now.defenders best.now.midfielders best.now.forwards) }
 {
+    let d = best.defenders as usize;
+    let m = best.midfielders as usize;
+    let f = best.forwards as usize;
+    let blank = eleven_times(pools.keepers[0].player);
+    let in_goal = placed(blank, 0, &pools.keepers[..1]);
+    let behind = placed(in_goal, 1, &pools.defenders[..d]);
+    let middle = placed(behind, 1 + d, &pools.midfielders[..m]);
+    placed(middle, 1 + d + m, &pools.forwards[..f])
+}
+
+fn eleven_times(player: PlayerId) -> [PlayerId; 11]
+    ensures { length result ≡ 11 }
+{
+    [player; 11]
+}
+
+// The players, with candidates in the places from this one on.
+fn placed(players: [PlayerId; 11], from: usize, candidates: &[Candidate]) -> [PlayerId; 11]
+    requires { from + length candidates.now ≤ 11 }
+    ensures { result
+        ≡ placed_at players from (map (λ candidate. candidate.player) candidates.now) }
+{
+    let mut players = players;
     for (place, candidate) in candidates.iter().enumerate() {
         players[from + place] = candidate.player;
     }
+    players
 }

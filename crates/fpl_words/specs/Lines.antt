@@ -24,14 +24,11 @@ read_lines =
     ∷ (codes "pipe" ∷ codes "--store=-x" ∷ codes "--key" ∷ op ∷ [], Some (words.Pipe op (Some (codes "-x"))))
     ∷ (codes "pipe" ∷ codes "--store=a=b" ∷ codes "--key" ∷ op ∷ [], Some (words.Pipe op (Some (codes "a=b"))))
     ∷ (codes "report" ∷ codes "--key" ∷ op ∷ codes "--store" ∷ codes "s" ∷ codes "--what" ∷ codes "season" ∷ [], Some (words.Report op (codes "s") what.Season))
-    ∷ (codes "dream" ∷ codes "--gameweek" ∷ codes "2" ∷ codes "--key" ∷ op ∷ codes "--store" ∷ codes "s" ∷ [], Some (words.Dream op (codes "s") 2))
-    ∷ (codes "events" ∷ codes "--key" ∷ op ∷ codes "--store" ∷ codes "s" ∷ codes "--fixture" ∷ codes "7" ∷ [], Some (words.Events op (codes "s") 7 90))
-    ∷ (codes "events" ∷ codes "--key" ∷ op ∷ codes "--store" ∷ codes "s" ∷ codes "--fixture" ∷ codes "7" ∷ codes "--length=120" ∷ [], Some (words.Events op (codes "s") 7 120))
-    ∷ (codes "draft" ∷ codes "--key" ∷ op ∷ codes "--store" ∷ codes "s" ∷ codes "--members" ∷ codes "8" ∷ [], Some (words.Draft op (codes "s") 8))
     ∷ []
 
 -- lines that are not read: no word, help, an option twice, a part of its name, a value with a dash in front, an empty
--- one, a dash or two alone, an option that a report does not need, and numbers out of range
+-- one, a dash or two alone, an option that a report does not need, and commands
+-- without an option that has to be given
 abbrev pub unread_lines : List (List (List ℕ) × Option Words)
 unread_lines =
     ([], None)
@@ -45,8 +42,7 @@ unread_lines =
     ∷ (codes "pipe" ∷ codes "--key" ∷ op ∷ codes "--" ∷ [], None)
     ∷ (codes "pipe" ∷ codes "--key" ∷ op ∷ codes "--help" ∷ [], None)
     ∷ (codes "report" ∷ codes "--key" ∷ op ∷ codes "--store" ∷ codes "s" ∷ codes "--what" ∷ codes "season" ∷ codes "--id" ∷ codes "1" ∷ [], None)
-    ∷ (codes "dream" ∷ codes "--key" ∷ op ∷ codes "--store" ∷ codes "s" ∷ codes "--gameweek" ∷ codes "39" ∷ [], None)
-    ∷ (codes "events" ∷ codes "--key" ∷ op ∷ codes "--store" ∷ codes "s" ∷ codes "--fixture" ∷ codes "0" ∷ [], None)
-    ∷ (codes "events" ∷ codes "--key" ∷ op ∷ codes "--store" ∷ codes "s" ∷ codes "--fixture" ∷ codes "7" ∷ codes "--length" ∷ codes "121" ∷ [], None)
-    ∷ (codes "draft" ∷ codes "--key" ∷ op ∷ codes "--store" ∷ codes "s" ∷ codes "--members" ∷ codes "1" ∷ [], None)
+    ∷ (codes "dream" ∷ codes "--key" ∷ op ∷ codes "--store" ∷ codes "s" ∷ [], None)
+    ∷ (codes "events" ∷ codes "--key" ∷ op ∷ codes "--store" ∷ codes "s" ∷ [], None)
+    ∷ (codes "draft" ∷ codes "--key" ∷ op ∷ codes "--store" ∷ codes "s" ∷ [], None)
     ∷ []

@@ -1,7 +1,7 @@
 use Rattle.std.proofs.Common.{◌≡◌, ◌≤◌, length}
 use Rattle.dream_team.specs.declared.pools.Candidate.{Candidate}
 use Rattle.dream_team.proofs.Putting.{filled}
-use Rattle.dream_team.proofs.dream.put.Given as goal
+use Rattle.dream_team.proofs.dream.placed.Given as goal
 
 -- so many candidates stand in their places
 abbrev pub invariant-loop-place : goal.invariant-loop-place
