@@ -62,10 +62,10 @@ fn candidates_at(pools: &Pools, position: Position) -> &[Candidate]
     ensures { map (row_of position) result.now ≡ pool_of pools.now position }
 {
     match position {
-        Position::Keeper => &pools.keepers,
-        Position::Defender => &pools.defenders,
-        Position::Midfielder => &pools.midfielders,
-        Position::Forward => &pools.forwards,
+        Position::Keeper => pools.keepers.as_slice(),
+        Position::Defender => pools.defenders.as_slice(),
+        Position::Midfielder => pools.midfielders.as_slice(),
+        Position::Forward => pools.forwards.as_slice(),
     }
 }
 

@@ -1,7 +1,7 @@
 use Rattle.std.proofs.Common.{◌∙◌, subst}
 use Rattle.std.specs.Prelude.{IfOk}
 use Rattle.clap.specs.Words.{App}
-use Rattle.fpl_words.specs.Options.{IsCommand, draft, dream, events}
+use Rattle.fpl_words.specs.Options.{IsCommand, draft, events}
 use Rattle.fpl_words.proofs.OptionLemmas.{below}
 use Rattle.fpl_words.proofs.options.with_further.Goals as goal
 
