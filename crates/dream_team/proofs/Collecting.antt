@@ -1,8 +1,8 @@
 -- The candidates for a position, collected and sorted.
-use Rattle.std.proofs.Common.{◌≡◌, ◌≢◌, ◌∙◌, sym, refl, ap, subst, suc, zero, ℕ, ◌+◌, ◌<◌, ◌≤◌, ℤ, pos, ◌+ℤ◌, Bool, true, false, ◌&&◌, ◌||◌, ◌==◌, cond, List, [], ◌∷◌, ◌++◌, length, map, filter, take, get_or, nat_lt, int_lt, arith, All, AllPairs, IsPermutation, IsSorted, nat_eq, Option, Some, None}
+use Rattle.std.proofs.Common.{◌≡◌, ◌≢◌, ◌∙◌, sym, refl, ap, subst, ℕ, ◌+◌, ◌<◌, ◌≤◌, ℤ, pos, ◌+ℤ◌, Bool, true, false, ◌&&◌, ◌||◌, ◌==◌, cond, List, [], ◌∷◌, ◌++◌, length, map, take, get_or, nat_lt, int_lt, arith, All, AllPairs, IsPermutation, IsSorted, nat_eq, Some, None}
 use Rattle.std.specs.Cmp.{IsTotalOrder}
-use Rattle.std.specs.List.{IsDistinct, fold}
-use Rattle.std.specs.Ordering.{is_eq, is_lt, nat_cmp, int_cmp, int_eq, ordering_then}
+use Rattle.std.specs.List.{IsDistinct}
+use Rattle.std.specs.Ordering.{is_eq, is_lt, nat_cmp, int_cmp, ordering_then}
 use Rattle.std.specs.declared.cmp.Ordering.{Ordering}
 use Rattle.std.specs.declared.cmp.Ordering.TheVariants.{Less, Equal, Greater}
 use Rattle.std.proofs.lemmas.Bool.{true≢false, le-leb, lt-leb, ne_eqb, eqb-false, lt-ltb, ltb-false}

@@ -1,5 +1,5 @@
 -- The first candidates of each position, in their order.
-use Rattle.std.proofs.Common.{◌≡◌, ◌∙◌, sym, refl, ap, ℕ, ◌+◌, ◌≤◌, true, List, ◌++◌, length, map, take, arith}
+use Rattle.std.proofs.Common.{◌≡◌, ◌∙◌, sym, ap, ℕ, ◌+◌, ◌≤◌, true, List, ◌++◌, length, map, take, arith}
 use Rattle.std.proofs.lemmas.Bool.{leb-true}
 use Rattle.std.proofs.lemmas.List.{length-map, length-take-le, map-append, take-map}
 use Rattle.std.specs.Prelude.{nat_le}

@@ -1,5 +1,5 @@
 -- Places of a list that are filled one after another.
-use Rattle.std.proofs.Common.{◌≡◌, ◌∙◌, sym, refl, ap, ℕ, ◌+◌, ◌<◌, ◌≤◌, List, [], ◌∷◌, ◌++◌, length, map, take, drop, set, get_or, arith, add-zero}
+use Rattle.std.proofs.Common.{◌≡◌, ◌∙◌, sym, ap, ℕ, ◌+◌, ◌<◌, ◌≤◌, List, [], ◌∷◌, ◌++◌, length, map, take, drop, set, get_or, arith, add-zero, zero-add}
 use Rattle.std.proofs.lemmas.List.{append-nil, append_assoc, drop-drop, drop_at, drop_more, length-append, length-drop, length-map, length-take-le, map_more, nil_from_length, set_at, take-append-drop, take_all, take_at}
 use Rattle.dream_team.specs.Pools.{placed_at}
 
@@ -48,7 +48,7 @@ four_placed blank one two three four a b c e n m all single at_n at_m first seco
     let s : List ℕ = drop (length b) r in
     let t : List ℕ = drop (length c) s in
     let u : List ℕ = drop (length e) t in
-    let f : one ≡ a ++ r = first in
+    let f : one ≡ a ++ r = first ∙ ap (λ k. a ++ drop k blank) (zero-add (length a)) in
     let g : two ≡ (a ++ b) ++ s = second ∙ ap (λ l. placed_at l 1 b) f ∙ behind a r b 1 single in
     let h : three ≡ ((a ++ b) ++ c) ++ t = third ∙ ap (λ l. placed_at l n c) g ∙ behind (a ++ b) s c n (omega (arith, length-append a b, single, at_n)) in
     let i : four ≡ (((a ++ b) ++ c) ++ e) ++ u = fourth ∙ ap (λ l. placed_at l m e) h ∙ behind ((a ++ b) ++ c) t e m (omega (arith, length-append (a ++ b) c, length-append a b, single, at_m)) in

@@ -1,9 +1,9 @@
 -- The first of each position, in a formation for which there are enough, are the team of the week of that formation.
-use Rattle.std.proofs.Common.{◌≡◌, ◌≢◌, ◌∙◌, sym, refl, ap, subst, zero, suc, ℕ, ◌+◌, ◌<◌, ◌≤◌, ℤ, ◌+ℤ◌, ◌≤ℤ◌, Bool, true, false, ◌&&◌, ◌||◌, ◌==◌, ◌⊎◌, inl, inr, List, [], ◌∷◌, ◌++◌, length, map, filter, take, drop, get_or, nat_lt, nat_le, arith, All, AllPairs, Contains, IsPermutation}
-use Rattle.std.specs.List.{list_any, remove}
-use Rattle.std.proofs.lemmas.Bool.{and_parts, and_from, false≢true, false_from_ne_true, eqb-true, eq-eqb, lt-ltb, or_left, or_right, cases_order, leb-true, le-leb, ltb-true, eqb-true}
+use Rattle.std.proofs.Common.{◌≡◌, ◌≢◌, ◌∙◌, sym, refl, ap, subst, zero, suc, ℕ, ◌+◌, ◌<◌, ◌≤◌, ℤ, ◌+ℤ◌, ◌≤ℤ◌, Bool, true, false, ◌&&◌, ◌==◌, ◌⊎◌, inl, inr, List, [], ◌∷◌, ◌++◌, length, map, filter, take, drop, get_or, nat_lt, nat_le, arith, All, AllPairs, Contains, IsPermutation}
+use Rattle.std.specs.List.{remove}
+use Rattle.std.proofs.lemmas.Bool.{and_from, false_from_ne_true, eqb-true, eq-eqb, lt-ltb, or_left, or_right, cases_order, leb-true, le-leb, eqb-true}
 use Rattle.std.proofs.lemmas.Int.{ints}
-use Rattle.std.proofs.lemmas.List.{get_or-map, get_or-take, get_or-drop, get_or_default, get_or_append_left, get_or-append_right, length-map, length-append, length-take-le, length-drop}
+use Rattle.std.proofs.lemmas.List.{get_or-map, get_or-take, get_or-drop, get_or_default, length-map, length-append, length-take-le, length-drop}
 use Rattle.std.proofs.lemmas.List.Elements.{All-contains, All-contains_itself, All-filter, filter_passes, Contains-get_or, Contains-append_left, Contains-append_right, Contains-append_cases, All-head, All-tail}
 use Rattle.std.proofs.lemmas.List.Kept.{AllPairs-filter}
 use Rattle.std.proofs.lemmas.List.Folds.{Any-from_list_any, list_any_at}
@@ -13,11 +13,11 @@ use Rattle.std.proofs.lemmas.Map.Made.{Contains-tail}
 use Rattle.fpl_base.specs.declared.kinds.Position.{Position}
 use Rattle.fpl_base.specs.declared.kinds.Position.TheVariants.{Keeper, Defender, Midfielder, Forward}
 use Rattle.rule_book.specs.Lineups.{is_formation}
-use Rattle.rule_book.specs.Positions.{is_keeper, is_defender, is_midfielder, is_forward}
+use Rattle.rule_book.specs.Positions.{is_defender, is_midfielder, is_forward}
 use Rattle.rule_book.specs.Ranks.{AllDiffer}
 use Rattle.dream_team.specs.Elevens.{Row, chosen, count_in, IsLegalEleven, total_points, is_better, IsEven}
 use Rattle.dream_team.specs.Dreams.{is_among, place_of, stands_before, StandInOrder}
-use Rattle.dream_team.specs.Pools.{is_at, IsPool, ArePools, first_of, has_enough}
+use Rattle.dream_team.specs.Pools.{is_at, ArePools, first_of, has_enough}
 use Rattle.dream_team.proofs.Choosing.{part, filter_swap, filter_head, keeps_first, chosen_total, chosen_length, four_parts}
 use Rattle.dream_team.proofs.Places.{at_is, at_itself}
 use Rattle.dream_team.proofs.Ranking.{Ranked, few_chosen, not_both_better, first_are_most}

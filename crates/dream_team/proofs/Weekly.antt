@@ -1,15 +1,15 @@
 -- The best formation gives the team of the week.
-use Rattle.std.proofs.Common.{◌≡◌, ◌≢◌, ◌∙◌, sym, refl, ap, subst, ℕ, ◌+◌, ◌<◌, ◌≤◌, ℤ, ◌≤ℤ◌, Bool, true, false, ◌&&◌, ◌||◌, ◌==◌, ◌⊎◌, inl, inr, List, map, nat_lt, nat_le, arith}
+use Rattle.std.proofs.Common.{◌≡◌, ◌∙◌, sym, ap, subst, ℕ, ◌<◌, ◌≤◌, ℤ, ◌≤ℤ◌, Bool, true, ◌&&◌, ◌||◌, ◌==◌, ◌⊎◌, inl, inr, List, map, nat_lt, nat_le, arith}
 use Rattle.std.proofs.lemmas.Bool.{false≢true, or_left, or_right, and_from, lt-ltb, le-leb, eq-eqb, cases_order, cases_lt}
 use Rattle.std.proofs.lemmas.Int.{ints}
 use Rattle.fpl_base.specs.declared.kinds.Position.{Position}
-use Rattle.fpl_base.specs.declared.kinds.Position.TheVariants.{Keeper, Defender, Midfielder, Forward}
+use Rattle.fpl_base.specs.declared.kinds.Position.TheVariants.{Defender, Midfielder, Forward}
 use Rattle.rule_book.specs.Lineups.{is_formation}
 use Rattle.rule_book.specs.Positions.{is_defender, is_midfielder, is_forward}
 use Rattle.rule_book.specs.Ranks.{AllDiffer}
-use Rattle.dream_team.specs.Elevens.{Row, chosen, count_in, IsLegalEleven, IsEven, total_points, comes_no_later}
-use Rattle.dream_team.specs.Dreams.{HasNoEleven, IsDream, StandInOrder, is_among}
-use Rattle.dream_team.specs.Pools.{ArePools, IsBestBefore, HasNoneBefore, first_of, has_enough, is_before}
+use Rattle.dream_team.specs.Elevens.{Row, chosen, count_in, IsLegalEleven, total_points, comes_no_later}
+use Rattle.dream_team.specs.Dreams.{HasNoEleven, IsDream, is_among}
+use Rattle.dream_team.specs.Pools.{ArePools, IsBestBefore, HasNoneBefore, first_of, is_before}
 use Rattle.dream_team.specs.declared.dream.Dream.{Dream}
 use Rattle.dream_team.specs.declared.formations.Best.{Best}
 use Rattle.dream_team.proofs.Standing.{no_more, named, own_count, own_even, own_legal, own_order, own_total}

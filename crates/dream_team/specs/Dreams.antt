@@ -1,5 +1,5 @@
 -- The team of the week.
-use Rattle.std.specs.Prelude.{◌≡◌, ℕ, ℤ, ◌≤ℤ◌, Bool, true, ◌&&◌, ◌||◌, ◌==◌, nat_lt, List, map, All, AllPairs, IsPermutation}
+use Rattle.std.specs.Prelude.{◌≡◌, ℕ, ℤ, ◌≤ℤ◌, Bool, true, ◌&&◌, ◌||◌, ◌==◌, nat_lt, List, map, AllPairs, IsPermutation}
 use Rattle.std.specs.List.{list_any}
 use Rattle.fpl_base.specs.declared.kinds.Position.{Position}
 use Rattle.fpl_base.specs.declared.kinds.Position.TheVariants.{Keeper, Defender, Midfielder, Forward}

@@ -1,4 +1,4 @@
-use Rattle.std.proofs.Common.{◌≡◌, ◌∙◌, ◌+◌, ℕ, List, ap, arith, set}
+use Rattle.std.proofs.Common.{◌∙◌, ◌+◌, ℕ, List, ap, arith, set}
 use Rattle.dream_team.specs.declared.pools.Candidate.{Candidate}
 use Rattle.dream_team.proofs.Putting.{all_filled, filled, none_filled, one_filled}
 use Rattle.dream_team.proofs.dream.placed.Goals as goal

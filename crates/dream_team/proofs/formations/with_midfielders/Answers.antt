@@ -9,5 +9,5 @@ returns-in-Some c =
     let found = one_more pools c.args.defenders c.args.midfielders c.in-Some.forwards c.in-Some.ensures.formation c.args.best c.requires.before in
     subst (Finds pools c.args.defenders (c.args.midfielders + 1)) (sym (c.preferred.ensures ∙ ap (preferred c.args.best) c.tried.ensures)) found
 
-pub returns : goal.returns
-returns c = none_here (pool_of c.args.pools.now) c.args.defenders c.args.midfielders c.args.best c.in-None.ensures.none c.requires.before
+pub returns-in-None : goal.returns-in-None
+returns-in-None c = none_here (pool_of c.args.pools.now) c.args.defenders c.args.midfielders c.args.best c.in-None.ensures.none c.requires.before
