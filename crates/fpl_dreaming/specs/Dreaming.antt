@@ -1,7 +1,6 @@
 -- What is asked of a host for the team of the week of a gameweek, and what is written of it.
 use Rattle.std.specs.Prelude.{◌≡◌, ◌⊎◌, ℕ, List, [], ◌∷◌, map, nat_le, Option, Result, MatchBool, MatchOption, MatchResult}
 use Rattle.fpl_base.specs.declared.kinds.Caller.TheVariants as caller
-use Rattle.rule_book.specs.declared.player.Player.{Player}
 use Rattle.season_book.specs.Book.{Book}
 use Rattle.season_book.specs.declared.answer.Answer.{Answer}
 use Rattle.season_book.specs.declared.request.Request.TheVariants as request

@@ -1,11 +1,11 @@
 // The team of the week of a gameweek.
-ghost use Rattle.std.specs.Prelude.{◌≡◌, ◌≤◌, ◌<◌, ◌⊎◌, [], All, AllPairs, IfOk, OnOk, length, map, false};
+ghost use Rattle.std.specs.Prelude.{◌≡◌, ◌≤◌, ◌<◌, ◌⊎◌, [], All, AllPairs, IfOk, OnOk, length, map, nat_le, false};
 ghost use Rattle.fpl_base.specs.Causes.{Rose};
 ghost use Rattle.rule_book.specs.FigureRange.{IsWithin};
 ghost use Rattle.rule_book.specs.Ranks.{AllDiffer};
 ghost use Rattle.season_running.specs.Standing.{players_in};
 ghost use Rattle.fpl_desk.specs.Kept.{Leads, kept_as};
-ghost use Rattle.fpl_asking.specs.Printing.{PrintsOne};
+ghost use Rattle.fpl_asking.specs.Printing.{Prints, PrintsOne, unknown_text};
 ghost use Rattle.fpl_dreaming.specs.Dreaming.{AsksOn, IsDreamed, IsDreamedIn, TellsDream};
 ghost use Rattle.fpl_dreaming.specs.Rows.{with_row};
 ghost use Rattle.fpl_dreaming.specs.Texts.{dream_text};
@@ -51,14 +51,30 @@ pub fn dreamed<W: Sink, C: Clock, K: Keeper, L: Ledger>(
     let told = ask(host, keeper, clock, steps, Caller::Operator, &asked);
     match locked_in(&told) {
         Some(locked) => {
-            if gameweek.get() <= locked {
+            if is_locked(gameweek, locked) {
                 dreamed_in(alloc, host, gameweek, output, clock, keeper, steps)
             } else {
-                print(output, UNKNOWN.as_bytes(), DECLINED)
+                tell_unknown(output)
             }
         }
         None => halted(alloc, &told, output),
     }
+}
+
+// Whether a gameweek is among so many that are locked.
+fn is_locked(gameweek: Gw, locked: u8) -> bool
+    ensures { result ≡ nat_le gameweek locked }
+{
+    gameweek.get() <= locked
+}
+
+// Writes that the gameweek is not locked.
+fn tell_unknown<W: Sink>(output: &mut W) -> u8
+    ensures printed { Prints unknown_text 13 result (W.taken output.old) (W.taken output.new) }
+    ensures statuses { (result ≡ 3) ⊎ (result ≡ 13) }
+    ensures write { result ≡ 3 → Rose (W.faults output.old) (W.faults output.new) }
+{
+    print(output, UNKNOWN.as_bytes(), DECLINED)
 }
 
 // Asks for each player of the season and what he did in the gameweek, which is locked.

@@ -2,7 +2,10 @@
 ghost use Rattle.std.specs.Prelude.{◌≡◌, ◌≤◌, IfErr, IfOk, IfSome, OnOk, false};
 ghost use Rattle.fpl_base.specs.Causes.{Rose};
 ghost use Rattle.rule_book.specs.FigureRange.{IsWithin};
+ghost use Rattle.season_book.specs.Hosts.{IsRequest};
 ghost use Rattle.season_book.specs.declared.answer.Answer.TheVariants as answer_of;
+ghost use Rattle.season_book.specs.declared.request.Request.TheVariants as request_of;
+ghost use Rattle.season_book.specs.declared.request.View.TheVariants as view_of;
 ghost use Rattle.fpl_desk.specs.Kept.{Leads, kept_as};
 ghost use Rattle.fpl_dreaming.specs.Rows.{ArePointsAsked, IsRowAsked, figures_in, locked_in, near, position_in, row_of};
 
@@ -35,9 +38,7 @@ pub(crate) fn ask_row<C: Clock, K: Keeper, L: Ledger>(
         → Rose (K.faults keeper.old) (K.faults keeper.new)) }
     ensures later { K.faults keeper.old ≤ K.faults keeper.new }
 {
-    let asked = Request::View(View::Player {
-        player: player.get(),
-    });
+    let asked = request_of_player(player);
     let told = ask(host, keeper, clock, steps, Caller::Operator, &asked);
     match position_in(&told) {
         Some(position) => ask_points(host, player, position, gameweek, clock, keeper, steps),
@@ -67,15 +68,33 @@ fn ask_points<C: Clock, K: Keeper, L: Ledger>(
         → Rose (K.faults keeper.old) (K.faults keeper.new)) }
     ensures later { K.faults keeper.old ≤ K.faults keeper.new }
 {
-    let asked = Request::View(View::PlayerGameweek {
-        player: player.get(),
-        gameweek: u32::from(gameweek.get()),
-    });
+    let asked = request_of_points(player, gameweek);
     let told = ask(host, keeper, clock, steps, Caller::Operator, &asked);
     match figures_in(&told) {
         Some(figures) => Ok(row_of(player, position, &figures)),
         None => Err(told),
     }
+}
+
+// The request that shows a player.
+fn request_of_player(player: PlayerId) -> Request
+    ensures value { result ≡ request_of.View (view_of.Player player) }
+    ensures lawful { IsRequest result }
+{
+    Request::View(View::Player {
+        player: player.get(),
+    })
+}
+
+// The request that shows what he did in a gameweek.
+fn request_of_points(player: PlayerId, gameweek: Gw) -> Request
+    ensures value { result ≡ request_of.View (view_of.PlayerGameweek player gameweek) }
+    ensures lawful { IsRequest result }
+{
+    Request::View(View::PlayerGameweek {
+        player: player.get(),
+        gameweek: u32::from(gameweek.get()),
+    })
 }
 
 /// How many gameweeks are locked, by an answer that shows the season.

@@ -26,7 +26,7 @@ pub(crate) fn dream_text(
 fn lines_of(
     alloc: Global,
     rows: &[(PlayerId, Position, i32)],
-    players: &[PlayerId; 11],
+    players: &[PlayerId],
 ) -> Result<String, Memory>
     ensures { IfOk result (λ text. string_bytes text ≡ lines_of rows.now players.now) }
 {
