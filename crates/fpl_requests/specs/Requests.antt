@@ -15,6 +15,7 @@ use Rattle.fpl_loading.specs.Files.{AreOrdered, ExplainsLoad}
 use Rattle.fpl_loading.specs.Loading.{IsLoad}
 use Rattle.fpl_loading.specs.declared.files.LoadFault.{LoadFault}
 use Rattle.fpl_generating.specs.Generating.{IsGenerated}
+use Rattle.fpl_dreaming.specs.Dreaming.{IsDreamed}
 use Rattle.fpl_serving.specs.Keeping.{IsUnopened, Runs}
 
 -- what is asked leads from each book to one: the keeper is not read again on the way
@@ -52,6 +53,12 @@ Loads tells serves holds passes faults old new key files folder split profile mo
     ((why : LoadFault) × ExplainsLoad files folder split why × TellsLoadFault why status before after × (new ≡ old) × (later ≡ moments))
     ⊎ ((commands : List Command) × AreOrdered files folder split profile commands
     × RunsThrough tells serves holds passes faults old new key moments later before after status (IsLoad commands before after status))
+
+-- a run of `dream`: the operator asked for the players of a gameweek, and the team of the week was written
+abbrev pub Dreams : {K : Type 0} → (K → Type 0) → (K → Type 0) → (K → Map → Type 0) → (K → Map → Type 0) → (K → ℕ) → K → K → List ℕ → ℕ → Option Moments → Option Moments
+    → Option (List ℕ) → Option (List ℕ) → ℕ → Type 0
+Dreams tells serves holds passes faults old new key gameweek moments later before after status =
+    RunsThrough tells serves holds passes faults old new key moments later before after status (IsDreamed gameweek before after status)
 
 -- the operator of a made-up season has this key
 abbrev pub made_up_key : List ℕ

@@ -5,11 +5,12 @@ ghost use Rattle.fpl_base.specs.Moments.{Moments};
 ghost use Rattle.season_book.specs.Commands.{IsCommand};
 ghost use Rattle.fpl_generating.specs.Generating.{IsGenerated};
 ghost use Rattle.fpl_loading.specs.Loading.{IsLoad};
-ghost use Rattle.fpl_requests.specs.Requests.{Generates, Loads, Reports, RunsThrough, made_up_key, view_of};
+ghost use Rattle.fpl_requests.specs.Requests.{Dreams, Generates, Loads, Reports, RunsThrough, made_up_key, view_of};
 
 use fpl_asking::reported;
 use fpl_asking::status::MEMORY;
-use fpl_base::{Clock, Keeper, Key, Memory, Profile, Shelf, Sink, Steps, Text};
+use fpl_base::{Clock, Gw, Keeper, Key, Memory, Profile, Shelf, Sink, Steps, Text};
+use fpl_dreaming::dreamed;
 use fpl_generating::generated;
 use fpl_loading::{loaded, ordered_by, unloaded};
 use fpl_serving::unopened;
@@ -66,6 +67,31 @@ fn view_of(what: What) -> View
             entry: id,
             gameweek: u32::from(gameweek.get()),
         },
+    }
+}
+
+/// Asks as the operator with this key for what each player did in a gameweek, writes the team of the week, and answers the
+/// exit status.
+pub fn dream<W: Sink, C: Clock, K: Keeper, L: Ledger>(
+    alloc: Global,
+    key: &Key,
+    gameweek: Gw,
+    output: &mut W,
+    clock: &mut C,
+    keeper: &mut K,
+    steps: &mut Steps<L>,
+) -> u8
+    ensures dreams { Dreams K.tells K.serves K.holds K.passes K.faults keeper.old keeper.new key.now
+        gameweek (C.left clock.old) (C.left clock.new) (W.taken output.old) (W.taken output.new)
+        result }
+    ensures statuses { (result ≡ 0) ⊎ (result ≡ 3) ⊎ (result ≡ 4) ⊎ (result ≡ 5) ⊎ (result ≡ 6)
+        ⊎ (result ≡ 13) }
+    ensures write { result ≡ 3 → Rose (W.faults output.old) (W.faults output.new) }
+    ensures keeper { result ≡ 4 → Rose (K.faults keeper.old) (K.faults keeper.new) }
+{
+    match Host::open(alloc, keeper, key, steps) {
+        Ok(mut host) => dreamed(alloc, &mut host, gameweek, output, clock, keeper, steps),
+        Err(fault) => unopened(alloc, fault, output),
     }
 }
 

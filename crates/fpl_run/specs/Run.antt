@@ -10,7 +10,7 @@ use Rattle.fpl_words.specs.declared.words.Words.{Words}
 use Rattle.fpl_words.specs.declared.words.Words.TheVariants as order
 use Rattle.score_sheet.specs.Sheets.{Scores, HasWrongRow}
 use Rattle.fpl_serving.specs.Pipe.{Pipes}
-use Rattle.fpl_requests.specs.Requests.{Generates, Loads, Reports}
+use Rattle.fpl_requests.specs.Requests.{Dreams, Generates, Loads, Reports}
 use Rattle.fpl_serving.specs.Serve.{DoorState, Serves}
 
 -- the text for words that are not read
@@ -104,5 +104,12 @@ RunsAs tells serves holds passes faults (Some (order.Report key store shown)) ol
 RunsAs tells serves holds passes faults (Some (order.Generate seed store)) old new status =
     Generates tells serves holds passes faults old.keeper new.keeper seed old.moments old.taken new.taken status
     × (new.moments ≡ old.moments) × LeavesInput old new × LeavesDoors old new × LeavesFiles old new
+RunsAs tells serves holds passes faults (Some (order.Dream key store gameweek)) old new status =
+    Dreams tells serves holds passes faults old.keeper new.keeper key gameweek old.moments new.moments old.taken new.taken status
+    × LeavesInput old new × LeavesDoors old new × LeavesFiles old new
+RunsAs tells serves holds passes faults (Some (order.Events key store fixture length)) old new status =
+    IsUnread old.taken new.taken status × LeavesInput old new × LeavesHost old new
+RunsAs tells serves holds passes faults (Some (order.Draft key store members)) old new status =
+    IsUnread old.taken new.taken status × LeavesInput old new × LeavesHost old new
 RunsAs tells serves holds passes faults None old new status =
     IsUnread old.taken new.taken status × LeavesInput old new × LeavesHost old new

@@ -10,7 +10,7 @@ use crate::score::{Halt, score_due};
 use fpl_asking::print;
 use fpl_asking::status::{MEMORY, READ_FAULT, WORDS};
 use fpl_base::{Clock, Doors, Keeper, Profile, Shelf, Sink, Source, Steps, Text};
-use fpl_requests::{generate, load, report};
+use fpl_requests::{dream, generate, load, report};
 use fpl_serving::pipe::pipe;
 use fpl_serving::serve::serve;
 use fpl_words::{WordFault, Words, words_of};
@@ -95,6 +95,12 @@ pub fn run<S: Source, W: Sink, C: Clock, K: Keeper, D: Doors, F: Shelf, L: Ledge
             report(alloc, &key, what, output, clock, keeper, steps)
         }
         Ok(Words::Generate { seed, .. }) => generate(alloc, seed, output, keeper, steps),
+        Ok(Words::Dream { key, gameweek, .. }) => {
+            dream(alloc, &key, gameweek, output, clock, keeper, steps)
+        }
+        // Neither of these is done yet.
+        Ok(Words::Events { .. }) => print(output, NOT_READ.as_bytes(), WORDS),
+        Ok(Words::Draft { .. }) => print(output, NOT_READ.as_bytes(), WORDS),
         Err(WordFault::Unread) => print(output, NOT_READ.as_bytes(), WORDS),
         Err(WordFault::Memory) => MEMORY,
     }

@@ -9,4 +9,4 @@ are_read = (refl, (refl, (refl, (refl, (refl, (refl, (refl, tt)))))))
 
 pub are_unread : AreOrdered unread_lines
 unfolding clap_on_literals
-are_unread = (refl, (refl, (refl, (refl, (refl, (refl, (refl, (refl, (refl, (refl, (refl, tt)))))))))))
+are_unread = (refl, (refl, (refl, (refl, (refl, (refl, (refl, (refl, (refl, (refl, (refl, (refl, (refl, (refl, tt))))))))))))))

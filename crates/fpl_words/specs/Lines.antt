@@ -27,7 +27,8 @@ read_lines =
     ∷ []
 
 -- lines that are not read: no word, help, an option twice, a part of its name, a value with a dash in front, an empty
--- one, a dash or two alone, and an option that a report does not need
+-- one, a dash or two alone, an option that a report does not need, and commands
+-- without an option that has to be given
 abbrev pub unread_lines : List (List (List ℕ) × Option Words)
 unread_lines =
     ([], None)
@@ -41,4 +42,7 @@ unread_lines =
     ∷ (codes "pipe" ∷ codes "--key" ∷ op ∷ codes "--" ∷ [], None)
     ∷ (codes "pipe" ∷ codes "--key" ∷ op ∷ codes "--help" ∷ [], None)
     ∷ (codes "report" ∷ codes "--key" ∷ op ∷ codes "--store" ∷ codes "s" ∷ codes "--what" ∷ codes "season" ∷ codes "--id" ∷ codes "1" ∷ [], None)
+    ∷ (codes "dream" ∷ codes "--key" ∷ op ∷ codes "--store" ∷ codes "s" ∷ [], None)
+    ∷ (codes "events" ∷ codes "--key" ∷ op ∷ codes "--store" ∷ codes "s" ∷ [], None)
+    ∷ (codes "draft" ∷ codes "--key" ∷ op ∷ codes "--store" ∷ codes "s" ∷ [], None)
     ∷ []

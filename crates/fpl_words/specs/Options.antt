@@ -62,6 +62,29 @@ report =
 abbrev pub generate : App
 generate = with_rule (with_rule (new_app (codes "generate")) (wanted (codes "seed"))) (offered (codes "store"))
 
+-- dream --key K --store PATH --gameweek N
+abbrev pub dream : App
+dream =
+    let key = with_rule (new_app (codes "dream")) (wanted (codes "key")) in
+    with_rule (with_rule key (wanted (codes "store"))) (wanted (codes "gameweek"))
+
+-- events --key K --store PATH --fixture N [--length N]
+abbrev pub events : App
+events =
+    let key = with_rule (new_app (codes "events")) (wanted (codes "key")) in
+    let fixture = with_rule (with_rule key (wanted (codes "store"))) (wanted (codes "fixture")) in
+    with_rule fixture (offered (codes "length"))
+
+-- draft --key K --store PATH --members N
+abbrev pub draft : App
+draft =
+    let key = with_rule (new_app (codes "draft")) (wanted (codes "key")) in
+    with_rule (with_rule key (wanted (codes "store"))) (wanted (codes "members"))
+
+-- the commands that stand beside the season
+abbrev pub with_further : App → App
+with_further a = with_subcommand (with_subcommand (with_subcommand a dream.top) events.top) draft.top
+
 -- a command is wanted, and no word asks for help or a version
 abbrev pub bare : App
 bare = on_top (λ s. record s { no_binary_name = true; disable_help_flag = true; disable_help_subcommand = true; disable_version_flag = true; subcommand_required = true }) (new_app (codes "kowhirupe"))
@@ -70,7 +93,7 @@ bare = on_top (λ s. record s { no_binary_name = true; disable_help_flag = true;
 abbrev pub season_host : App
 season_host =
     let front = with_subcommand (with_subcommand (with_subcommand bare score.top) pipe.top) serve.top in
-    with_subcommand (with_subcommand (with_subcommand front load.top) report.top) generate.top
+    with_further (with_subcommand (with_subcommand (with_subcommand front load.top) report.top) generate.top)
 
 -- clap has this command, and none of its options counts for the commands below it
 pub record IsCommand (a : App) (c : Command) : Type 0 where

@@ -6,7 +6,7 @@ use Rattle.clap.specs.Words.{Row, Text}
 use Rattle.fpl_words.specs.declared.words.Words.{Words}
 use Rattle.fpl_words.specs.declared.words.Words.TheVariants as words
 use Rattle.fpl_words.specs.Options.{entered_in}
-use Rattle.fpl_words.specs.Values.{◌>>=◌, clients, connections, key, number, pages, path, profile, report_of, store}
+use Rattle.fpl_words.specs.Values.{◌>>=◌, clients, connections, key, match_length, number, pages, path, profile, report_of, store}
 
 -- What each command says by the values of its options.
 
@@ -32,6 +32,26 @@ report given = key given >>= λ k. path (codes "store") given >>= λ kept. repor
 abbrev pub generate : List Row → Option Words
 generate given = number (codes "seed") 0 (2 ^ 64 - 1) given >>= λ seed. store given >>= λ kept. Some (words.Generate seed kept)
 
+abbrev pub dream : List Row → Option Words
+dream given =
+    key given >>= λ k. path (codes "store") given >>= λ kept. number (codes "gameweek") 1 38 given >>= λ gameweek. Some (words.Dream k kept gameweek)
+
+abbrev pub events : List Row → Option Words
+events given =
+    key given >>= λ k. path (codes "store") given >>= λ kept. number (codes "fixture") 1 4294967295 given >>= λ fixture.
+    match_length given >>= λ minutes. Some (words.Events k kept fixture minutes)
+
+abbrev pub draft : List Row → Option Words
+draft given =
+    key given >>= λ k. path (codes "store") given >>= λ kept. number (codes "members") 2 8 given >>= λ members. Some (words.Draft k kept members)
+
+-- what a command of one of these names says that stand beside the season
+abbrev pub further_named : Text → List Row → Option Words
+further_named name given =
+    if bytes_eq name (codes "dream") then dream given
+    else (if bytes_eq name (codes "events") then events given
+    else (if bytes_eq name (codes "draft") then draft given else None))
+
 -- what a command of this name says
 abbrev pub order_named : Text → List Row → Option Words
 order_named name given =
@@ -40,7 +60,7 @@ order_named name given =
     else (if bytes_eq name (codes "serve") then serve given
     else (if bytes_eq name (codes "load") then load given
     else (if bytes_eq name (codes "report") then report given
-    else (if bytes_eq name (codes "generate") then generate given else None)))))
+    else (if bytes_eq name (codes "generate") then generate given else further_named name given)))))
 
 -- a word that is dashes alone
 abbrev pub is_dash : Text → Bool

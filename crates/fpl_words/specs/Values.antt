@@ -95,6 +95,14 @@ profile_or_first (Some text) = profile_named text
 abbrev pub profile : List Row → Option Profile
 profile given = profile_or_first (first_of (codes "profile") given)
 
+abbrev pub length_or_full : Option Text → Option ℕ
+length_or_full None = Some 90
+length_or_full (Some text) = number_in 1 120 text
+
+-- how many minutes a match has, 90 where nothing is said
+abbrev pub match_length : List Row → Option ℕ
+match_length given = length_or_full (first_of (codes "length") given)
+
 abbrev pub season_report : List Row → Option What
 season_report given = without (codes "id") given (without (codes "gameweek") given (Some what.Season))
 

@@ -2,7 +2,7 @@
 ghost use Rattle.std.specs.Prelude.{◌≡◌, IfOk, false, map, option_map};
 ghost use Rattle.clap.specs.Words.{app_of, first_of, found_of, rows_of, rule_of, subcommand_rows_of, with_subcommand};
 ghost use Rattle.clap.specs.declared.builder.command.Command.TheViews.{out-Command};
-ghost use Rattle.fpl_words.specs.Options.{IsCommand, IsParsed, bare, command_of, option, season_host, with_options};
+ghost use Rattle.fpl_words.specs.Options.{IsCommand, IsParsed, bare, command_of, option, season_host, with_further, with_options};
 
 use crate::words::WordFault;
 use clap::error::ErrorKind;
@@ -35,7 +35,20 @@ fn host_command<'a>(alloc: Global) -> Result<Command<'a>, AllocError>
     let command = with_command(alloc, command, "load", wanted, &["profile"])?;
     let wanted = &["key", "store", "what"];
     let command = with_command(alloc, command, "report", wanted, &["id", "gameweek"])?;
-    with_command(alloc, command, "generate", &["seed"], &["store"])
+    let command = with_command(alloc, command, "generate", &["seed"], &["store"])?;
+    with_further(alloc, command)
+}
+
+// The command with those below it that stand beside the season: the team of the week, the events of a match, a draft.
+fn with_further<'a>(alloc: Global, command: Command<'a>) -> Result<Command<'a>, AllocError>
+    requires { (out-Command command).has_globals ≡ false }
+    ensures { IfOk result (IsCommand (with_further (app_of command.entry))) }
+{
+    let wanted = &["key", "store", "gameweek"];
+    let command = with_command(alloc, command, "dream", wanted, &[])?;
+    let wanted = &["key", "store", "fixture"];
+    let command = with_command(alloc, command, "events", wanted, &["length"])?;
+    with_command(alloc, command, "draft", &["key", "store", "members"], &[])
 }
 
 fn bare_command<'a>(alloc: Global) -> Command<'a>

@@ -2,13 +2,13 @@
 ghost use Rattle.std.specs.Prelude.{◌≡◌, IfOk, map};
 ghost use Rattle.std.specs.List.{list_any};
 ghost use Rattle.clap.specs.Words.{found_of, rows_of, subcommand_rows_of};
-ghost use Rattle.fpl_words.specs.Orders.{generate, is_dash, load, order_named, order_of, ordered, pipe, read, report, score, serve};
+ghost use Rattle.fpl_words.specs.Orders.{draft, dream, events, further_named, generate, is_dash, load, order_named, order_of, ordered, pipe, read, report, score, serve};
 ghost use Rattle.fpl_words.specs.Values.{Answers};
 
 use crate::options::{entered, parse};
 use crate::values::{
-    clients_of, connections_of, is_word, key_of, number_of, pages_of, path_of, profile_of,
-    store_of, what_of,
+    clients_of, connections_of, gameweek_of, is_word, key_of, length_of, number_of, pages_of,
+    path_of, profile_of, store_of, what_of,
 };
 use crate::words::{WordFault, Words};
 use clap::ArgMatches;
@@ -84,6 +84,21 @@ fn named(alloc: Global, name: &str, given: &ArgMatches<'_>) -> Result<Words, Wor
     } else if is_word(name, "generate") {
         generate(alloc, given)
     } else {
+        further_named(alloc, name, given)
+    }
+}
+
+// The command of this name that stands beside the season.
+fn further_named(alloc: Global, name: &str, given: &ArgMatches<'_>) -> Result<Words, WordFault>
+    ensures { Answers (further_named name.now (rows_of (found_of given.now))) result }
+{
+    if is_word(name, "dream") {
+        dream(alloc, given)
+    } else if is_word(name, "events") {
+        events(alloc, given)
+    } else if is_word(name, "draft") {
+        draft(alloc, given)
+    } else {
         Err(WordFault::Unread)
     }
 }
@@ -154,4 +169,45 @@ fn generate(alloc: Global, given: &ArgMatches<'_>) -> Result<Words, WordFault>
     let seed = number_of(given, "seed", 0, u64::MAX)?;
     let store = store_of(alloc, given)?;
     Ok(Words::Generate { seed, store })
+}
+
+fn dream(alloc: Global, given: &ArgMatches<'_>) -> Result<Words, WordFault>
+    ensures { Answers (dream (rows_of (found_of given.now))) result }
+{
+    let key = key_of(alloc, given)?;
+    let store = path_of(alloc, given, "store")?;
+    let gameweek = gameweek_of(given)?;
+    Ok(Words::Dream {
+        key,
+        store,
+        gameweek,
+    })
+}
+
+fn events(alloc: Global, given: &ArgMatches<'_>) -> Result<Words, WordFault>
+    ensures { Answers (events (rows_of (found_of given.now))) result }
+{
+    let key = key_of(alloc, given)?;
+    let store = path_of(alloc, given, "store")?;
+    let fixture = number_of(given, "fixture", 1, 4_294_967_295)?;
+    let length = length_of(given)?;
+    Ok(Words::Events {
+        key,
+        store,
+        fixture: fixture as u32,
+        length,
+    })
+}
+
+fn draft(alloc: Global, given: &ArgMatches<'_>) -> Result<Words, WordFault>
+    ensures { Answers (draft (rows_of (found_of given.now))) result }
+{
+    let key = key_of(alloc, given)?;
+    let store = path_of(alloc, given, "store")?;
+    let members = number_of(given, "members", 2, 8)?;
+    Ok(Words::Draft {
+        key,
+        store,
+        members: members as u8,
+    })
 }

@@ -2,7 +2,7 @@
 ghost use Rattle.std.specs.Prelude.{◌≡◌, ◌≤◌, IfOk, None, Some, codes, is_some};
 ghost use Rattle.clap.specs.Words.{first_of, rows_of, found_of};
 ghost use Rattle.std.specs.Str.{bytes_eq};
-ghost use Rattle.fpl_words.specs.Values.{Answers, clients, connections, entry_report, fixture_report, id, if_given, if_key, if_path, key, messages, number, number_in, pages, path, profile, profile_named, report_named, report_of, season_report, store, table_report, without};
+ghost use Rattle.fpl_words.specs.Values.{Answers, clients, connections, entry_report, fixture_report, id, if_given, if_key, if_path, key, match_length, messages, number, number_in, pages, path, profile, profile_named, report_named, report_of, season_report, store, table_report, without};
 
 use crate::options::value_of;
 use crate::words::{What, WordFault};
@@ -109,6 +109,19 @@ fn number_in(text: &str, least: u64, greatest: u64) -> Result<u64, WordFault>
             }
         }
         None => Err(WordFault::Unread),
+    }
+}
+
+// How many minutes a match has, 90 where nothing is said.
+pub fn length_of(given: &ArgMatches<'_>) -> Result<u8, WordFault>
+    ensures { Answers (match_length (rows_of (found_of given.now))) result }
+{
+    match value_of(given, "length") {
+        Some(text) => {
+            let number = number_in(text, 1, 120)?;
+            Ok(number as u8)
+        }
+        None => Ok(90),
     }
 }
 
@@ -249,7 +262,8 @@ fn id_of(given: &ArgMatches<'_>) -> Result<u32, WordFault>
     Ok(number as u32)
 }
 
-fn gameweek_of(given: &ArgMatches<'_>) -> Result<Gw, WordFault>
+// The gameweek that is named.
+pub fn gameweek_of(given: &ArgMatches<'_>) -> Result<Gw, WordFault>
     ensures { Answers (number (codes "gameweek") 1 38 (rows_of (found_of given.now))) result }
 {
     let number = number_of(given, "gameweek", 1, 38)?;

@@ -42,6 +42,25 @@ pub enum Words {
         seed: u64,
         store: Option<Text>,
     },
+    /// Writes the team of the week of a locked gameweek.
+    Dream {
+        key: Key,
+        store: Text,
+        gameweek: Gw,
+    },
+    /// Sends the lines that the events of a match give. The fixture is not 0, and the match has 1 to 120 minutes.
+    Events {
+        key: Key,
+        store: Text,
+        fixture: u32,
+        length: u8,
+    },
+    /// Writes what becomes of a draft league of 2 to 8 members.
+    Draft {
+        key: Key,
+        store: Text,
+        members: u8,
+    },
 }
 
 /// What a report shows. An id is from 1 to 4294967295.

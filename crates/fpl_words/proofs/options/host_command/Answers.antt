@@ -1,7 +1,7 @@
-use Rattle.std.proofs.Common.{◌∙◌, subst}
+use Rattle.std.proofs.Common.{◌∙◌, ap, subst}
 use Rattle.std.specs.Prelude.{IfOk}
 use Rattle.clap.specs.Words.{App}
-use Rattle.fpl_words.specs.Options.{IsCommand, generate, load, pipe, report, score, serve}
+use Rattle.fpl_words.specs.Options.{IsCommand, generate, load, pipe, report, score, serve, with_further}
 use Rattle.fpl_words.proofs.OptionLemmas.{below}
 use Rattle.fpl_words.proofs.options.host_command.Goals as goal
 
@@ -10,4 +10,5 @@ returns c =
     let pipe_too = c.in_ok-command-2.ensures.app ∙ below pipe.top (c.in_ok-command.ensures.app ∙ below score.top c.bare_command.ensures.app) in
     let load_too = c.in_ok-command-4.ensures.app ∙ below load.top (c.in_ok-command-3.ensures.app ∙ below serve.top pipe_too) in
     let report_too = c.in_ok-command-5.ensures.app ∙ below report.top load_too in
-    subst (λ (a : App). IfOk c.with_command-6.result (IsCommand a)) (below generate.top report_too) c.with_command-6.ensures
+    let all = c.in_ok-command-6.ensures.app ∙ below generate.top report_too in
+    subst (λ (a : App). IfOk c.with_further.result (IsCommand a)) (ap with_further all) c.with_further.ensures

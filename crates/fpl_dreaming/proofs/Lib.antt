@@ -1,0 +1,4 @@
+mod AskedLemmas
+mod FirstPlayers
+mod LineLists
+mod RowLists

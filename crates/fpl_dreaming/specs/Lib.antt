@@ -1,0 +1,3 @@
+pub mod Dreaming
+pub mod Rows
+pub mod Texts
