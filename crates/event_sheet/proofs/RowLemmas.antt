@@ -1,0 +1,110 @@
+-- Rows one after another, and fields that spell one event.
+use Rattle.std.proofs.Common.{ℕ, suc, ◌+◌, ◌^◌, ◌≡◌, ◌<◌, ◌≤◌, ◌∙◌, Bool, true, false, List, [], ◌∷◌, ◌++◌, Option, Some, None, arith, refl, sym, ap, subst}
+use Rattle.std.specs.List.{fold}
+use Rattle.std.specs.Fmt.{decimal}
+use Rattle.std.proofs.lemmas.Fmt.{decimal_injective}
+use Rattle.csv.specs.Records.{field_at}
+use Rattle.match_events.specs.declared.event.Event.{Event}
+use Rattle.match_events.specs.declared.event.EventKind.{EventKind}
+use Rattle.match_events.specs.declared.event.EventKind.TheVariants as kind
+use Rattle.match_events.specs.declared.event.Side.{Side}
+use Rattle.match_events.specs.declared.event.Side.TheVariants as side
+use Rattle.event_sheet.specs.Rows.{AreDoable, IsDoable, events_after}
+use Rattle.event_sheet.specs.Words.{IsNumberAt, NamesOther, SpellsEvent, SpellsSide, kind_word, side_letter}
+use Rattle.event_sheet.specs.declared.row.EventRow.{EventRow}
+
+-- one more row that may be done behind these
+pub doable-push : (minutes count : ℕ) (rows : List EventRow) (row : EventRow) → AreDoable minutes count rows → IsDoable minutes (fold events_after count rows) row
+    → AreDoable minutes count (rows ++ row ∷ [])
+doable-push minutes count [] row all one = (one, tt)
+doable-push minutes count (first ∷ rows) row all one = (all.0, doable-push minutes (events_after count first) rows row all.1 one)
+
+same_some : {A : Type 0} {a b : A} (o : Option A) → o ≡ Some a → o ≡ Some b → a ≡ b
+same_some o p q = cc
+
+-- a field spells one number
+pub one_number : (fields : List (List ℕ)) (place least greatest m n : ℕ) → greatest < 2 ^ 64 → IsNumberAt fields place least greatest m → IsNumberAt fields place least greatest n → m ≡ n
+one_number fields place least greatest m n small a b =
+    decimal_injective m n (omega (arith, a.1)) (omega (arith, b.1)) (same_some (field_at fields place) a.2 b.2)
+
+-- one kind
+one_kind : (a b : EventKind) → kind_word a ≡ kind_word b → a ≡ b
+one_kind kind.Start kind.Start is = refl
+one_kind kind.Start kind.Sub is = cc
+one_kind kind.Start kind.Goal is = cc
+one_kind kind.Start kind.Own is = cc
+one_kind kind.Start kind.Yellow is = cc
+one_kind kind.Start kind.Red is = cc
+one_kind kind.Sub kind.Start is = cc
+one_kind kind.Sub kind.Sub is = refl
+one_kind kind.Sub kind.Goal is = cc
+one_kind kind.Sub kind.Own is = cc
+one_kind kind.Sub kind.Yellow is = cc
+one_kind kind.Sub kind.Red is = cc
+one_kind kind.Goal kind.Start is = cc
+one_kind kind.Goal kind.Sub is = cc
+one_kind kind.Goal kind.Goal is = refl
+one_kind kind.Goal kind.Own is = cc
+one_kind kind.Goal kind.Yellow is = cc
+one_kind kind.Goal kind.Red is = cc
+one_kind kind.Own kind.Start is = cc
+one_kind kind.Own kind.Sub is = cc
+one_kind kind.Own kind.Goal is = cc
+one_kind kind.Own kind.Own is = refl
+one_kind kind.Own kind.Yellow is = cc
+one_kind kind.Own kind.Red is = cc
+one_kind kind.Yellow kind.Start is = cc
+one_kind kind.Yellow kind.Sub is = cc
+one_kind kind.Yellow kind.Goal is = cc
+one_kind kind.Yellow kind.Own is = cc
+one_kind kind.Yellow kind.Yellow is = refl
+one_kind kind.Yellow kind.Red is = cc
+one_kind kind.Red kind.Start is = cc
+one_kind kind.Red kind.Sub is = cc
+one_kind kind.Red kind.Goal is = cc
+one_kind kind.Red kind.Own is = cc
+one_kind kind.Red kind.Yellow is = cc
+one_kind kind.Red kind.Red is = refl
+
+-- one side
+letter_side : (a b : Side) → side_letter a ≡ side_letter b → a ≡ b
+letter_side side.Home side.Home is = refl
+letter_side side.Home side.Away is = cc
+letter_side side.Away side.Home is = cc
+letter_side side.Away side.Away is = refl
+
+one_side : (k : EventKind) (field : List ℕ) (a b : Side) → SpellsSide k field a → SpellsSide k field b → a ≡ b
+one_side kind.Start field a b p q = letter_side a b (sym p ∙ q)
+one_side kind.Sub field a b p q = p.1 ∙ sym q.1
+one_side kind.Goal field a b p q = p.1 ∙ sym q.1
+one_side kind.Own field a b p q = p.1 ∙ sym q.1
+one_side kind.Yellow field a b p q = p.1 ∙ sym q.1
+one_side kind.Red field a b p q = p.1 ∙ sym q.1
+
+-- one second player, or none
+not_none : (fields : List (List ℕ)) (place n : ℕ) → field_at fields place ≡ Some (decimal 0) → IsNumberAt fields place 1 999999 n → ⊥
+not_none fields place n none named =
+    let same : 0 ≡ n = decimal_injective 0 n (omega arith) (omega (arith, named.1)) (same_some (field_at fields place) none named.2) in
+    absurd (omega (arith, named.0))
+
+one_other : (fields : List (List ℕ)) (place : ℕ) (a b : Option ℕ) → NamesOther fields place a → NamesOther fields place b → a ≡ b
+one_other fields place None None p q = refl
+one_other fields place None (Some n) p q = absurd (not_none fields place n p q)
+one_other fields place (Some m) None p q = absurd (not_none fields place m q p)
+one_other fields place (Some m) (Some n) p q = ap (λ (k : ℕ). Some k) (one_number fields place 1 999999 m n (omega arith) p q)
+
+abbrev made : ℕ → EventKind → Side → ℕ → Option ℕ → Event
+made minute kind side player other = record { minute = minute; kind = kind; side = side; player = player; other = other }
+
+made_event : (m n : ℕ) (k l : EventKind) (a b : Side) (p q : ℕ) (x y : Option ℕ) → m ≡ n → k ≡ l → a ≡ b → p ≡ q → x ≡ y → made m k a p x ≡ made n l b q y
+made_event m n k l a b p q x y h1 h2 h3 h4 h5 = cc
+
+-- fields spell one event
+pub one_event : (fields : List (List ℕ)) (a b : Event) → SpellsEvent fields a → SpellsEvent fields b → a ≡ b
+one_event fields a b p q =
+    let kinds : a.kind ≡ b.kind = one_kind a.kind b.kind (same_some (field_at fields 3) p.kind q.kind) in
+    let field : p.side_field ≡ q.side_field = same_some (field_at fields 4) p.side_there q.side_there in
+    let side_b : SpellsSide a.kind p.side_field b.side = subst (λ (k : EventKind). SpellsSide k p.side_field b.side) (sym kinds) (subst (λ (f : List ℕ). SpellsSide b.kind f b.side) (sym field) q.side) in
+    made_event a.minute b.minute a.kind b.kind a.side b.side a.player b.player a.other b.other
+    (one_number fields 2 0 255 a.minute b.minute (omega arith) p.minute q.minute) kinds (one_side a.kind p.side_field a.side b.side p.side side_b)
+    (one_number fields 5 1 999999 a.player b.player (omega arith) p.player q.player) (one_other fields 6 a.other b.other p.other q.other)

@@ -1,0 +1,4 @@
+pub mod ChangeLemmas
+pub mod ListLemmas
+pub mod PlaceLemmas
+pub mod WalkLemmas

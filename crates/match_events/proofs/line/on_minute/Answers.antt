@@ -1,0 +1,15 @@
+use Rattle.std.proofs.Common.{◌≡◌, ◌∙◌, ap, sym, ℕ, Option, Some, None}
+use Rattle.std.specs.Option.{option_map_or}
+use Rattle.match_events.specs.Events.{brings_on}
+use Rattle.match_events.specs.declared.event.Event.{Event}
+use Rattle.match_events.proofs.ListLemmas.{found_first, found_none}
+use Rattle.match_events.proofs.line.on_minute.Goals as goal
+
+pub returns-in-Some : goal.returns-in-Some
+returns-in-Some c =
+    ap (λ (o : Option Event). option_map_or (λ (event : Event). event.minute) o 0)
+    (sym (found_first (brings_on c.args.player) c.args.events.now c.in-Some.place c.index-events-place.result c.in-Some.ensures.within c.index-events-place.is c.in-Some.ensures.place))
+
+pub returns-in-None : goal.returns-in-None
+returns-in-None c =
+    ap (λ (o : Option Event). option_map_or (λ (event : Event). event.minute) o 0) (sym (found_none (brings_on c.args.player) c.args.events.now c.in-None.ensures.place))

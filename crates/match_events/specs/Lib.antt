@@ -1,0 +1,5 @@
+pub mod Events
+pub mod Lines
+pub mod Places
+pub mod Refusals
+pub mod Sheets
