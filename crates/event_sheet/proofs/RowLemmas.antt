@@ -2,22 +2,32 @@
 use Rattle.std.proofs.Common.{ℕ, suc, ◌+◌, ◌^◌, ◌≡◌, ◌<◌, ◌≤◌, ◌∙◌, Bool, true, false, List, [], ◌∷◌, ◌++◌, Option, Some, None, arith, refl, sym, ap, subst}
 use Rattle.std.specs.List.{fold}
 use Rattle.std.specs.Fmt.{decimal}
+use Rattle.std.specs.Prelude.{codes}
+use Rattle.std.proofs.lemmas.Bool.{false≢true}
 use Rattle.std.proofs.lemmas.Fmt.{decimal_injective}
 use Rattle.csv.specs.Records.{field_at}
+use Rattle.match_events.specs.Events.{is_event}
 use Rattle.match_events.specs.declared.event.Event.{Event}
 use Rattle.match_events.specs.declared.event.EventKind.{EventKind}
 use Rattle.match_events.specs.declared.event.EventKind.TheVariants as kind
 use Rattle.match_events.specs.declared.event.Side.{Side}
 use Rattle.match_events.specs.declared.event.Side.TheVariants as side
-use Rattle.event_sheet.specs.Rows.{AreDoable, IsDoable, events_after}
-use Rattle.event_sheet.specs.Words.{IsNumberAt, NamesOther, SpellsEvent, SpellsSide, kind_word, side_letter}
+use Rattle.event_sheet.specs.Rows.{AreDoable, IsDoable, Spells, events_after}
+use Rattle.event_sheet.specs.Words.{Begins, IsNumberAt, NamesOther, SpellsEvent, SpellsSide, kind_word, side_letter}
 use Rattle.event_sheet.specs.declared.row.EventRow.{EventRow}
+use Rattle.event_sheet.specs.declared.row.EventRow.TheVariants as row
 
 -- one more row that may be done behind these
-pub doable-push : (minutes count : ℕ) (rows : List EventRow) (row : EventRow) → AreDoable minutes count rows → IsDoable minutes (fold events_after count rows) row
-    → AreDoable minutes count (rows ++ row ∷ [])
-doable-push minutes count [] row all one = (one, tt)
-doable-push minutes count (first ∷ rows) row all one = (all.0, doable-push minutes (events_after count first) rows row all.1 one)
+pub doable-push : (minutes count : ℕ) (rows : List EventRow) (last : EventRow) → AreDoable minutes count rows → IsDoable minutes (fold events_after count rows) last
+    → AreDoable minutes count (rows ++ last ∷ [])
+doable-push minutes count [] last all one = (one, tt)
+doable-push minutes count (first ∷ rows) last all one = (all.0, doable-push minutes (events_after count first) rows last all.1 one)
+
+-- a row adds one event at most
+pub after_small : (count : ℕ) (one : EventRow) → events_after count one ≤ count + 1
+after_small count (row.Insert place event) = omega arith
+after_small count (row.Remove place) = omega arith
+after_small count row.Send = omega arith
 
 same_some : {A : Type 0} {a b : A} (o : Option A) → o ≡ Some a → o ≡ Some b → a ≡ b
 same_some o p q = cc
@@ -108,3 +118,39 @@ one_event fields a b p q =
     made_event a.minute b.minute a.kind b.kind a.side b.side a.player b.player a.other b.other
     (one_number fields 2 0 255 a.minute b.minute (omega arith) p.minute q.minute) kinds (one_side a.kind p.side_field a.side b.side p.side side_b)
     (one_number fields 5 1 999999 a.player b.player (omega arith) p.player q.player) (one_other fields 6 a.other b.other p.other q.other)
+
+-- a number below the least is not one of the range
+pub too_small : (fields : List (List ℕ)) (place least greatest m n : ℕ) (field : List ℕ) → greatest < 2 ^ 64 → m ≤ greatest → m < least → field_at fields place ≡ Some field → field ≡ decimal m
+    → IsNumberAt fields place least greatest n → ⊥
+too_small fields place least greatest m n field small within low there is spelled =
+    let same : m ≡ n = decimal_injective m n (omega arith) (omega (arith, spelled.1)) (sym is ∙ same_some (field_at fields place) there spelled.2) in
+    absurd (omega (arith, spelled.0))
+
+-- Fields that begin as a row of a kind spell no row where they spell none of that kind.
+
+pub no_place : (minutes count : ℕ) (fields : List (List ℕ)) → Begins fields (codes "insert") 7 → ((n : ℕ) → IsNumberAt fields 1 1 (count + 1) n → ⊥) → (one : EventRow) → Spells minutes count fields one → ⊥
+no_place minutes count fields begins none (row.Insert place event) spelled = none place spelled.1
+no_place minutes count fields begins none (row.Remove place) spelled = let a = begins.0 in let b = spelled.0.0 in absurd (omega arith)
+no_place minutes count fields begins none row.Send spelled = let a = begins.0 in let b = spelled.0 in absurd (omega arith)
+
+pub no_event : (minutes count : ℕ) (fields : List (List ℕ)) → Begins fields (codes "insert") 7 → ((event : Event) → SpellsEvent fields event → ⊥) → (one : EventRow) → Spells minutes count fields one → ⊥
+no_event minutes count fields begins none (row.Insert place event) spelled = none event spelled.2
+no_event minutes count fields begins none (row.Remove place) spelled = let a = begins.0 in let b = spelled.0.0 in absurd (omega arith)
+no_event minutes count fields begins none row.Send spelled = let a = begins.0 in let b = spelled.0 in absurd (omega arith)
+
+pub not_in : (minutes count : ℕ) (fields : List (List ℕ)) (told : Event) → Begins fields (codes "insert") 7 → SpellsEvent fields told → is_event minutes told ≡ false → (one : EventRow) → Spells minutes count fields one → ⊥
+not_in minutes count fields told begins spells out (row.Insert place event) spelled =
+    false≢true (sym out ∙ ap (is_event minutes) (one_event fields told event spells spelled.2) ∙ spelled.3)
+not_in minutes count fields told begins spells out (row.Remove place) spelled = let a = begins.0 in let b = spelled.0.0 in absurd (omega arith)
+not_in minutes count fields told begins spells out row.Send spelled = let a = begins.0 in let b = spelled.0 in absurd (omega arith)
+
+pub no_removal : (minutes count : ℕ) (fields : List (List ℕ)) → Begins fields (codes "remove") 2 → ((n : ℕ) → IsNumberAt fields 1 1 count n → ⊥) → (one : EventRow) → Spells minutes count fields one → ⊥
+no_removal minutes count fields begins none (row.Insert place event) spelled = let a = begins.0 in let b = spelled.0.0 in absurd (omega arith)
+no_removal minutes count fields begins none (row.Remove place) spelled = none place spelled.1
+no_removal minutes count fields begins none row.Send spelled = let a = begins.0 in let b = spelled.0 in absurd (omega arith)
+
+pub no_row : (minutes count : ℕ) (fields : List (List ℕ)) → (Begins fields (codes "insert") 7 → ⊥) → (Begins fields (codes "remove") 2 → ⊥) → (Begins fields (codes "send") 1 → ⊥)
+    → (one : EventRow) → Spells minutes count fields one → ⊥
+no_row minutes count fields inserts removes sends (row.Insert place event) spelled = inserts spelled.0
+no_row minutes count fields inserts removes sends (row.Remove place) spelled = removes spelled.0
+no_row minutes count fields inserts removes sends row.Send spelled = sends spelled

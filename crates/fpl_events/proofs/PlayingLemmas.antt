@@ -29,7 +29,7 @@ refused_as number broken edited behind refused.Memory before after status judged
 
 -- one event more, or fewer
 pub one_more : (events : List Event) (place : ℕ) (event : Event) → 1 ≤ place → place ≤ length events + 1 → length (with_event events place event) ≡ length events + 1
-one_more events place event least most = length-insert events (place - 1) event (omega arith)
+one_more events place event least most = omega (arith, length-insert events (place - 1) event (omega arith))
 
 pub one_fewer : (events : List Event) (place : ℕ) → 1 ≤ place → place ≤ length events → length (without_event events place) ≡ length events - 1
 one_fewer events place least most = omega (arith, length-remove events (place - 1) (omega arith))

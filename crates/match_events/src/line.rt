@@ -88,25 +88,30 @@ fn on_minute(events: &[Event], player: PlayerId) -> u8
     }
 }
 
-// 1 where he is booked, and 1 where he is sent off.
+// 1 where a player is booked.
 fn yellow_of(events: &[Event], player: PlayerId) -> u16
     ensures { result ≡ flag_of (books player) events.now }
 {
-    if events.iter().any(|event| event.books(player)) {
-        1
-    } else {
-        0
-    }
+    if is_booked(events, player) { 1 } else { 0 }
 }
 
+fn is_booked(events: &[Event], player: PlayerId) -> bool
+    ensures { result ≡ list_any (books player) events.now }
+{
+    events.iter().any(|event| event.books(player))
+}
+
+// 1 where a player is sent off.
 fn red_of(events: &[Event], player: PlayerId) -> u16
     ensures { result ≡ flag_of (sends_off player) events.now }
 {
-    if events.iter().any(|event| event.sends_off(player)) {
-        1
-    } else {
-        0
-    }
+    if is_sent_off(events, player) { 1 } else { 0 }
+}
+
+fn is_sent_off(events: &[Event], player: PlayerId) -> bool
+    ensures { result ≡ list_any (sends_off player) events.now }
+{
+    events.iter().any(|event| event.sends_off(player))
 }
 
 fn goals_of(events: &[Event], player: PlayerId) -> u16

@@ -7,7 +7,8 @@ use Rattle.match_events.proofs.line.on_minute.Goals as goal
 
 pub returns-in-Some : goal.returns-in-Some
 returns-in-Some c =
-    ap (λ (o : Option Event). option_map_or (λ (event : Event). event.minute) o 0)
+    ap (λ (event : Event). event.minute) (sym c.index-events-place.is)
+    ∙ ap (λ (o : Option Event). option_map_or (λ (event : Event). event.minute) o 0)
     (sym (found_first (brings_on c.args.player) c.args.events.now c.in-Some.place c.index-events-place.result c.in-Some.ensures.within c.index-events-place.is c.in-Some.ensures.place))
 
 pub returns-in-None : goal.returns-in-None
