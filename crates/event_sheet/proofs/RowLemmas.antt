@@ -1,9 +1,9 @@
 -- Rows one after another, and fields that spell one event.
-use Rattle.std.proofs.Common.{ℕ, suc, ◌+◌, ◌^◌, ◌≡◌, ◌<◌, ◌≤◌, ◌∙◌, Bool, true, false, List, [], ◌∷◌, ◌++◌, Option, Some, None, arith, refl, sym, ap, subst}
+use Rattle.std.proofs.Common.{ℕ, ◌+◌, ◌^◌, ◌≡◌, ◌<◌, ◌≤◌, ◌∙◌, ◌==◌, true, false, List, [], ◌∷◌, ◌++◌, Option, None, Some, if◌then◌else◌, arith, refl, sym, ap, subst}
+use Rattle.std.specs.Prelude.{codes, slice_index}
 use Rattle.std.specs.List.{fold}
-use Rattle.std.specs.Fmt.{decimal}
-use Rattle.std.specs.Prelude.{codes}
 use Rattle.std.proofs.lemmas.Bool.{false≢true}
+use Rattle.std.specs.Fmt.{decimal}
 use Rattle.std.proofs.lemmas.Fmt.{decimal_injective}
 use Rattle.csv.specs.Records.{field_at}
 use Rattle.match_events.specs.Events.{is_event}
@@ -32,59 +32,49 @@ after_small count row.Send = omega arith
 same_some : {A : Type 0} {a b : A} (o : Option A) → o ≡ Some a → o ≡ Some b → a ≡ b
 same_some o p q = cc
 
+-- a number below the least is not one of the range
+pub too_small : (fields : List (List ℕ)) (place least greatest m n : ℕ) (field : List ℕ) → greatest < 2 ^ 64 → m ≤ greatest → m < least → field_at fields place ≡ Some field → field ≡ decimal m
+    → IsNumberAt fields place least greatest n → ⊥
+too_small fields place least greatest m n field small within low there is spelled =
+    let same : m ≡ n = decimal_injective m n (omega arith) (omega (arith, spelled.1)) (sym is ∙ same_some (field_at fields place) there spelled.2) in
+    absurd (omega (arith, spelled.0))
+
 -- a field spells one number
-pub one_number : (fields : List (List ℕ)) (place least greatest m n : ℕ) → greatest < 2 ^ 64 → IsNumberAt fields place least greatest m → IsNumberAt fields place least greatest n → m ≡ n
+one_number : (fields : List (List ℕ)) (place least greatest m n : ℕ) → greatest < 2 ^ 64 → IsNumberAt fields place least greatest m → IsNumberAt fields place least greatest n → m ≡ n
 one_number fields place least greatest m n small a b =
     decimal_injective m n (omega (arith, a.1)) (omega (arith, b.1)) (same_some (field_at fields place) a.2 b.2)
 
--- one kind
-one_kind : (a b : EventKind) → kind_word a ≡ kind_word b → a ≡ b
-one_kind kind.Start kind.Start is = refl
-one_kind kind.Start kind.Sub is = cc
-one_kind kind.Start kind.Goal is = cc
-one_kind kind.Start kind.Own is = cc
-one_kind kind.Start kind.Yellow is = cc
-one_kind kind.Start kind.Red is = cc
-one_kind kind.Sub kind.Start is = cc
-one_kind kind.Sub kind.Sub is = refl
-one_kind kind.Sub kind.Goal is = cc
-one_kind kind.Sub kind.Own is = cc
-one_kind kind.Sub kind.Yellow is = cc
-one_kind kind.Sub kind.Red is = cc
-one_kind kind.Goal kind.Start is = cc
-one_kind kind.Goal kind.Sub is = cc
-one_kind kind.Goal kind.Goal is = refl
-one_kind kind.Goal kind.Own is = cc
-one_kind kind.Goal kind.Yellow is = cc
-one_kind kind.Goal kind.Red is = cc
-one_kind kind.Own kind.Start is = cc
-one_kind kind.Own kind.Sub is = cc
-one_kind kind.Own kind.Goal is = cc
-one_kind kind.Own kind.Own is = refl
-one_kind kind.Own kind.Yellow is = cc
-one_kind kind.Own kind.Red is = cc
-one_kind kind.Yellow kind.Start is = cc
-one_kind kind.Yellow kind.Sub is = cc
-one_kind kind.Yellow kind.Goal is = cc
-one_kind kind.Yellow kind.Own is = cc
-one_kind kind.Yellow kind.Yellow is = refl
-one_kind kind.Yellow kind.Red is = cc
-one_kind kind.Red kind.Start is = cc
-one_kind kind.Red kind.Sub is = cc
-one_kind kind.Red kind.Goal is = cc
-one_kind kind.Red kind.Own is = cc
-one_kind kind.Red kind.Yellow is = cc
-one_kind kind.Red kind.Red is = refl
+-- a word names one kind, and a letter one side
+kind_in : List ℕ → EventKind
+kind_in word =
+    if slice_index word 0 == 103 then kind.Goal
+    else (if slice_index word 0 == 111 then kind.Own
+    else (if slice_index word 0 == 121 then kind.Yellow
+    else (if slice_index word 0 == 114 then kind.Red
+    else (if slice_index word 1 == 116 then kind.Start else kind.Sub))))
 
--- one side
-letter_side : (a b : Side) → side_letter a ≡ side_letter b → a ≡ b
-letter_side side.Home side.Home is = refl
-letter_side side.Home side.Away is = cc
-letter_side side.Away side.Home is = cc
-letter_side side.Away side.Away is = refl
+kind_is : (k : EventKind) → kind_in (kind_word k) ≡ k
+unfolding kind_in
+kind_is kind.Start = refl
+kind_is kind.Sub = refl
+kind_is kind.Goal = refl
+kind_is kind.Own = refl
+kind_is kind.Yellow = refl
+kind_is kind.Red = refl
+
+one_kind : (a b : EventKind) → kind_word a ≡ kind_word b → a ≡ b
+one_kind a b is = sym (kind_is a) ∙ ap kind_in is ∙ kind_is b
+
+side_in : List ℕ → Side
+side_in letter = if slice_index letter 0 == 104 then side.Home else side.Away
+
+side_is : (s : Side) → side_in (side_letter s) ≡ s
+unfolding side_in
+side_is side.Home = refl
+side_is side.Away = refl
 
 one_side : (k : EventKind) (field : List ℕ) (a b : Side) → SpellsSide k field a → SpellsSide k field b → a ≡ b
-one_side kind.Start field a b p q = letter_side a b (sym p ∙ q)
+one_side kind.Start field a b p q = sym (side_is a) ∙ ap side_in (sym p ∙ q) ∙ side_is b
 one_side kind.Sub field a b p q = p.1 ∙ sym q.1
 one_side kind.Goal field a b p q = p.1 ∙ sym q.1
 one_side kind.Own field a b p q = p.1 ∙ sym q.1
@@ -110,7 +100,7 @@ made_event : (m n : ℕ) (k l : EventKind) (a b : Side) (p q : ℕ) (x y : Optio
 made_event m n k l a b p q x y h1 h2 h3 h4 h5 = cc
 
 -- fields spell one event
-pub one_event : (fields : List (List ℕ)) (a b : Event) → SpellsEvent fields a → SpellsEvent fields b → a ≡ b
+one_event : (fields : List (List ℕ)) (a b : Event) → SpellsEvent fields a → SpellsEvent fields b → a ≡ b
 one_event fields a b p q =
     let kinds : a.kind ≡ b.kind = one_kind a.kind b.kind (same_some (field_at fields 3) p.kind q.kind) in
     let field : p.side_field ≡ q.side_field = same_some (field_at fields 4) p.side_there q.side_there in
@@ -119,20 +109,7 @@ one_event fields a b p q =
     (one_number fields 2 0 255 a.minute b.minute (omega arith) p.minute q.minute) kinds (one_side a.kind p.side_field a.side b.side p.side side_b)
     (one_number fields 5 1 999999 a.player b.player (omega arith) p.player q.player) (one_other fields 6 a.other b.other p.other q.other)
 
--- a number below the least is not one of the range
-pub too_small : (fields : List (List ℕ)) (place least greatest m n : ℕ) (field : List ℕ) → greatest < 2 ^ 64 → m ≤ greatest → m < least → field_at fields place ≡ Some field → field ≡ decimal m
-    → IsNumberAt fields place least greatest n → ⊥
-too_small fields place least greatest m n field small within low there is spelled =
-    let same : m ≡ n = decimal_injective m n (omega arith) (omega (arith, spelled.1)) (sym is ∙ same_some (field_at fields place) there spelled.2) in
-    absurd (omega (arith, spelled.0))
-
--- Fields that begin as a row of a kind spell no row where they spell none of that kind.
-
-pub no_place : (minutes count : ℕ) (fields : List (List ℕ)) → Begins fields (codes "insert") 7 → ((n : ℕ) → IsNumberAt fields 1 1 (count + 1) n → ⊥) → (one : EventRow) → Spells minutes count fields one → ⊥
-no_place minutes count fields begins none (row.Insert place event) spelled = none place spelled.1
-no_place minutes count fields begins none (row.Remove place) spelled = let a = begins.0 in let b = spelled.0.0 in absurd (omega arith)
-no_place minutes count fields begins none row.Send spelled = let a = begins.0 in let b = spelled.0 in absurd (omega arith)
-
+-- fields that begin as an insertion spell no row where they spell no event, or one that may not stand in the match
 pub no_event : (minutes count : ℕ) (fields : List (List ℕ)) → Begins fields (codes "insert") 7 → ((event : Event) → SpellsEvent fields event → ⊥) → (one : EventRow) → Spells minutes count fields one → ⊥
 no_event minutes count fields begins none (row.Insert place event) spelled = none event spelled.2
 no_event minutes count fields begins none (row.Remove place) spelled = let a = begins.0 in let b = spelled.0.0 in absurd (omega arith)
@@ -143,14 +120,3 @@ not_in minutes count fields told begins spells out (row.Insert place event) spel
     false≢true (sym out ∙ ap (is_event minutes) (one_event fields told event spells spelled.2) ∙ spelled.3)
 not_in minutes count fields told begins spells out (row.Remove place) spelled = let a = begins.0 in let b = spelled.0.0 in absurd (omega arith)
 not_in minutes count fields told begins spells out row.Send spelled = let a = begins.0 in let b = spelled.0 in absurd (omega arith)
-
-pub no_removal : (minutes count : ℕ) (fields : List (List ℕ)) → Begins fields (codes "remove") 2 → ((n : ℕ) → IsNumberAt fields 1 1 count n → ⊥) → (one : EventRow) → Spells minutes count fields one → ⊥
-no_removal minutes count fields begins none (row.Insert place event) spelled = let a = begins.0 in let b = spelled.0.0 in absurd (omega arith)
-no_removal minutes count fields begins none (row.Remove place) spelled = none place spelled.1
-no_removal minutes count fields begins none row.Send spelled = let a = begins.0 in let b = spelled.0 in absurd (omega arith)
-
-pub no_row : (minutes count : ℕ) (fields : List (List ℕ)) → (Begins fields (codes "insert") 7 → ⊥) → (Begins fields (codes "remove") 2 → ⊥) → (Begins fields (codes "send") 1 → ⊥)
-    → (one : EventRow) → Spells minutes count fields one → ⊥
-no_row minutes count fields inserts removes sends (row.Insert place event) spelled = inserts spelled.0
-no_row minutes count fields inserts removes sends (row.Remove place) spelled = removes spelled.0
-no_row minutes count fields inserts removes sends row.Send spelled = sends spelled

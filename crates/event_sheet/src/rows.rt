@@ -28,7 +28,7 @@ pub fn event_rows(alloc: Global, bytes: &[u8], minutes: u8) -> Result<Vec<EventR
         .has_headers(false)
         .flexible(true)
         .from_reader(alloc, bytes);
-    let mut rows = Vec::new(alloc);
+    let mut rows: Vec<EventRow> = Vec::new(alloc);
     let mut number = 1u32;
     let mut count = 0usize;
     for next in reader.into_byte_records() {
@@ -38,7 +38,7 @@ pub fn event_rows(alloc: Global, bytes: &[u8], minutes: u8) -> Result<Vec<EventR
         let Some(row) = row_of(&found, minutes, count) else {
             return Err(RowFault::Wrong(number));
         };
-        if rows.push(row).is_err() {
+        if rows.extend_from_slice(&[row]).is_err() {
             return Err(RowFault::Memory);
         }
         let Some(following) = number.checked_add(1) else {

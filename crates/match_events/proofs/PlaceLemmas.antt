@@ -1,12 +1,10 @@
 -- An ascending list with one more in its place.
-use Rattle.std.proofs.Common.{ℕ, ◌+◌, ◌-◌, ◌≡◌, ◌<◌, ◌≤◌, ◌⊎◌, ◌∙◌, Bool, true, false, ◌||◌, ◌==◌, List, [], ◌∷◌, ◌++◌, Result, Ok, Err, MatchResult, length, take, drop, get_or, inl, inr, arith, refl, sym, ap, subst, take-append-drop}
+use Rattle.std.proofs.Common.{ℕ, ◌≡◌, ◌<◌, ◌≤◌, ◌∙◌, Bool, true, false, ◌||◌, ◌==◌, List, ◌∷◌, Result, Ok, Err, MatchResult, length, take, drop, get_or, inl, inr, arith, refl, sym, ap, take-append-drop}
 use Rattle.std.specs.List.{All, insert, list_any}
 use Rattle.std.specs.List.Sorted.{IsBinarySearchResult, IsStrictlyIncreasing}
 use Rattle.std.specs.Ordering.{nat_cmp}
-use Rattle.std.proofs.lemmas.Bool.Decides.{nat_tests}
-use Rattle.std.proofs.lemmas.List.Edits.{length-insert, get_or-insert_below, get_or-insert_at, get_or-insert_above}
 use Rattle.std.proofs.lemmas.List.Elements.{All-append, All-cons, All-drop, All-same, All-take}
-use Rattle.std.proofs.lemmas.List.Folds.{list_any-append, list_any_at}
+use Rattle.std.proofs.lemmas.List.Folds.{list_any-append}
 use Rattle.std.proofs.lemmas.List.Kept.{AllPairs-from_increasing}
 use Rattle.std.proofs.lemmas.List.Sorted.{searched}
 use Rattle.match_events.specs.Places.{IsGap, IsPlace, IsPut}
@@ -27,22 +25,12 @@ place_or_gap ps p (Err at) found = record { within = found.0; smaller = found.1;
 pub place_found : (ps : List ℕ) (p : ℕ) (r : Result ℕ ℕ) → IsStrictlyIncreasing ps → IsBinarySearchResult (λ q. nat_cmp q p) ps r → MatchResult r (IsPlace ps p) (IsGap ps p)
 place_found ps p r ascending is = place_or_gap ps p r (searched ps p r is (rises ps ascending))
 
-or_known : (a b : Bool) → (b ≡ true → a ≡ true) → a ≡ (a || b)
-or_known true b known = refl
-or_known false true known = known refl
-or_known false false known = refl
-
 or_moved : (a b c : Bool) → (a || (c || b)) ≡ ((a || b) || c)
 or_moved true b c = refl
 or_moved false true true = refl
 or_moved false true false = refl
 or_moved false false true = refl
 or_moved false false false = refl
-
--- he is listed where he stands
-pub listed_at : (ps : List ℕ) (p place q : ℕ) → IsPlace ps p place → is_listed ps q ≡ (is_listed ps q || p == q)
-listed_at ps p place q stands =
-    or_known (is_listed ps q) (p == q) (λ same. list_any_at (λ (r : ℕ). r == q) ps place 0 stands.within (ap (λ (r : ℕ). r == q) stands.here ∙ same))
 
 -- put into his gap, he is listed besides the others
 pub listed-insert : (ps : List ℕ) (p place q : ℕ) → is_listed (insert ps place p) q ≡ (is_listed ps q || p == q)
@@ -52,19 +40,6 @@ listed-insert ps p place q =
     list_any-append test (take place ps) (p ∷ drop place ps)
     ∙ or_moved (list_any test (take place ps)) (list_any test (drop place ps)) (p == q)
     ∙ ap (λ (b : Bool). b || p == q) (sym whole)
-
--- and the list still ascends
-pub ascending-insert : (ps : List ℕ) (p place : ℕ) → IsGap ps p place → IsStrictlyIncreasing ps → IsStrictlyIncreasing (insert ps place p)
-ascending-insert ps p at gap ascending k within =
-    let new = insert ps at p in
-    let length_new = length-insert ps at p gap.within in
-    let below : (i : ℕ) → i < at → get_or new i 0 ≡ get_or ps i 0 = λ i below. get_or-insert_below ps at p 0 i below gap.within in
-    let here : (i : ℕ) → i ≡ at → get_or new i 0 ≡ p = λ i here. rw here (get_or-insert_at ps at p 0 gap.within) in
-    let above : at < k → get_or new k 0 ≡ get_or ps (k - 1) 0 = λ past. subst (λ q. get_or new q 0 ≡ get_or ps (k - 1) 0) {x = k - 1 + 1} (omega arith) (get_or-insert_above ps at p 0 (k - 1) (omega arith) gap.within) in
-    let behind : at ≤ k → get_or new (k + 1) 0 ≡ get_or ps k 0 = λ past. get_or-insert_above ps at p 0 k past gap.within in
-    let back : at < k → k - 1 + 1 ≡ k = λ past. omega arith in
-    let earlier : at < k → get_or ps (k - 1) 0 < get_or ps k 0 = λ past. subst (λ j. get_or ps (k - 1) 0 < get_or ps j 0) (back past) (ascending (k - 1) (omega arith)) in
-    grind (arith, below k, here k, above, below (k + 1), here (k + 1), behind, ascending k, earlier, gap.smaller k, gap.greater k)
 
 -- what holds of the others and of him holds of all
 pub all_put : (P : ℕ → Type 0) (ps more : List ℕ) (p : ℕ) → IsPut ps p more → All P ps → P p → All P more
