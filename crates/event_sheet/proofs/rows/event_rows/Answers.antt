@@ -37,6 +37,7 @@ loop-next-init c =
       omega arith,
       rw none tt,
       rw none refl,
+      omega arith,
     )
 
 pub loop-next-preserved : goal.loop-next-preserved
@@ -66,6 +67,7 @@ loop-next-preserved c =
       omega (arith, c.events_after-count.ensures, after_small c.loop-next.count row, inv.11, c.in-Some-checked_add.ensures.1),
       rw items (doable-push c.args.minutes 0 rows row inv.12 doable),
       rw items (omega (arith, length-append rows (row ∷ []), inv.13, c.in-Some-checked_add.ensures.1)),
+      omega (arith, c.in-Some-checked_add.ensures.0, c.in-Some-checked_add.ensures.1),
     )
 
 pub returns-in_default-row_of-clause-fault : goal.returns-in_default-row_of-clause-fault
@@ -93,3 +95,9 @@ returns-clause-rows c =
       read = (c.loop-next.next-iterator.rdr.state, inv.4, inv.7, rows-end (λ (s : Bor (List ℕ)). Some s.now) c.loop-next.next-iterator.rdr c.next.new.self.rdr [] default_config inv.4 inv.3 inv.5 s);
       rows_are = inv.8;
     }
+
+pub row_of-requires : goal.row_of-requires
+row_of-requires c = let inv = c.loop-next.invariant in omega (arith, inv.11, inv.14)
+
+pub returns-clause-few : goal.returns-clause-few
+returns-clause-few c = let inv = c.loop-next.invariant in omega (arith, inv.13, inv.14)

@@ -1,4 +1,4 @@
-use Rattle.std.proofs.Common.{◌≡◌, ◌<◌, ◌+◌, [], ℕ, List, Some, length}
+use Rattle.std.proofs.Common.{◌≡◌, ◌<◌, ◌+◌, ◌^◌, [], ℕ, List, Some, length}
 use Rattle.csv.specs.Reading.{Reached, Ready, default_config, source_of, strip_bom}
 use Rattle.csv.specs.declared.parser.State.TheVariants as st
 use Rattle.csv.specs.declared.reader.Trim.TheVariants as trim
@@ -17,3 +17,4 @@ invariant-loop-next l = (l.next-iterator.rdr.trim ≡ trim.None) × Ready l.next
     × (l.count < l.number)
     × AreDoable l.minutes 0 l.rows.items
     × (length l.rows.items + 1 ≡ l.number)
+    × (l.number < 2 ^ 32)
