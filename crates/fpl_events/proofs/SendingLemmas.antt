@@ -1,6 +1,7 @@
 -- Lines that are sent one after another.
-use Rattle.std.proofs.Common.{◌≡◌, ◌+◌, ◌≤◌, ◌⊎◌, ◌∙◌, Bool, true, false, ℕ, List, [], ◌∷◌, length, Option, None, Some, inl, inr, ap, arith, refl, sym, subst}
+use Rattle.std.proofs.Common.{◌≡◌, ◌+◌, ◌<◌, ◌≤◌, drop, get_or, ◌⊎◌, ◌∙◌, Bool, true, false, ℕ, List, [], ◌∷◌, length, Option, None, Some, inl, inr, ap, arith, refl, sym, subst}
 use Rattle.std.specs.Prelude.{Ok, Err, Result}
+use Rattle.std.proofs.lemmas.List.{drop_more}
 use Rattle.fpl_base.specs.Causes.{Rose}
 use Rattle.fpl_base.specs.Keeping.{Map}
 use Rattle.fpl_base.specs.declared.kinds.Caller.TheVariants as caller
@@ -26,6 +27,10 @@ rose_since before between now later rose = omega (arith, later, rose)
 -- a count rose from what is the same
 pub rose_from : {X : Type 0} (faults : X → ℕ) (here there : X) (now : ℕ) → here ≡ there → Rose (faults here) now → Rose (faults there) now
 rose_from {X = X} faults here there now same rose = subst (λ (x : X). Rose (faults x) now) same rose
+
+-- what stands at a place, and what stands behind it
+pub next_of : {X : Type 0} (xs : List X) (i : ℕ) (x : X) → i < length xs → x ≡ get_or xs i x → drop i xs ≡ x ∷ drop (i + 1) xs
+next_of xs i x here is = drop_more xs i x here ∙ ap (λ y. y ∷ drop (i + 1) xs) (sym is)
 
 -- an answer that is done leaves the host as fresh as it was
 done_none : (told : Answer) → is_done told ≡ true → (told ≡ answer.Memory) ⊎ (told ≡ answer.Keeper) → ⊥

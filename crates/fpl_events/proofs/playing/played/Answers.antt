@@ -1,18 +1,14 @@
-use Rattle.std.proofs.Common.{◌≡◌, ◌<◌, ◌+◌, ◌∙◌, ℕ, List, ◌∷◌, drop, get_or, length, ap, arith, refl, subst, sym}
+use Rattle.std.proofs.Common.{◌≡◌, ◌<◌, ◌+◌, ◌∙◌, ℕ, List, ◌∷◌, drop, length, ap, arith, refl, subst, sym}
 use Rattle.std.specs.Prelude.{Err, Result}
-use Rattle.std.proofs.lemmas.List.{drop_all, drop_more}
+use Rattle.std.proofs.lemmas.List.{drop_all}
 use Rattle.event_sheet.specs.Rows.{AreDoable, IsDoable, events_after}
 use Rattle.event_sheet.specs.declared.row.EventRow.{EventRow}
 use Rattle.match_events.specs.Sheets.{Sheet}
 use Rattle.fpl_desk.specs.Kept.{Kept}
 use Rattle.fpl_events.specs.Playing.{bare_sheet}
 use Rattle.fpl_events.proofs.PlayingLemmas.{going_end, going_more, going_start, going_stop}
-use Rattle.fpl_events.proofs.SendingLemmas.{rose_from, rose_since}
+use Rattle.fpl_events.proofs.SendingLemmas.{next_of, rose_from, rose_since}
 use Rattle.fpl_events.proofs.playing.played.Goals as goal
-
--- the row of a place, and those behind it
-next_row : (rows : List EventRow) (i : ℕ) (row : EventRow) → i < length rows → row ≡ get_or rows i row → drop i rows ≡ row ∷ drop (i + 1) rows
-next_row rows i row here is = drop_more rows i row here ∙ ap (λ (r : EventRow). r ∷ drop (i + 1) rows) (sym is)
 
 err_is : (one other : ℕ) → one ≡ other → ◌≡◌ {A = Result ℕ ℕ} (Err one) (Err other)
 err_is one other same = ap (λ (status : ℕ). Err status) same
@@ -35,7 +31,7 @@ pub row_done-requires-clause-doable : goal.row_done-requires-clause-doable
 row_done-requires-clause-doable g c =
     let at = c.rows in
     let row = c.index-rows-place.result in
-    let next = next_row c.args.rows.now at.place row c.rows-test.true c.index-rows-place.is in
+    let next = next_of c.args.rows.now at.place row c.rows-test.true c.index-rows-place.is in
     let doable = subst (λ (rows : List EventRow). AreDoable c.args.minutes (length at.events.events) rows) next at.invariant.doable in
     subst (λ (minutes : ℕ). IsDoable minutes (length at.events.events) row) (sym at.invariant.minutes) doable.0
 
@@ -48,7 +44,7 @@ rows-preserved g c =
     let all = c.args.rows.now in
     let row = c.index-rows-place.result in
     let one = c.row_done.new in
-    let next = next_row all at.place row c.rows-test.true c.index-rows-place.is in
+    let next = next_of all at.place row c.rows-test.true c.index-rows-place.is in
     let doable = subst (λ (rows : List EventRow). AreDoable c.args.minutes (length at.events.events) rows) next at.invariant.doable in
     let first : Kept _ = record { host = c.args.host.now; moments = g.C.Clock.left c.args.clock.now; failed = g.K.Keeper.faults c.args.keeper.now; keeper = c.args.keeper.now } in
     let mid : Kept _ = record { host = at.host; moments = g.C.Clock.left at.clock; failed = g.K.Keeper.faults at.keeper; keeper = at.keeper } in
@@ -76,7 +72,7 @@ returns-in-Err-clause-played g c =
     let last : Kept _ = record { host = one.host; moments = g.C.Clock.left one.clock; failed = g.K.Keeper.faults one.keeper; keeper = one.keeper } in
     going_stop _ g.K.Keeper.tells g.K.Keeper.serves g.K.Keeper.holds g.K.Keeper.passes c.args.fixture c.args.minutes (at.place + 1) at.sent c.in-Err.status all (drop at.place all) (drop (at.place + 1) all) row at.events one.events
     (g.W.Sink.taken c.args.output.now) (g.W.Sink.taken at.output) (g.W.Sink.taken one.output) first mid last
-    (next_row all at.place row c.rows-test.true c.index-rows-place.is) (ap g.W.Sink.taken at.invariant.output) at.invariant.on c.in-Err.ensures.done
+    (next_of all at.place row c.rows-test.true c.index-rows-place.is) (ap g.W.Sink.taken at.invariant.output) at.invariant.on c.in-Err.ensures.done
 
 pub returns-in-Err-clause-keeper : goal.returns-in-Err-clause-keeper
 returns-in-Err-clause-keeper g c = λ is. rose_since _ _ _ c.rows.invariant.later (c.in-Err.ensures.keeper (err_is _ _ is))
