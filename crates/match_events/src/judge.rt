@@ -13,7 +13,8 @@ const STARTERS: usize = 11;
 
 // Judges a list of events: the first one that breaks a rule is named.
 pub(crate) fn judge(events: &[Event]) -> Result<(), EventRule>
-    ensures { MatchResult result (λ _. broken_in events.now ≡ None) (λ rule. broken_in events.now ≡ Some rule) }
+    ensures { MatchResult result (λ _. broken_in events.now ≡ None)
+        (λ rule. broken_in events.now ≡ Some rule) }
 {
     'events: for place in 0..events.len() {
         match broken_by(&events[..place], place + 1, &events[place]) {
