@@ -37,7 +37,10 @@ PYTHON
 
 instructions() {
   season "$1" "$2" >"$folder/requests"
-  valgrind --tool=callgrind --callgrind-out-file=/dev/null "$program" pipe --key operator1 <"$folder/requests" 2>&1 >/dev/null | sed -n 's/.*Collected : //p'
+  local count
+  count=$(valgrind --tool=callgrind --callgrind-out-file=/dev/null "$program" pipe --key operator1 <"$folder/requests" 2>&1 >/dev/null | sed -n 's/.*Collected : //p')
+  [ -n "$count" ] || { echo "nothing was counted" >&2 && kill $$; }
+  echo "$count"
 }
 
 printf '%-10s %10s %10s %8s\n' ids 'the 1st' 'the 380th' ratio

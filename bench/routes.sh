@@ -18,7 +18,10 @@ trap 'rm -rf "$folder"' EXIT
 # The instructions of a whole run over a season of so many players, fixtures and lines, and so many requests of a kind.
 instructions() {
   python3 "$top/bench/requests.py" "$1" "$2" "$3" "$4" "$5" >"$folder/requests"
-  valgrind --tool=callgrind --callgrind-out-file=/dev/null "$program" pipe --key operator1 <"$folder/requests" 2>&1 >/dev/null | sed -n 's/.*Collected : //p'
+  local count
+  count=$(valgrind --tool=callgrind --callgrind-out-file=/dev/null "$program" pipe --key operator1 <"$folder/requests" 2>&1 >/dev/null | sed -n 's/.*Collected : //p')
+  [ -n "$count" ] || { echo "nothing was counted" >&2 && kill $$; }
+  echo "$count"
 }
 
 per_request() {

@@ -3,11 +3,14 @@
 //                               since 1970-01-01T00:00:00Z, which may have a fraction, and then whatever it says of them;
 //                               where a dash stands in their place the clock can't be read. After the last line the
 //                               clock tells the last moment again. Clocks that do not tell the date are the computer's own
+//   KOWHIRUPE_NOW=FILE          the clock tells the moment that stands in the file when it is asked
 //   KOWHIRUPE_INPUT=N           the standard input gives its first N bytes, and a read behind them fails
 //   KOWHIRUPE_OUTPUT=N          the standard output takes N bytes, and a write behind them fails
 //   KOWHIRUPE_WRITE=N           a write takes at most N bytes of what is to be written to the standard output
 //   KOWHIRUPE_FAIL_BEHIND=N     the first call that changes a file behind the N-th moment that the clock tells fails
-//   KOWHIRUPE_FAIL_ACCEPT=N     the call of this number that waits for a connection fails
+//   KOWHIRUPE_FAIL_ACCEPT=N     the call of this number that takes a connection fails
+//   KOWHIRUPE_ACCEPT_FAULT=N    with this number of errno, where it is another than that of too many open files
+//   KOWHIRUPE_HASTE=N           clocks that do not tell the date go so many times as fast
 //   KOWHIRUPE_FAIL_MEMORY=N     the allocation of this number, from 1, fails
 //   KOWHIRUPE_FAIL_CHANGE=N     the call of this number that changes a file fails
 //   KOWHIRUPE_STOP_CHANGE=N     in place of it the program stops at once
@@ -26,6 +29,7 @@
 #include <unistd.h>
 
 static long allocations, changes, failing_allocation, failing_change, stopping_change, accepts, failing_accept;
+static long accept_fault, haste;
 static long told_moments, failing_behind, is_next_failing;
 static long input = -1, output = -1, longest_write = -1; // what is left of them, and -1 where they have no end
 static FILE *moments;
@@ -42,6 +46,8 @@ __attribute__((constructor)) static void begin(void) {
   failing_change = number("KOWHIRUPE_FAIL_CHANGE");
   stopping_change = number("KOWHIRUPE_STOP_CHANGE");
   failing_accept = number("KOWHIRUPE_FAIL_ACCEPT");
+  accept_fault = number_or("KOWHIRUPE_ACCEPT_FAULT", EMFILE);
+  haste = number_or("KOWHIRUPE_HASTE", 1);
   failing_behind = number("KOWHIRUPE_FAIL_BEHIND");
   input = number_or("KOWHIRUPE_INPUT", -1);
   output = number_or("KOWHIRUPE_OUTPUT", -1);
@@ -74,10 +80,37 @@ static struct timespec moment_of(const char *text) {
   return moment;
 }
 
+// A clock that goes many times as fast, from when it is first asked.
+static int hasten(struct timespec *out) {
+  static long long first;
+  long long now = out->tv_sec * 1000000000LL + out->tv_nsec;
+  if (!first) first = now;
+  now = first + (now - first) * haste;
+  out->tv_sec = now / 1000000000LL;
+  out->tv_nsec = now % 1000000000LL;
+  return 0;
+}
+
+// The moment in a file that is read anew each time, as it is written; false where there is none.
+static int is_told_now(struct timespec *moment) {
+  const char *path = getenv("KOWHIRUPE_NOW");
+  FILE *file = path ? fopen(path, "r") : NULL;
+  char told[64];
+  if (!file) return 0;
+  int is_read = fscanf(file, " %63s", told) == 1;
+  fclose(file);
+  if (is_read) *moment = moment_of(told);
+  return is_read;
+}
+
 int clock_gettime(clockid_t which, struct timespec *out) {
   static struct timespec moment;
   char told[64];
-  if (which != CLOCK_REALTIME || !moments) return syscall(SYS_clock_gettime, which, out);
+  if (which == CLOCK_REALTIME && is_told_now(out)) return 0;
+  if (which != CLOCK_REALTIME || !moments) {
+    int status = syscall(SYS_clock_gettime, which, out);
+    return status == 0 && which == CLOCK_MONOTONIC && haste > 1 ? hasten(out) : status;
+  }
   if (++told_moments == failing_behind) is_next_failing = 1;
   if (fscanf(moments, " %63s%*[^\n]", told) == 1) {
     if (told[0] == '-') {
@@ -156,6 +189,6 @@ int unlink(const char *path) { CALL(unlink, -1, path); }
 int accept4(int fd, struct sockaddr *from, socklen_t *length, int flags) {
   OWN(accept4);
   if (++accepts != failing_accept) return own(fd, from, length, flags);
-  errno = EMFILE;
+  errno = accept_fault;
   return -1;
 }

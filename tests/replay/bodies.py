@@ -266,6 +266,32 @@ ROUTES = {
     "/leagues/ID": {"GET": "view_league"},
     "/cups/ID": {"GET": "view_cup"},
 }
+# Each of these is there with a slash at its end too.
+WINDOWS = {
+    "/api/bootstrap-static": "window_bootstrap",
+    "/api/fixtures": "window_fixtures",
+    "/api/fixtures/ID/sheet": "window_sheet",
+    "/api/event/ID/live": "window_live",
+    "/api/element-summary/ID": "window_element_summary",
+    "/api/dream-team/ID": "window_dream_team",
+    "/api/entries": "window_entries",
+    "/api/entry/ID": "window_entry",
+    "/api/entry/ID/history": "window_history",
+    "/api/entry/ID/event/ID/picks": "window_picks",
+    "/api/entry/ID/transfers": "window_transfers",
+    "/api/leagues": "window_leagues",
+    "/api/my-leagues": "window_my_leagues",
+    "/api/leagues-classic/ID/standings": "window_classic_standings",
+    "/api/leagues-h2h/ID/standings": "window_head_standings",
+    "/api/leagues-h2h-matches/league/ID": "window_head_matches",
+    "/api/cups": "window_cups",
+    "/api/cups/ID": "window_cup",
+    "/api/me": "window_me",
+}
+OF_MANAGERS = ("view_me", "window_my_leagues")
+OF_THE_CALLER = (*OF_MANAGERS, "window_me")
+WITHOUT_SEASON = ("window_me",)
+ROUTES |= {target + end: {"GET": name} for target, name in WINDOWS.items() for end in ("", "/")}
 PATTERNS = [(re.compile(target.replace("ID", "(0|[1-9][0-9]{0,9})")), methods) for target, methods in ROUTES.items()]
 
 
@@ -280,5 +306,5 @@ def route_of(target):
 
 def may_ask(name, caller):
     """Whether a route is for this caller, 0 for the operator."""
-    whose = COMMANDS[name].caller if name in COMMANDS else MANAGER if name == "view_me" else ANYBODY
+    whose = COMMANDS[name].caller if name in COMMANDS else MANAGER if name in OF_MANAGERS else ANYBODY
     return whose == ANYBODY or (whose == OPERATOR) == (caller == 0)

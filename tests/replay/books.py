@@ -270,10 +270,10 @@ class Books:
             return 0
         return 4 * max(self.transfers(entry, gameweek) - self.free_transfers(entry, gameweek), 0)
 
-    def counted_transfers(self, entry):
-        """Those that a classic league compares."""
+    def counted_transfers(self, entry, last):
+        """Those up to a gameweek that a classic league compares."""
         first = self.first_gameweek(entry)
-        counted = (it for it in range(1, self.locked + 1) if it != first and self.chip_at(entry, it) not in UNLIMITED)
+        counted = (it for it in range(1, last + 1) if it != first and self.chip_at(entry, it) not in UNLIMITED)
         return sum(self.transfers(entry, it) for it in counted)
 
     # The final eleven; The armband; A team's score; Totals
@@ -317,41 +317,52 @@ class Books:
         goals, conceded = (sum(getattr(figures[slot], name) for slot in eleven) for name in ("goals", "conceded"))
         return Score(eleven, armband, factor, gross, cost, gross - cost, goals, conceded)
 
-    def total(self, entry, start):
-        """An entry's points after deductions over the locked gameweeks from this one, or from its first."""
+    def total(self, entry, start, last):
+        """An entry's points after deductions over the gameweeks from this one, or from its first, to a locked one."""
         first = self.first_gameweek(entry)
         if first is None:
             return 0
-        return sum(self.score(entry, gameweek).net for gameweek in range(max(start, first), self.locked + 1))
+        return sum(self.score(entry, gameweek).net for gameweek in range(max(start, first), last + 1))
 
     # Tables and ranks
 
-    def classic_rows(self, league):
-        """The rows of a classic league by entry, and what they are ranked by: the greater is better."""
+    def classic_rows(self, league, last):
+        """The rows of a classic league by entry, up to a gameweek, and what they are ranked by: the greater is better."""
         rows = {}
         for entry in league.members:
-            rows[entry] = {"total": self.total(entry, league.start), "transfers": self.counted_transfers(entry)}
+            rows[entry] = {"total": self.total(entry, league.start, last), "transfers": self.counted_transfers(entry, last)}
         return rows, {entry: (row["total"], -row["transfers"]) for entry, row in rows.items()}
 
-    def head_rows(self, league):
+    def places(self, league):
+        """The places of a drawn head-to-head league, that of the Average among them."""
+        return len(league.order) + len(league.order) % 2
+
+    def opponent(self, league, place, gameweek):
+        """The place that meets this one in a gameweek."""
+        places = self.places(league)
+        return next(it for it in range(places) if it != place and meets(place, it, places, gameweek - league.start))
+
+    @remembered
+    def scored_by_place(self, order, gameweek):
+        """What decides the matches of a gameweek, by place; where the members are odd the Average stands last."""
+        scored = [self.score(entry, gameweek).net for entry in order]
+        return [*scored, sum(scored) // len(scored)] if len(scored) % 2 else scored
+
+    def head_rows(self, league, last):
         """The same of a head-to-head league."""
         rows = {entry: dict.fromkeys(("drawn", "lost", "points", "scored", "won"), 0) for entry in league.members}
-        places = len(league.order) + len(league.order) % 2
-        for round, gameweek in enumerate(range(league.start, self.locked + 1) if league.order else ()):
-            scored = [self.score(entry, gameweek).net for entry in league.order]
-            if places > len(scored):
-                scored.append(sum(scored) // len(scored))  # the Average
+        for gameweek in range(league.start, last + 1) if league.order else ():
+            scored = self.scored_by_place(tuple(league.order), gameweek)
             for place, entry in enumerate(league.order):
-                other = next(it for it in range(places) if it != place and meets(place, it, places, round))
-                mine, theirs = scored[place], scored[other]
+                mine, theirs = scored[place], scored[self.opponent(league, place, gameweek)]
                 end, points = ("won", 3) if mine > theirs else ("drawn", 1) if mine == theirs else ("lost", 0)
                 for name, more in ((end, 1), ("points", points), ("scored", mine)):
                     rows[entry][name] += more
         return rows, {entry: (row["points"], row["scored"]) for entry, row in rows.items()}
 
-    def table(self, league):
-        """The rows of a league as they are shown, by rank and entry."""
-        rows, worth = (self.classic_rows if league.kind == "classic" else self.head_rows)(league)
+    def table(self, league, last):
+        """The rows of a league up to a gameweek, as they are shown, by rank and entry."""
+        rows, worth = (self.classic_rows if league.kind == "classic" else self.head_rows)(league, last)
         rank = {entry: 1 + sum(other > worth[entry] for other in worth.values()) for entry in rows}
         shown = [{"entry": it, "name": self.entries[it - 1].name, "rank": rank[it], **rows[it]} for it in rows]
         return sorted(shown, key=lambda row: (row["rank"], row["entry"]))

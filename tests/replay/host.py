@@ -3,40 +3,20 @@
 It judges each request by the plain rules over the books, and knows nothing of how the program does it. Want of memory and
 faults of a store are no part of it. The headings are those of docs/RULES.md where they are about rules.
 """
-from bodies import CHIPS, COMMANDS, Malformed, may_ask, number, read_object, route_of
-from books import BUDGET, NONE, UNLIMITED, WILDCARD, Books, Cancel, Cup, Entry, FirstSquad, Fixture, League, Lineup, Play, Player, Swap
+from bodies import CHIPS, COMMANDS, OF_THE_CALLER, WITHOUT_SEASON, Malformed, may_ask, number, read_object, route_of
+from books import BUDGET, NONE, UNLIMITED, WILDCARD, Cancel, Cup, Entry, FirstSquad, Fixture, League, Lineup, Play, Player, Swap
 from figures import DEFENDER, FORWARD, GOALKEEPER, POSITIONS, Line, bps_of, selling_price, wrong_field
+from refusing import Refused, Unknown, need, refuse_repeats
+from windows import Windows
 
 NUMBER = number("number", 1, 2**63 - 1)
 BEFORE_KICKOFF = 5400
 
 
-class Refused(Exception):
-    """The number of a refusal, and what it names."""
-
-    def __init__(self, rule, **named):
-        super().__init__(rule)
-        self.rule, self.named = rule, named
-
-
-class Unknown(Exception):
-    """What a request names is not there."""
-
-
-def need(is_there):
-    if not is_there:
-        raise Unknown
-
-
-def refuse_repeats(rule, players):
-    for place, player in enumerate(players):
-        if player in players[:place]:
-            raise Refused(rule, player=player)
-
-
-class Host(Books):
+class Host(Windows):
     """The books, the operator's key, and the last command of each caller, who is 0 for the operator, else an entry.
 
+    The views are here and in `windows`: a view `NAME` is the method of this name, which is given the ids of the target.
     A command is done by the method `do_` and its name in `bodies`, which is given the entry where it is a manager's, the ids
     of the target and the members. It gives what it made, if anything: its kind and its number.
     """
@@ -103,9 +83,9 @@ class Host(Books):
 
     def view(self, caller, name, ids, clock):
         self.lock(clock())
-        if not self.has_season:
+        if not self.has_season and name not in WITHOUT_SEASON:
             raise Refused(4)
-        return getattr(self, name)(*([caller] if name == "view_me" else []), *ids)
+        return getattr(self, name)(*([caller] if name in OF_THE_CALLER else []), *ids)
 
     # What has to be there
 
@@ -480,7 +460,7 @@ class Host(Books):
             "gameweek": self.next_gameweek(),
             "last": self.last_number(entry),
             "players": [self.pick_shown(player, team.bought[player]) for player in team.players],
-            "total": self.total(entry, 1),
+            "total": self.total(entry, 1, self.locked),
             "vice": team.players[team.vice - 1],
         }
 
@@ -522,7 +502,7 @@ class Host(Books):
 
     def view_league(self, number):
         league = self.league(number)
-        return {"kind": league.kind, "name": league.name, "rows": self.table(league), "start": league.start}
+        return {"kind": league.kind, "name": league.name, "rows": self.table(league, self.locked), "start": league.start}
 
     def view_cup(self, number):
         need(1 <= number <= len(self.cups))

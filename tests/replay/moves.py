@@ -626,13 +626,38 @@ class Moves(OperatorMoves):
             "entry": lambda: f"/entries/{self.any_of(len(host.entries))}/gameweeks/{self.any_gameweek()}",
             "league": lambda: f"/leagues/{self.any_of(len(host.leagues))}",
             "cup": lambda: f"/cups/{self.any_of(len(host.cups))}",
+            "window": self.any_window,
         }[kind]()
+
+    def any_window(self):
+        """A view below /api/, with or without a slash at its end."""
+        host = self.host
+        counts = {"entry": len(host.entries), "cups": len(host.cups)}
+        ids = {
+            "fixtures": self.any_fixture,
+            "event": self.any_gameweek,
+            "dream-team": self.any_gameweek,
+            "element-summary": self.any_player,
+        }
+        parts = self.chance.choice(self.windows).split("/")
+        for place, part in enumerate(parts):
+            if part == "ID":
+                of = parts[place - 1]
+                parts[place] = str(ids[of]() if of in ids else self.any_of(counts.get(of, len(host.leagues))))
+        return "/".join(parts) + self.chance.choice(["", "/"])
+
+    def all_windows(self, share):
+        """Each view below /api/ a few times, as whoever it is."""
+        for _ in range(int(4 * len(self.windows) * share)):
+            self.get(self.any_window(), self.chance.randint(0, len(self.host.entries)))
 
     def view(self, kind=None):
         """A view, of this kind where one is named, as whoever it is, and perhaps made wrong."""
         chance, entries = self.chance, len(self.host.entries)
         caller = chance.randint(0, entries)
         kind = kind or chance.choice("season me me player player_gameweek fixture entry entry league league cup cup".split())
+        if self.windows and chance.random() < 0.5:
+            kind = "window"
         method, target, key = "GET", self.target_of(kind), self.key_of(caller)
         draw = chance.random()
         if kind == "me" and caller == 0 and draw < 0.8 and entries:
@@ -670,3 +695,5 @@ class Moves(OperatorMoves):
                 self.get("/me", entry)
         if chance.random() < share:
             self.get("/season")
+        if self.windows:
+            self.all_windows(share)

@@ -50,10 +50,10 @@ def mostly(chance, usual, share, others):
 # Targets
 
 
-def odd_targets():
-    """Each target with each id in each place, and some that no route has."""
+def odd_targets(windows):
+    """Each target with each id in each place, and some that no route has; below /api/ only these."""
     targets = []
-    for target in [*ROUTES, *NO_ROUTES]:
+    for target in [it for it in [*ROUTES, *NO_ROUTES] if not it.startswith("/api/") or it.rstrip("/") in windows]:
         places = target.split("ID")
         for place in range(1, len(places)):
             targets += ["1".join(places[:place]) + id + "1".join(places[place:]) for id in IDS]

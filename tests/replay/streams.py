@@ -16,8 +16,9 @@ LIMITS = ("leagues", "head", "players", "fixtures", "lines", "lines", "cups", "c
 class Stream(Moves):
     """A stream of a kind, which is drawn where none is named."""
 
-    def __init__(self, seed, kind=None):
+    def __init__(self, seed, kind=None, windows=()):
         chance = random.Random(seed)
+        self.windows = windows
         self.kind = kind or chance.choice(["plain"] * 30 + ["wrong"] * 6 + ["odd"] * 4)
         super().__init__(chance)
         self.is_level = self.kind == "level"
@@ -354,7 +355,7 @@ class Stream(Moves):
             self.key()
         callers = (None, "operator1", "manager01", "wrong000")
         bodies = (b"", b"{}", b'{"number":1}')
-        asked = list(itertools.product(("GET", "POST", "PUT", "get", "HEAD"), odd_targets(), callers, bodies))
+        asked = list(itertools.product(("GET", "POST", "PUT", "get", "HEAD"), odd_targets(self.windows), callers, bodies))
         for method, target, key, body in self.chance.sample(asked, 1000):
             self.send(self.message(method, target, key, body))
 
@@ -373,7 +374,7 @@ SHARES = [
 ]
 
 
-def stream(seed):
-    """The stream of a seed."""
+def stream(seed, windows=()):
+    """The stream of a seed, which asks these views below /api/ too."""
     draw = random.Random(f"mode{seed}").random()
-    return Stream(seed, next(kind for share, kind in SHARES if draw < share)).made()
+    return Stream(seed, next(kind for share, kind in SHARES if draw < share), windows).made()

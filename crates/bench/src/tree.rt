@@ -64,20 +64,6 @@ impl Rules for Tree {
         n.leading_zeros() as u8
     }
 
-    fn inputs(&self, alloc: Global, n: u32) -> Result<Vec<u32>, Memory> {
-        let size = self.numbers.len();
-        let mut below = Vec::new(alloc);
-        if n as usize <= size {
-            if 2 * n as usize <= size {
-                below.push(2 * n)?;
-            }
-            if 2 * n as usize + 1 <= size {
-                below.push(2 * n + 1)?;
-            }
-        }
-        Ok(below)
-    }
-
     fn dependents(&self, alloc: Global, n: u32) -> Result<Vec<u32>, Memory> {
         let mut above = Vec::new(alloc);
         if n > 1 {

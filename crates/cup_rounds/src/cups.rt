@@ -9,7 +9,7 @@ ghost use Rattle.cup_rounds.specs.Places.{places_of};
 ghost use Rattle.cup_rounds.specs.Shapes.{HasShape};
 
 use crate::drawn::Drawn;
-use fpl_base::{CupId, EntryId, ListOf, Memory, Refused, Rule};
+use fpl_base::{CupId, EntryId, Memory, Refused, Rule};
 use rule_book::Bracket;
 use std::alloc::Global;
 use std::marker::Model;
@@ -86,7 +86,7 @@ impl Cups {
     }
 
     /// Adds a cup behind the others, and answers its number. `CupsFull` refuses it where 32 are there. A cup that is
-    /// refused, or for which there is no memory, is let go. `check` says whether a cup has the shape.
+    /// refused, or for which there is no memory, is let go. `check_draw` says whether a draw has the shape.
     pub fn add(&mut self, b: Bracket) -> Result<CupId, Refused>
         requires shape { HasShape b }
         ensures judged { IsJudgedOrOut

@@ -4,28 +4,12 @@ ghost use Rattle.rule_book.specs.Cups.{StandsOnce, HasNoByeTie, IsCup, wrong_cup
 ghost use Rattle.rule_book.specs.Refusals.{IsJudged};
 
 use fpl_base::{Gw, Rule};
-use rule_book::Bracket;
 
-/// Whether a cup can be drawn so, in a season of so many gameweeks of which so many are locked. Its start has to be open;
-/// else that gameweek is named. Then it has to be a draw that can be played: 2 to 1,024 slots, a power of two; one coin
-/// less than slots; no entry twice; in the first round no two byes against each other; the last round not after the last
-/// gameweek. That the entrants are registered is for the caller to see. `docs/RULES.md` has this under "Cups".
-pub fn check(b: &Bracket, gameweeks: u8, locked: u8) -> Result<(), Rule>
-    ensures judged { IsJudged (wrong_cup b.now gameweeks locked) result }
-    ensures open { OnOk result (locked < b.now.start) }
-    ensures cup { OnOk result (IsCup b.now gameweeks) }
-    ensures wrong { result ≡ Err Rule.DrawWrong → ¬ IsCup b.now gameweeks }
-{
-    check_draw(
-        b.start,
-        b.slots.as_slice(),
-        b.coins.as_slice(),
-        gameweeks,
-        locked,
-    )
-}
-
-/// The same of the parts of a draw, of which no cup has been made yet.
+/// Whether a cup can be drawn so, in a season of so many gameweeks of which so many are locked; the parts are those of a
+/// draw, of which no cup has been made yet. Its start has to be open; else that gameweek is named. Then it has to be a
+/// draw that can be played: 2 to 1,024 slots, a power of two; one coin less than slots; no entry twice; in the first
+/// round no two byes against each other; the last round not after the last gameweek. That the entrants are registered is
+/// for the caller to see. `docs/RULES.md` has this under "Cups".
 pub fn check_draw(
     start: Gw,
     slots: &[u32],

@@ -9,7 +9,7 @@ mod shape;
 mod ties;
 
 pub use cups::Cups;
-pub use draw::{check, check_draw};
+pub use draw::check_draw;
 pub use laws::{
     cups_have_shape, entrants_win, rounds_follow, unbroken_cups_have_shape, winners_meet,
 };

@@ -9,9 +9,9 @@ use Rattle.serde_json.specs.Written.{compact_text}
 use Rattle.serde_json.proofs.OnLiterals.{serde_json_on_literals}
 use Rattle.season_book.specs.declared.shown.ShownFixture.{ShownFixture}
 use Rattle.fpl_answers.specs.FixtureParts.{head_tokens}
-use Rattle.fpl_answers.specs.MemberData.{count_or_null}
+use Rattle.json_members.specs.Members.{count_or_null}
 use Rattle.fpl_answers.specs.ShownData.{fixture_data, line_data}
-use Rattle.fpl_answers.specs.Tokens.{tokens_of}
+use Rattle.json_members.specs.Tokens.{tokens_of}
 
 print_gameweek : (gameweek : Option ℕ) (ts : List Token) → print_from false (tokens_of (count_or_null gameweek) ++ ts) ≡ compact_text (count_or_null gameweek) ++ print_from true ts
 unfolding serde_json_on_literals

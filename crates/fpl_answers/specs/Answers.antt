@@ -1,14 +1,16 @@
 -- The status of each answer, and what its body says.
-use Rattle.std.specs.Prelude.{ℕ, codes}
+use Rattle.std.specs.Prelude.{ℕ, List, codes}
 use Rattle.serde_json.specs.Data.{Data, string, object, member, no_members}
+use Rattle.serde_json.specs.Written.{compact_text}
 use Rattle.fpl_base.specs.declared.records.RecordKey.{RecordKey}
 use Rattle.season_book.specs.declared.made.Made.{Made}
 use Rattle.season_book.specs.declared.made.Made.TheVariants as made
 use Rattle.season_book.specs.declared.answer.Answer.{Answer}
 use Rattle.season_book.specs.declared.answer.Answer.TheVariants as answer
-use Rattle.fpl_answers.specs.MemberData.{count, error_data}
+use Rattle.fpl_answers.specs.MemberData.{error_data}
+use Rattle.json_members.specs.Members.{count}
 use Rattle.fpl_answers.specs.RuleData.{rule_data}
-use Rattle.fpl_answers.specs.ShownData.{shown_data}
+use Rattle.fpl_answers.specs.ShownData.{shown_data, shown_text}
 
 -- done, or made where something new is there
 abbrev pub done_status : Made → ℕ
@@ -44,7 +46,7 @@ damaged_data key = object
     (member (codes "kind") (count key.kind)
     no_members)))))
 
--- the body of an answer
+-- the value that the body of an answer tells
 abbrev pub answer_data : Answer → Data
 answer_data (answer.Done n what) = done_data n what
 answer_data (answer.Shown s) = shown_data s
@@ -53,3 +55,8 @@ answer_data answer.Unknown = error_data (codes "unknown")
 answer_data answer.Keeper = error_data (codes "keeper")
 answer_data (answer.Damaged key) = damaged_data key
 answer_data answer.Memory = error_data (codes "memory")
+
+-- the body of an answer
+abbrev pub body_of : Answer → List ℕ
+body_of (answer.Shown s) = shown_text s
+body_of a = compact_text (answer_data a)

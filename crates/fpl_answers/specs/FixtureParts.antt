@@ -6,9 +6,9 @@ use Rattle.serde_json.specs.View.{items_of}
 use Rattle.serde_json.specs.Written.{items_text}
 use Rattle.season_book.specs.declared.shown.ShownFixture.{ShownFixture}
 use Rattle.season_book.specs.declared.shown.ShownLine.{ShownLine}
-use Rattle.fpl_answers.specs.MemberData.{count, count_or_null}
+use Rattle.json_members.specs.Members.{count, count_or_null}
 use Rattle.fpl_answers.specs.ShownData.{line_data}
-use Rattle.fpl_answers.specs.Tokens.{member_tokens}
+use Rattle.json_members.specs.Tokens.{member_tokens}
 
 -- the beginning of the object, its members, and the name of the lines
 abbrev pub head_tokens : ShownFixture → List Token

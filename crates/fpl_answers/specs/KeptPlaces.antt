@@ -3,7 +3,7 @@ use Rattle.std.specs.Prelude.{ℕ, codes}
 use Rattle.serde_json.specs.Data.{string, Members, member, no_members}
 use Rattle.fpl_answers.specs.declared.rules.Kept.{Kept}
 use Rattle.fpl_answers.specs.declared.rules.Kept.TheVariants as kept
-use Rattle.fpl_answers.specs.MemberData.{count}
+use Rattle.json_members.specs.Members.{count}
 
 -- `error` and `rule`, and the kept member in its place
 abbrev pub members_with : Kept → ℕ → Members

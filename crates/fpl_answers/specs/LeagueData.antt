@@ -8,7 +8,7 @@ use Rattle.season_book.specs.declared.shown.ShownCup.{ShownCup}
 use Rattle.season_book.specs.declared.shown.ShownHead.{ShownHead}
 use Rattle.season_book.specs.declared.shown.ShownHeadRanked.{ShownHeadRanked}
 use Rattle.season_book.specs.declared.shown.ShownRanked.{ShownRanked}
-use Rattle.fpl_answers.specs.MemberData.{count}
+use Rattle.json_members.specs.Members.{count}
 
 -- a row of a classic league: the entry with its name, its rank, its points and its counted transfers
 abbrev pub ranked_data : ShownRanked → Data

@@ -6,4 +6,3 @@ pub mod LeagueData
 pub mod MemberData
 pub mod RuleData
 pub mod ShownData
-pub mod Tokens

@@ -1,15 +1,6 @@
 -- Members of a body, by name.
-use Rattle.std.specs.Prelude.{ℕ, List, Option, Some, None, codes}
-use Rattle.serde_json.specs.Data.{Data, null, number, unsigned, string, object, member, no_members}
-
--- a whole number from 0
-abbrev pub count : ℕ → Data
-count n = number (unsigned n)
-
--- a whole number from 0, or null
-abbrev pub count_or_null : Option ℕ → Data
-count_or_null None = null
-count_or_null (Some n) = count n
+use Rattle.std.specs.Prelude.{ℕ, List, codes}
+use Rattle.serde_json.specs.Data.{Data, string, object, member, no_members}
 
 -- a body whose one member says what is wrong
 abbrev pub error_data : List ℕ → Data

@@ -4,7 +4,7 @@ use Rattle.serde_json.specs.Data.{Data, string, object, Members, member, no_memb
 use Rattle.fpl_base.specs.declared.rule.Rule.{Rule}
 use Rattle.fpl_base.specs.declared.rule.Rule.TheVariants as rule
 use Rattle.fpl_base.specs.RuleNumbers.{number_of}
-use Rattle.fpl_answers.specs.MemberData.{count}
+use Rattle.json_members.specs.Members.{count}
 
 -- the value that a refusal keeps, under its name
 abbrev pub kept_of : Rule → Option (List ℕ × ℕ)

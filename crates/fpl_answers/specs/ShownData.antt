@@ -1,8 +1,9 @@
 -- What the views say.
 use Rattle.std.specs.Prelude.{ℕ, List, Option, Some, None, codes, map}
-use Rattle.serde_json.specs.Data.{Data, boolean, number, string, array, object, member, no_members}
+use Rattle.serde_json.specs.Data.{Data, boolean, null, number, string, array, object, member, no_members}
 use Rattle.serde_json.specs.Find.{of_integer}
 use Rattle.serde_json.specs.View.{items_of}
+use Rattle.serde_json.specs.Written.{compact_text}
 use Rattle.fpl_base.specs.Letters.{letter_of}
 use Rattle.rule_book.specs.declared.player.Player.{Player}
 use Rattle.rule_book.specs.declared.team_score.Armband.{Armband}
@@ -17,7 +18,7 @@ use Rattle.season_book.specs.declared.shown.ShownPick.{ShownPick}
 use Rattle.season_book.specs.declared.shown.ShownSeason.{ShownSeason}
 use Rattle.fpl_answers.specs.KindNames.{chip_word, profile_number}
 use Rattle.fpl_answers.specs.LeagueData.{classic_data, cup_data, head_data}
-use Rattle.fpl_answers.specs.MemberData.{count, count_or_null}
+use Rattle.json_members.specs.Members.{count, count_or_null}
 
 -- a club of the season
 abbrev pub club_data : ℕ × List ℕ → Data
@@ -122,7 +123,7 @@ entry_gameweek_data e = object
     (member (codes "players") (array (items_of (map count e.players)))
     no_members))))))))
 
--- what a view shows
+-- what a view shows; a window has its text already, and nothing else
 abbrev pub shown_data : Shown → Data
 shown_data (shown.Season s) = season_data s
 shown_data (shown.Player p) = player_data p
@@ -133,3 +134,9 @@ shown_data (shown.EntryGameweek e) = entry_gameweek_data e
 shown_data (shown.Classic l) = classic_data l
 shown_data (shown.Head l) = head_data l
 shown_data (shown.Cup c) = cup_data c
+shown_data (shown.Page text) = null
+
+-- the text of what a view shows
+abbrev pub shown_text : Shown → List ℕ
+shown_text (shown.Page text) = text
+shown_text s = compact_text (shown_data s)

@@ -1,23 +1,23 @@
 // Answers: the status and the body of each.
 ghost use Rattle.std.specs.Prelude.{◌≡◌, ◌++◌, [], IfOk};
-ghost use Rattle.serde_json.specs.Written.{compact_text};
-ghost use Rattle.fpl_answers.specs.Answers.{answer_data, damaged_data, done_data, done_status, status_of};
+ghost use Rattle.fpl_answers.specs.Answers.{body_of, damaged_data, done_data, done_status, status_of};
 ghost use Rattle.fpl_answers.specs.MemberData.{error_data};
-ghost use Rattle.fpl_answers.specs.Tokens.{Appends, tokens_of};
+ghost use Rattle.json_members.specs.Tokens.{Appends, tokens_of};
 
-use crate::members::{write_count, write_one, write_text, write_two};
+use crate::members::{write_one, write_two};
 use crate::rules::write_rule;
 use crate::views::{room_of, shown_text};
 use fpl_base::{Memory, RecordKey};
 use fpl_http::Reply;
 use json::Writer;
+use json_members::{write_count, write_text};
 use season_book::{Answer, Made};
 use std::alloc::{AllocError, Global};
 
 /// The reply that tells an answer. Its only error is want of memory.
 pub fn answer_text(alloc: Global, answer: &Answer) -> Result<Reply, Memory>
     ensures status { IfOk result (λ reply. reply.status ≡ status_of answer.now) }
-    ensures body { IfOk result (λ reply. reply.body.items ≡ compact_text (answer_data answer.now)) }
+    ensures body { IfOk result (λ reply. reply.body.items ≡ body_of answer.now) }
 {
     let status = status_of(answer);
     let out = Writer::new(Vec::with_capacity(alloc, room_for(answer))?);
@@ -61,7 +61,7 @@ fn room_for(answer: &Answer) -> usize {
 // The body of an answer, behind what the writer's buffer held.
 fn body_text(mut out: Writer, answer: &Answer) -> Result<Vec<u8>, AllocError>
     requires { out.tokens ≡ [] }
-    ensures { IfOk result (λ text. text.items ≡ out.before ++ compact_text (answer_data answer.now)) }
+    ensures { IfOk result (λ text. text.items ≡ out.before ++ body_of answer.now) }
 {
     match answer {
         Answer::Shown(shown) => return shown_text(out, shown),

@@ -2,14 +2,15 @@
 ghost use Rattle.std.specs.Prelude.{◌≡◌, codes, map};
 ghost use Rattle.serde_json.specs.Data.{array};
 ghost use Rattle.serde_json.specs.View.{items_of};
-ghost use Rattle.fpl_answers.specs.MemberData.{count, count_or_null};
+ghost use Rattle.json_members.specs.Members.{count, count_or_null};
 ghost use Rattle.fpl_answers.specs.ShownData.{armband_factor, armband_slot, entry_gameweek_data, me_data, pick_data};
-ghost use Rattle.fpl_answers.specs.Tokens.{Appends, member_tokens, tokens_of};
+ghost use Rattle.json_members.specs.Tokens.{Appends, member_tokens, tokens_of};
 
 use crate::kinds::chip_word;
-use crate::members::{write_count, write_gameweek, write_integer, write_nothing, write_text};
+use crate::members::write_gameweek;
 use fpl_base::PlayerId;
 use json::Writer;
+use json_members::{write_count, write_integer, write_nothing, write_text};
 use rule_book::Armband;
 use season_book::{ShownEntryGameweek, ShownMe, ShownPick};
 use std::alloc::AllocError;

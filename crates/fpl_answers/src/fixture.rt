@@ -7,11 +7,12 @@ ghost use Rattle.serde_json.specs.View.{items_of};
 ghost use Rattle.serde_json.specs.Written.{comma_if, compact_text};
 ghost use Rattle.fpl_answers.specs.FixtureParts.{head_tokens, text_from};
 ghost use Rattle.fpl_answers.specs.ShownData.{fixture_data, line_data};
-ghost use Rattle.fpl_answers.specs.Tokens.{Appends};
+ghost use Rattle.json_members.specs.Tokens.{Appends};
 
-use crate::members::{write_count, write_gameweek, write_truth};
+use crate::members::write_gameweek;
 use itoa::write_digits;
 use json::Writer;
+use json_members::{write_count, write_truth};
 use season_book::{ShownFixture, ShownLine};
 use std::alloc::AllocError;
 

@@ -3,11 +3,11 @@ ghost use Rattle.std.specs.Prelude.{map};
 ghost use Rattle.serde_json.specs.Data.{array};
 ghost use Rattle.serde_json.specs.View.{items_of};
 ghost use Rattle.fpl_answers.specs.LeagueData.{classic_data, cup_data, head_data, head_ranked_data, ranked_data, round_data};
-ghost use Rattle.fpl_answers.specs.MemberData.{count};
-ghost use Rattle.fpl_answers.specs.Tokens.{Appends, tokens_of};
+ghost use Rattle.json_members.specs.Members.{count};
+ghost use Rattle.json_members.specs.Tokens.{Appends, tokens_of};
 
-use crate::members::{text_of, write_count, write_integer, write_text};
 use json::Writer;
+use json_members::{text_of, write_count, write_integer, write_text};
 use season_book::{ShownClassic, ShownCup, ShownHead, ShownHeadRanked, ShownRanked, Slots};
 use std::alloc::AllocError;
 

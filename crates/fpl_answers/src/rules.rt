@@ -4,11 +4,11 @@ ghost use Rattle.serde_json.specs.Data.{object};
 ghost use Rattle.fpl_base.specs.RuleNumbers.{number_of};
 ghost use Rattle.fpl_answers.specs.KeptPlaces.{members_with};
 ghost use Rattle.fpl_answers.specs.RuleData.{refusal_members, rule_data};
-ghost use Rattle.fpl_answers.specs.Tokens.{Appends, tokens_of};
+ghost use Rattle.json_members.specs.Tokens.{Appends, tokens_of};
 
-use crate::members::{write_count, write_text};
 use fpl_base::Rule;
 use json::Writer;
+use json_members::{write_count, write_text};
 use std::alloc::AllocError;
 
 /// The value that a refusal keeps, under its name, and where that stands among the names of the other members.

@@ -4,11 +4,11 @@
 ghost use Rattle.std.specs.Prelude.{◌≡◌, IfOk, codes};
 ghost use Rattle.serde_json.specs.Written.{compact_text};
 ghost use Rattle.fpl_answers.specs.MemberData.{error_data, malformed_data};
-ghost use Rattle.fpl_answers.specs.Tokens.{Appends, tokens_of};
+ghost use Rattle.json_members.specs.Tokens.{Appends, tokens_of};
 
-use crate::members::write_text;
 use fpl_base::Memory;
 use json::Writer;
+use json_members::write_text;
 use std::alloc::{AllocError, Global};
 
 /// The body of 400 for a request whose body is wrong at this field, which is `body` where it is no JSON object.

@@ -2,20 +2,19 @@
 ghost use Rattle.std.specs.Prelude.{◌≡◌, ◌++◌, [], IfOk, map};
 ghost use Rattle.serde_json.specs.Data.{array};
 ghost use Rattle.serde_json.specs.View.{items_of};
-ghost use Rattle.serde_json.specs.Written.{compact_text};
-ghost use Rattle.fpl_answers.specs.MemberData.{count};
-ghost use Rattle.fpl_answers.specs.ShownData.{club_data, figures_data, player_data, season_data, shown_data};
-ghost use Rattle.fpl_answers.specs.Tokens.{Appends, tokens_of};
+ghost use Rattle.json_members.specs.Members.{count};
+ghost use Rattle.fpl_answers.specs.ShownData.{club_data, figures_data, player_data, season_data, shown_text};
+ghost use Rattle.json_members.specs.Tokens.{Appends, tokens_of};
 
 use crate::entries::{write_entry_gameweek, write_me};
 use crate::fixture::fixture_text;
 use crate::kinds::profile_number;
 use crate::leagues::{write_classic, write_cup, write_head};
-use crate::members::{text_of, write_count, write_integer, write_text, write_truth};
 use fpl_base::{ClubId, Moment, Name};
 use json::Writer;
+use json_members::{text_of, write_count, write_integer, write_text, write_truth};
 use rule_book::{Figures, Player};
-use season_book::{Shown, ShownSeason};
+use season_book::{Page, Shown, ShownSeason};
 use std::alloc::AllocError;
 
 /// About how many bytes the text of a view takes.
@@ -34,6 +33,7 @@ pub(crate) fn room_of(shown: &Shown) -> usize {
                 .saturating_mul(56)
                 .saturating_add(128)
         }
+        Shown::Page(page) => page.as_slice().len(),
         Shown::Me(_) => 1280,
         Shown::EntryGameweek(_) => 320,
         Shown::Classic(league) => room_of_rows(league.rows.as_slice().len()),
@@ -50,10 +50,11 @@ fn room_of_rows(rows: usize) -> usize {
 /// The text of a view, behind what the writer's buffer held.
 pub(crate) fn shown_text(mut out: Writer, shown: &Shown) -> Result<Vec<u8>, AllocError>
     requires { out.tokens ≡ [] }
-    ensures { IfOk result (λ text. text.items ≡ out.before ++ compact_text (shown_data shown.now)) }
+    ensures { IfOk result (λ text. text.items ≡ out.before ++ shown_text shown.now) }
 {
     match shown {
         Shown::Fixture(fixture) => return fixture_text(out, fixture),
+        Shown::Page(page) => return page_text(out, page),
         Shown::Season(season) => write_season(&mut out, season)?,
         Shown::Player(player) => write_player(&mut out, player)?,
         Shown::PlayerGameweek(figures) => write_figures(&mut out, figures)?,
@@ -64,6 +65,16 @@ pub(crate) fn shown_text(mut out: Writer, shown: &Shown) -> Result<Vec<u8>, Allo
         Shown::Cup(cup) => write_cup(&mut out, cup)?,
     }
     Ok(out.into_inner())
+}
+
+// The text of a window, as it is.
+fn page_text(out: Writer, page: &Page) -> Result<Vec<u8>, AllocError>
+    requires { out.tokens ≡ [] }
+    ensures { IfOk result (λ text. text.items ≡ out.before ++ page.now) }
+{
+    let mut text = out.into_inner();
+    text.extend_from_slice(page.as_slice())?;
+    Ok(text)
 }
 
 fn write_season(out: &mut Writer, season: &ShownSeason) -> Result<(), AllocError>

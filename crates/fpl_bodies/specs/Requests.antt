@@ -10,6 +10,7 @@ use Rattle.season_book.specs.declared.request.Request.{Request}
 use Rattle.season_book.specs.declared.request.Request.TheVariants as request
 use Rattle.season_book.specs.declared.request.View.{View}
 use Rattle.season_book.specs.declared.request.View.TheVariants as view
+use Rattle.season_book.specs.declared.request.Window.TheVariants as window
 use Rattle.serde_json.specs.Data.{Data}
 use Rattle.fpl_bodies.specs.declared.field.FieldName.{FieldName}
 use Rattle.fpl_bodies.specs.declared.field.FieldName.TheVariants as field
@@ -205,6 +206,12 @@ view_of seen.ShowFixture ids = view.Fixture (slice_index ids 0)
 view_of seen.ShowEntryGameweek ids = view.EntryGameweek (slice_index ids 0) (slice_index ids 1)
 view_of seen.ShowLeague ids = view.League (slice_index ids 0)
 view_of seen.ShowCup ids = view.Cup (slice_index ids 0)
+view_of seen.WindowMe ids = view.Window window.Me
+view_of seen.WindowEntries ids = view.Window window.Entries
+view_of seen.WindowLeagues ids = view.Window window.Leagues
+view_of seen.WindowMyLeagues ids = view.Window window.MyLeagues
+view_of seen.WindowCups ids = view.Window window.Cups
+view_of seen.WindowSheet ids = view.Window (window.Sheet (slice_index ids 0))
 
 -- the command that a body orders, under its number, which comes first
 abbrev pub ordered : CommandRoute → ℕ → List ℕ → Result Request FieldName

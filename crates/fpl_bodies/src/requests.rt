@@ -11,7 +11,7 @@ use crate::members::{whole, wrong};
 use crate::{FieldName, ReadFault};
 use fpl_routes::{Asks, CommandRoute, Route, ViewRoute};
 use json_tree::{ParseFault, Parsed, Scratch, parse};
-use season_book::{Request, View};
+use season_book::{Request, View, Window};
 use std::alloc::Global;
 
 /// What is asked by a route and the ids of its target, as [`fpl_routes::Routes::find`] gives them, and a body, which is
@@ -52,6 +52,12 @@ fn view_of(view: ViewRoute, ids: [u32; 2]) -> View
         },
         ViewRoute::ShowLeague => View::League { league: ids[0] },
         ViewRoute::ShowCup => View::Cup { cup: ids[0] },
+        ViewRoute::WindowMe => View::Window(Window::Me),
+        ViewRoute::WindowEntries => View::Window(Window::Entries),
+        ViewRoute::WindowLeagues => View::Window(Window::Leagues),
+        ViewRoute::WindowMyLeagues => View::Window(Window::MyLeagues),
+        ViewRoute::WindowCups => View::Window(Window::Cups),
+        ViewRoute::WindowSheet => View::Window(Window::Sheet { fixture: ids[0] }),
     }
 }
 

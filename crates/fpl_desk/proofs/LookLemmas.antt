@@ -11,14 +11,14 @@ use Rattle.fpl_routes.specs.Targets.{IsFound}
 use Rattle.fpl_routes.specs.declared.route.Found.TheVariants as found
 use Rattle.fpl_routes.specs.declared.route.Route.{Route}
 use Rattle.season_book.specs.Book.{Book, Facts}
-use Rattle.season_book.specs.Verdict.{locked_at, pass, view_answer}
+use Rattle.season_book.specs.Verdict.{locked_at, pass}
 use Rattle.season_book.specs.declared.request.Request.{Request}
 use Rattle.season_book.specs.declared.request.Request.TheVariants as request
 use Rattle.season_host.specs.Accepted.{locks_more}
 use Rattle.season_keeping.specs.Answering.{LeavesAll, ReadsFew}
 use Rattle.season_keeping.specs.Housed.{Housed}
 use Rattle.season_running.specs.Standing.{StandsIn}
-use Rattle.season_views.specs.Reads.{reads_allowed}
+use Rattle.season_views.specs.Reads.{view_reads}
 use Rattle.fpl_replies.specs.Replying.{Asking, IsAsked, Reply, asked_by}
 use Rattle.fpl_desk.specs.Kept.{Kept, asked_in}
 use Rattle.fpl_desk.specs.Looks.{AreLooks, Counted, CountsAs, CountsLooks, LockNone, LooksOn, RunsReadFew, TellsOneAtMost, host_with}
@@ -63,12 +63,12 @@ module _ (K : Type 0) where
   judged_counts old new caller now (request.View view) told views looks book stands most may none =
       let locks : locks_more book.facts now ≡ false = none now new.kept.moments told in
       let here : locks_more old.kept.host.rows.facts now ≡ false = ap (λ (o : Option Facts). locks_more o now) (sym stands.facts) ∙ locks in
-      let few : new.reads ≤ old.reads + reads_allowed (view_answer (pass book now) caller view) = views here book stands in
+      let few : new.reads ≤ old.reads + view_reads (pass book now) caller view = views here book stands in
       let stays = looks here in (
         record {
           host = stays.0;
           keeper = stays.1;
-          reads = subst (λ (n : ℕ). new.reads ≤ old.reads + n) (sym may) (subst (λ (b : Book). new.reads ≤ old.reads + reads_allowed (view_answer b caller view)) (book_stays book now locks) few);
+          reads = subst (λ (n : ℕ). new.reads ≤ old.reads + n) (sym may) (subst (λ (b : Book). new.reads ≤ old.reads + view_reads b caller view) (book_stays book now locks) few);
         },
         inr (now, told),
       )

@@ -9,12 +9,11 @@ use Rattle.fpl_session.specs.Runs.{Run}
 use Rattle.fpl_session.specs.Stops.{Leads}
 use Rattle.season_book.specs.Book.{Book}
 use Rattle.season_book.specs.Hosts.{HostState}
-use Rattle.season_book.specs.Verdict.{view_answer}
 use Rattle.season_book.specs.declared.request.Request.{Request}
 use Rattle.season_book.specs.declared.request.Request.TheVariants as request
 use Rattle.season_host.specs.Accepted.{locks_more}
 use Rattle.season_running.specs.Standing.{StandsIn}
-use Rattle.season_views.specs.Reads.{reads_allowed}
+use Rattle.season_views.specs.Reads.{view_reads}
 use Rattle.fpl_replies.specs.Replying.{Asking, IsAsked, Reply}
 use Rattle.fpl_desk.specs.Kept.{Kept}
 
@@ -34,7 +33,7 @@ host_with now book = record { operator = now.kept.host.rows.operator; book = boo
 
 -- a caller asks a view, whose answer in the book allows so many reads
 abbrev pub IsViewOf : Book → Caller → Request → ℕ → Type 0
-IsViewOf book caller (request.View view) most = most ≡ reads_allowed (view_answer book caller view)
+IsViewOf book caller (request.View view) most = most ≡ view_reads book caller view
 IsViewOf book caller (request.Command number command) most = ⊥
 
 -- so it is of what was found to be asked; and what is refused before the host judges it allows none

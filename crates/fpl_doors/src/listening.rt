@@ -23,6 +23,7 @@ pub struct Listening<'a, R: Net> {
     port: u16,
     listener: Option<R::Listener>,
     faults: u64,
+    fault: Option<io::Error>,
 }
 
 impl<'a, R: Net> Listening<'a, R> {
@@ -35,7 +36,13 @@ impl<'a, R: Net> Listening<'a, R> {
             port,
             listener: None,
             faults: 0,
+            fault: None,
         }
+    }
+
+    /// Why the doors failed last, where they did.
+    pub fn fault(&self) -> Option<&io::Error> {
+        self.fault.as_ref()
     }
 
     fn open(&mut self) -> io::Result<(Hearing<R::Stream>, Telling<R::Stream>)>
@@ -96,8 +103,9 @@ impl<'a, R: Net> Doors for Listening<'a, R> {
     fn next(&mut self) -> Result<(Hearing<R::Stream>, Telling<R::Stream>), Failed> {
         match self.open() {
             Ok(ends) => Ok(ends),
-            Err(_) => {
+            Err(fault) => {
                 self.faults = self.faults.saturating_add(1);
+                self.fault = Some(fault);
                 Err(Failed)
             }
         }

@@ -1,12 +1,21 @@
 //! The season host: the edges to the machine that it runs on, and its commands over them.
 #![tactic(auto)]
 
+mod causes;
+mod files;
+mod folder;
+mod key_file;
+
 ghost use Rattle.std.specs.Prelude.{◌≡◌, ◌<◌, None};
 
+use crate::causes::{tell, tell_port, tell_store};
+use crate::folder::pages_in;
+use crate::key_file::keyed;
 use file_keeper::{FileKeeper, file_at};
-use fpl_asking::status::MEMORY;
+use fpl_asking::status::{DOORS, KEEPER, MEMORY, SHELF};
 use fpl_base::{Doors, Keeper, Memory, Reading, Shelf, Steps, SystemClock, Text, Writing};
 use fpl_doors::Listening;
+use fpl_gathering::Gathering;
 use fpl_run::run::run;
 use fpl_shelves::Disk;
 use fpl_words::{WordFault, Words, words_of};
@@ -18,12 +27,16 @@ use std::marker::Brand;
 use std::process::ExitCode;
 use std::rt::Env;
 use std::sync::ledger::{Blank, Ledger};
+use std::time::Duration;
 use tree_keeper::TreeKeeper;
 
 fn main(rt: HostRuntime) -> ExitCode {
     let alloc = rt.alloc();
     let status = match given_words(&rt, alloc) {
-        Ok(words) => outside(&rt, alloc, words.as_slice()),
+        Ok(words) => match keyed(&rt, alloc, words) {
+            Ok(words) => outside(&rt, alloc, words.as_slice()),
+            Err(status) => status,
+        },
         Err(Memory) => MEMORY,
     };
     ExitCode::from(status)
@@ -49,26 +62,23 @@ fn given_words<R: Env + AllocGlobal>(rt: &R, alloc: Global) -> Result<Vec<Text>,
     Ok(words)
 }
 
-// Makes the doors, the shelf and the keeper that the words ask for, and runs.
+// Makes the doors, the shelf and the keeper that the words ask for, runs, and tells why it failed where it did.
 fn outside(rt: &HostRuntime, alloc: Global, words: &[Text]) -> u8 {
     match words_of(alloc, words) {
-        Ok(Words::Serve { port, store, .. }) => kept(
-            rt,
-            alloc,
-            words,
-            &mut Listening::at(rt, port),
-            &mut Quiet,
-            store,
-        ),
+        Ok(
+            Words::Serve {
+                port,
+                clients,
+                pages,
+                store,
+                ..
+            },
+        ) => match clients {
+            Some(most) => gathered(rt, alloc, words, port, most, pages, store),
+            None => listening(rt, alloc, words, port, store),
+        },
         // The store is opened behind the files, so that a season which cannot be read makes none.
-        Ok(Words::Load { store, .. }) => over_file(
-            rt,
-            alloc,
-            words,
-            FileKeeper::shut(rt, store),
-            &mut Quiet,
-            &mut Disk::new(rt),
-        ),
+        Ok(Words::Load { store, .. }) => loading(rt, alloc, words, store),
         Ok(Words::Report { store, .. }) => {
             kept(rt, alloc, words, &mut Quiet, &mut Quiet, Some(store))
         }
@@ -79,6 +89,71 @@ fn outside(rt: &HostRuntime, alloc: Global, words: &[Text]) -> u8 {
         Err(WordFault::Memory) => MEMORY,
         _ => kept(rt, alloc, words, &mut Quiet, &mut Quiet, None),
     }
+}
+
+// Runs with doors over this port, whose clients come one after another.
+fn listening(
+    rt: &HostRuntime,
+    alloc: Global,
+    words: &[Text],
+    port: u16,
+    store: Option<Text>,
+) -> u8 {
+    let mut doors = Listening::at(rt, port);
+    let status = kept(rt, alloc, words, &mut doors, &mut Quiet, store);
+    if status == DOORS {
+        tell_port(rt, port, doors.fault());
+    }
+    status
+}
+
+// How many seconds clients have for taking the last answers.
+const FAREWELL: u64 = 60;
+
+// Runs with doors over this port, which gather so many clients at once and show them the pages of a folder, which is read
+// first, and waits behind it until the answers are taken.
+fn gathered(
+    rt: &HostRuntime,
+    alloc: Global,
+    words: &[Text],
+    port: u16,
+    most: u16,
+    pages: Option<Text>,
+    store: Option<Text>,
+) -> u8 {
+    let pages = match pages {
+        Some(folder) => match pages_in(rt, alloc, folder.text()) {
+            Ok(pages) => Some(pages),
+            Err(status) => return status,
+        },
+        None => None,
+    };
+    let mut doors = Gathering::at(rt, alloc, port, most, pages);
+    let status = kept(rt, alloc, words, &mut doors, &mut Quiet, store);
+    doors.farewell(Duration::from_secs(FAREWELL));
+    if status == DOORS {
+        tell_port(rt, port, doors.fault());
+    }
+    status
+}
+
+// Runs with the files of this machine, over the store of this path.
+fn loading(rt: &HostRuntime, alloc: Global, words: &[Text], store: Text) -> u8 {
+    let mut disk = Disk::new(rt);
+    let Ok(path) = Text::new(alloc, store.text()) else {
+        return MEMORY;
+    };
+    let keeper = FileKeeper::shut(rt, store);
+    let status = over_file(rt, alloc, words, keeper, &mut Quiet, &mut disk);
+    if status == KEEPER {
+        tell_store(rt, path.text());
+    }
+    if status == SHELF {
+        if let Some((name, fault)) = disk.missed() {
+            tell(rt, "file", name, Some(fault));
+        }
+    }
+    status
 }
 
 // Runs with these doors and this shelf, over a store in this file, or in memory.
@@ -93,7 +168,7 @@ fn kept<D: Doors, F: Shelf>(
     requires untold { (d : D) → D.coming d ≡ None }
 {
     match store {
-        Some(path) => over_file(rt, alloc, words, file_at(rt, path, Unknown), doors, shelf),
+        Some(path) => stored(rt, alloc, words, doors, shelf, path),
         None => {
             let mut keeper = TreeKeeper::new(alloc);
             counted::<TreeKeeper, D, F, Brand>(
@@ -107,6 +182,27 @@ fn kept<D: Doors, F: Shelf>(
             )
         }
     }
+}
+
+// Runs with these doors and this shelf, over the store of this path.
+fn stored<D: Doors, F: Shelf>(
+    rt: &HostRuntime,
+    alloc: Global,
+    words: &[Text],
+    doors: &mut D,
+    shelf: &mut F,
+    path: Text,
+) -> u8
+    requires untold { (d : D) → D.coming d ≡ None }
+{
+    let Ok(name) = Text::new(alloc, path.text()) else {
+        return MEMORY;
+    };
+    let status = over_file(rt, alloc, words, file_at(rt, path, Unknown), doors, shelf);
+    if status == KEEPER {
+        tell_store(rt, name.text());
+    }
+    status
 }
 
 // Runs over a store in a file, with these doors and this shelf.

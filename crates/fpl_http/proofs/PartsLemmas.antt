@@ -77,7 +77,7 @@ request_front bytes n p le (a, b, c, d) =
 
 -- ---- the front, where its head is known
 
-headed_long : (waits : List ℕ) (p : Parts) → IsHeaded waits p → (p.body.start ≤ length waits) × (2 ≤ length waits)
+pub headed_long : (waits : List ℕ) (p : Parts) → IsHeaded waits p → (p.body.start ≤ length waits) × (2 ≤ length waits)
 unfolding head_end
 headed_long waits p known = let size = end_size 8192 waits p.body.start known.end in (size.1, size.2)
 

@@ -6,5 +6,6 @@ pub mod Parts
 pub mod Stored
 pub mod Held
 pub mod Seen
+pub mod Framing
 pub mod Responses
 pub mod Laws

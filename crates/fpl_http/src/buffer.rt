@@ -77,6 +77,15 @@ impl Buffer {
         self.from = self.start;
     }
 
+    /// Gives up all bytes.
+    pub fn clear(&mut self)
+        ensures { self.new ≡ record { kept = []; waits = []; room = 270336 } }
+    {
+        self.from = 0;
+        self.start = 0;
+        self.end = 0;
+    }
+
     /// Keeps the first bytes that wait, and those alone.
     pub fn keep(&mut self, count: usize)
         requires { count ≤ length self.old.waits }

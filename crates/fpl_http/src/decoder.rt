@@ -162,6 +162,15 @@ impl Decoder {
         self.found = None;
     }
 
+    /// Gives up all bytes, for another stream: it is as a new decoder, and takes no memory.
+    pub fn clear(&mut self)
+        ensures { self.new ≡ record { pending = []; found = None } }
+    {
+        self.buffer.clear();
+        self.known = Known::Searched(0);
+        self.found = None;
+    }
+
     /// Whether nothing of a message waits.
     pub fn idle(&self) -> bool
         ensures { IsTrue result ↔ (self.now.pending ≡ []) }

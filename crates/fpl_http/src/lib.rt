@@ -4,6 +4,7 @@
 mod buffer;
 mod decoder;
 mod fields;
+mod framing;
 mod head;
 mod laws;
 mod length;
@@ -11,5 +12,6 @@ mod lines;
 mod responses;
 
 pub use decoder::{Decoder, Message, Next};
+pub use framing::{Framed, front_of};
 pub use laws::{fronts_stay, two_readings_are_one};
 pub use responses::{Reply, append_response, memory_response};

@@ -16,7 +16,8 @@ use Rattle.season_book.specs.EntryCommands.{deed_refusal, history_after, names_p
 use Rattle.season_book.specs.EntryViews.{entry_shown}
 use Rattle.season_book.specs.LeagueCommands.{cup_broken, cup_drawn, cup_made, cup_there, is_issued, is_registered, league_made, league_refusal, leagues_after, leagues_there}
 use Rattle.season_book.specs.LeagueViews.{cup_shown, league_shown}
-use Rattle.season_book.specs.Verdict.{IsVerdictIn, Outcome, Verdict, begun, cup_ruled, in_season, judged, key_refusal, keyed, my_answer, number_refusal, ruled, ruled_by, ruled_in, ruled_of, seen_in, settled, shown_or_unknown, unless_broken, unless_misnumbered, unless_refused, with_entry, with_history}
+use Rattle.season_book.specs.Verdict.{IsVerdictIn, Outcome, Verdict, begun, cup_ruled, in_season, judged, key_refusal, keyed, my_answer, number_refusal, page_of, ruled, ruled_by, ruled_in, ruled_of, seen_in, settled, shown_or_unknown, unless_broken, unless_misnumbered, unless_refused, unseen, wants_no_season, with_entry, with_history}
+use Rattle.season_book.specs.Windows.{me_window, window_data}
 use Rattle.season_book.specs.Views.{shown_of}
 use Rattle.season_book.specs.declared.answer.Answer.{Answer}
 use Rattle.season_book.specs.declared.answer.Answer.TheVariants as answer
@@ -141,10 +142,13 @@ sees book caller view.Me facts = mine book facts caller (entry_in book.entries (
 sees book caller (view.EntryGameweek e g) facts = shows (option_map shown.EntryGameweek (entry_shown facts book.entries e g))
 sees book caller (view.League l) facts = shows (option_map (league_shown facts book.entries) (entry_in book.leagues l))
 sees book caller (view.Cup c) facts = shows (option_map (λ b. shown.Cup (cup_shown facts book.entries b)) (entry_in book.cups c))
+sees book caller (view.Window w) facts =
+    shows (option_map page_of (window_data facts book.entries book.leagues book.cups caller (last_number book caller) w))
 sees book caller view facts = shows (shown_of facts view)
 
-sees_in : (book : Book) (caller : Caller) (view : View) (some : Option Facts) → IsStoreless (option_map_or (seen_in book caller view) some (answer.Rule rule.NoSeason))
-sees_in book caller view None = tt
+sees_in : (book : Book) (caller : Caller) (view : View) (some : Option Facts) → IsStoreless (option_map_or (seen_in book caller view) some (unseen book caller view))
+sees_in book caller view None =
+    if_started (wants_no_season view) (page_of (me_window book.entries caller (last_number book caller))) rule.NoSeason
 sees_in book caller view (Some facts) = sees book caller view facts
 
 -- what a verdict answers

@@ -16,7 +16,7 @@ use Rattle.season_records.specs.Commits.{HoldsLeft}
 use Rattle.season_records.specs.Records.{records}
 use Rattle.season_opening.specs.Opening.{IsJudgedAs}
 use Rattle.season_keeping.specs.Answering.{WouldChange}
-use Rattle.fpl_answers.specs.Answers.{answer_data, status_of}
+use Rattle.fpl_answers.specs.Answers.{body_of, status_of}
 use Rattle.fpl_routes.specs.Callers.{is_for}
 use Rattle.fpl_bodies.specs.FieldNames.{name_of}
 use Rattle.fpl_answers.specs.MemberData.{error_data, malformed_data}
@@ -43,7 +43,7 @@ malformed_reply field = (400, compact_text (malformed_data (name_of field)))
 
 -- the reply of an answer of the host
 abbrev pub reply_of : Answer → Reply
-reply_of answer = (status_of answer, compact_text (answer_data answer))
+reply_of answer = (status_of answer, body_of answer)
 
 -- the reply where memory was wanting
 abbrev pub full_reply : Reply

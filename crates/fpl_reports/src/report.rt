@@ -24,5 +24,6 @@ pub fn report_text(alloc: Global, shown: &Shown) -> Result<Vec<u8>, Memory>
         Shown::PlayerGameweek(_) => unreachable!(),
         Shown::Me(_) => unreachable!(),
         Shown::Cup(_) => unreachable!(),
+        Shown::Page(_) => unreachable!(),
     }
 }

@@ -1,6 +1,7 @@
 -- The targets that are served, and what is asked there.
-use Rattle.std.specs.Prelude.{◌≡◌, ◌⊎◌, ◌≤◌, ℕ, zero, suc, List, [], ◌∷◌, Option, Some, None, codes, Bool, true, false, not, ◌==◌, length, drop, if◌then◌else◌}
+use Rattle.std.specs.Prelude.{◌≡◌, ◌⊎◌, ◌≤◌, ℕ, zero, suc, List, [], ◌∷◌, Option, Some, None, codes, Bool, true, false, not, ◌==◌, nat_eq, ◌&&◌, ◌+◌, ◌-◌, length, drop, take, if◌then◌else◌}
 use Rattle.std.specs.Fmt.{decimal}
+use Rattle.std.specs.List.{ends_with, starts_with}
 use Rattle.std.specs.Str.{IsUtf8, bytes_eq}
 use Rattle.fpl_routes.specs.declared.route.Asks.{Asks}
 use Rattle.fpl_routes.specs.declared.route.Asks.TheVariants.{Command, View}
@@ -54,6 +55,12 @@ served =
     ∷ (Get, codes "/entries/{e}/gameweeks/{g}", Both, View view.ShowEntryGameweek)
     ∷ (Get, codes "/leagues/{l}", Both, View view.ShowLeague)
     ∷ (Get, codes "/cups/{c}", Both, View view.ShowCup)
+    ∷ (Get, codes "/api/me", Both, View view.WindowMe)
+    ∷ (Get, codes "/api/entries", Both, View view.WindowEntries)
+    ∷ (Get, codes "/api/leagues", Both, View view.WindowLeagues)
+    ∷ (Get, codes "/api/my-leagues", Entry, View view.WindowMyLeagues)
+    ∷ (Get, codes "/api/cups", Both, View view.WindowCups)
+    ∷ (Get, codes "/api/fixtures/{f}/sheet", Both, View view.WindowSheet)
     ∷ []
 
 abbrev pub is_method : Method → Method → Bool
@@ -62,14 +69,23 @@ is_method Post Get = false
 is_method Get Post = false
 is_method Get Get = true
 
--- how many names in braces a pattern has
-abbrev pub braces : List ℕ → ℕ
-braces [] = 0
-braces (b ∷ p) = if b == 123 then suc (braces p) else braces p
+-- one more segment that is an id; a third is none
+abbrev pub with_id : Ids → ℕ → Ids
+with_id ids.None n = ids.One n
+with_id (ids.One a) n = ids.Two a n
+with_id (ids.Two a b) n = ids.Two a b
 
--- how many ids stand in the targets of a pattern
+-- which segments are ids, with those that were found before, of what is left of a pattern behind so many slashes
+abbrev pub ids_from : Ids → ℕ → List ℕ → Ids
+ids_from before slashes [] = before
+ids_from before slashes (b ∷ p) =
+    if b == 123 then ids_from (with_id before (slashes - 1)) slashes p
+    else if b == 47 then ids_from before (slashes + 1) p
+    else ids_from before slashes p
+
+-- which segments of the targets of a pattern are ids, counted from 0
 abbrev pub ids_in : List ℕ → Ids
-ids_in p = if braces p == 0 then ids.None else if braces p == 1 then ids.One else ids.Two
+ids_in p = ids_from ids.None 0 p
 
 -- what is served at the targets of a row
 abbrev pub place_of : Row → Place
@@ -119,11 +135,11 @@ fits (x ∷ p) (b ∷ path) = if x == 256 then (if b == 47 then false else fits 
 abbrev pub IsId : List ℕ → ℕ → Type 0
 IsId segment id = (id ≤ 4294967295) × (segment ≡ decimal id)
 
--- the ids of a target: its second segment, or its second and its fourth; else 0
+-- the ids of a target, by which of its segments are ids; else 0
 abbrev pub AreIds : Ids → List ℕ → List ℕ → Type 0
 AreIds ids.None target ns = ns ≡ 0 ∷ 0 ∷ []
-AreIds ids.One target ns = (a : ℕ) × IsId (segment_at 1 target) a × (ns ≡ a ∷ 0 ∷ [])
-AreIds ids.Two target ns = (a b : ℕ) × IsId (segment_at 1 target) a × IsId (segment_at 3 target) b × (ns ≡ a ∷ b ∷ [])
+AreIds (ids.One n) target ns = (a : ℕ) × IsId (segment_at n target) a × (ns ≡ a ∷ 0 ∷ [])
+AreIds (ids.Two n m) target ns = (a b : ℕ) × IsId (segment_at n target) a × IsId (segment_at m target) b × (ns ≡ a ∷ b ∷ [])
 
 -- this stands at that shape in a list
 abbrev pub Has : {K : Type 0} → List ℕ → K → List (List ℕ × K) → Type 0
@@ -147,14 +163,24 @@ method_of bytes =
     else if bytes_eq bytes (codes "GET") then Some Get
     else None
 
--- what a method and a target ask for
-abbrev pub IsFound : List ℕ → List ℕ → Found → Type 0
-IsFound bytes target (found.Route route ns) =
+-- a target without the slash that it may end with below /api/
+abbrev pub bare : List ℕ → List ℕ
+bare target =
+    if starts_with nat_eq target (codes "/api/") && ends_with nat_eq target (codes "/") then take (length target - 1) target
+    else target
+
+-- what a method and a bare target ask for
+abbrev pub IsFoundAt : List ℕ → List ℕ → Found → Type 0
+IsFoundAt bytes target (found.Route route ns) =
     (method : Method) × (place : Place) × (method_of bytes ≡ Some method) × Fits method place target ns × (place.route ≡ route)
-IsFound bytes target found.Method =
+IsFoundAt bytes target found.Method =
     ((method : Method) × (place : Place) × (ns : List ℕ) × Fits method place target ns)
     × ((method : Method) (place : Place) (ns : List ℕ) → method_of bytes ≡ Some method → Fits method place target ns → ⊥)
-IsFound bytes target found.Unknown = (method : Method) (place : Place) (ns : List ℕ) → Fits method place target ns → ⊥
+IsFoundAt bytes target found.Unknown = (method : Method) (place : Place) (ns : List ℕ) → Fits method place target ns → ⊥
+
+-- what a method and a target ask for
+abbrev pub IsFound : List ℕ → List ℕ → Found → Type 0
+IsFound bytes target found = IsFoundAt bytes (bare target) found
 
 -- a method and a target ask for one thing
 abbrev pub OneFound : Type 0

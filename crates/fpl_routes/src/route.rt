@@ -48,6 +48,13 @@ pub enum ViewRoute {
     ShowEntryGameweek,
     ShowLeague,
     ShowCup,
+    /// The windows, below `/api/`.
+    WindowMe,
+    WindowEntries,
+    WindowLeagues,
+    WindowMyLeagues,
+    WindowCups,
+    WindowSheet,
 }
 
 /// What a route asks of the host.

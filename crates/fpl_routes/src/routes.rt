@@ -1,9 +1,9 @@
 // The routes of targets.
-ghost use Rattle.std.specs.Prelude.{◌≡◌, ◌≢◌, ◌≤◌, ◌<◌, ℕ, List, [], IfOk, IfNone, IfSome, MatchOption, None, ◌||◌, OnOk, map, drop, length, slice_index};
+ghost use Rattle.std.specs.Prelude.{◌≡◌, ◌≢◌, ◌≤◌, ◌<◌, ◌+◌, ◌^◌, ℕ, List, [], IfOk, IfNone, IfSome, MatchOption, None, ◌||◌, OnOk, map, drop, length, slice_index};
 ghost use Rattle.std.specs.Str.{IsUtf8};
 ghost use Rattle.fpl_routes.specs.declared.route.Found.TheVariants as found;
 ghost use Rattle.fpl_routes.specs.Tables.{IsAt, IsNowhere, IsOne, all_added, row_of, table, told, with_row};
-ghost use Rattle.fpl_routes.specs.Targets.{AreIds, IsFound, IsId, IsShaped, after_segment, braces, ids_in, is_method, method_of, own_segment, place_of, rows_at};
+ghost use Rattle.fpl_routes.specs.Targets.{AreIds, IsFound, IsFoundAt, IsId, IsShaped, after_segment, bare, ids_from, ids_in, is_method, method_of, own_segment, place_of, rows_at, segment_at, with_id};
 
 use crate::Asks::{Command, View};
 use crate::Callers::{Both, Entry, Operator};
@@ -13,7 +13,7 @@ use crate::CommandRoute::{
 };
 use crate::ViewRoute::{
     ShowCup, ShowEntryGameweek, ShowFixture, ShowLeague, ShowMe, ShowPlayer, ShowPlayerGameweek,
-    ShowSeason,
+    ShowSeason, WindowCups, WindowEntries, WindowLeagues, WindowMe, WindowMyLeagues, WindowSheet,
 };
 use crate::route::Method::{self, Get, Post};
 use crate::{Asks, Callers, Found, Route};
@@ -23,12 +23,12 @@ use std::alloc::Global;
 use std::marker::Model;
 use std::str;
 
-/// How many ids stand in the targets of a pattern.
+/// Which segments of the targets of a pattern are ids, counted from 0.
 #[derive(Clone, Copy, Debug, PartialEq, Eq)]
 enum Ids {
     None,
-    One,
-    Two,
+    One(usize),
+    Two(usize, usize),
 }
 
 /// What is served at the targets of a row.
@@ -39,7 +39,7 @@ struct Place {
 }
 
 // Each route: its method, the pattern of its targets with a name in braces for each id, who may ask it, what it asks.
-static SERVED: [(Method, &str, Callers, Asks); 30] = [
+static SERVED: [(Method, &str, Callers, Asks); 36] = [
     (Post, "/season", Operator, Command(Season)),
     (Post, "/deadlines", Operator, Command(Deadlines)),
     (Post, "/players", Operator, Command(Players)),
@@ -80,6 +80,12 @@ static SERVED: [(Method, &str, Callers, Asks); 30] = [
     ),
     (Get, "/leagues/{l}", Both, View(ShowLeague)),
     (Get, "/cups/{c}", Both, View(ShowCup)),
+    (Get, "/api/me", Both, View(WindowMe)),
+    (Get, "/api/entries", Both, View(WindowEntries)),
+    (Get, "/api/leagues", Both, View(WindowLeagues)),
+    (Get, "/api/my-leagues", Entry, View(WindowMyLeagues)),
+    (Get, "/api/cups", Both, View(WindowCups)),
+    (Get, "/api/fixtures/{f}/sheet", Both, View(WindowSheet)),
 ];
 
 /// The table of all routes, ready for look-ups.
@@ -113,9 +119,16 @@ impl Routes {
         Ok(Routes { posted, got })
     }
 
-    /// What a method and a target ask for.
+    /// What a method and a target ask for. A target below `/api/` may end with a slash.
     pub fn find(&self, method: &[u8], target: &[u8]) -> Found
         ensures { IsFound method.now target.now result }
+    {
+        self.find_bare(method, bare(target))
+    }
+
+    // What a method and a target without such a slash ask for.
+    fn find_bare(&self, method: &[u8], target: &[u8]) -> Found
+        ensures { IsFoundAt method.now target.now result }
     {
         match method_of(method) {
             Some(Method::Post) => match found_at(&self.posted, Method::Post, target) {
@@ -223,38 +236,55 @@ fn place_of(row: &(Method, &str, Callers, Asks)) -> Place
     }
 }
 
-// How many ids stand in the targets of a pattern.
+// Which segments of the targets of a pattern are ids.
 fn ids_in(pattern: &[u8]) -> Ids
     ensures { result ≡ ids_in pattern.now }
 {
-    let count = braces(pattern);
-    if count == 0 {
-        Ids::None
-    } else if count == 1 {
-        Ids::One
-    } else {
-        Ids::Two
-    }
+    ids_from(Ids::None, 0, pattern)
 }
 
-// How many names in braces a pattern has.
-fn braces(pattern: &[u8]) -> usize
-    ensures value { result ≡ braces pattern.now }
-    ensures few { result ≤ length pattern.now }
+// The same with those that were found before, of what is left of a pattern behind so many slashes.
+fn ids_from(before: Ids, slashes: usize, left: &[u8]) -> Ids
+    requires few { slashes + length left.now < 2 ^ 63 }
+    ensures value { result ≡ ids_from before slashes left.now }
 {
-    match pattern {
-        [] => 0,
+    match left {
+        [] => before,
         [first, rest @ ..] => {
             if *first == b'{' {
-                braces(rest) + 1
+                ids_from(with_id(before, slashes.saturating_sub(1)), slashes, rest)
+            } else if *first == b'/' {
+                ids_from(before, slashes + 1, rest)
             } else {
-                braces(rest)
+                ids_from(before, slashes, rest)
             }
         }
     }
 }
 
+// One more segment that is an id; a third is none.
+fn with_id(before: Ids, segment: usize) -> Ids
+    ensures { result ≡ with_id before segment }
+{
+    match before {
+        Ids::None => Ids::One(segment),
+        Ids::One(first) => Ids::Two(first, segment),
+        Ids::Two(first, second) => Ids::Two(first, second),
+    }
+}
+
 // Look-ups.
+
+// A target without the slash that it may end with below `/api/`.
+fn bare(target: &[u8]) -> &[u8]
+    ensures { result.now ≡ bare target.now }
+{
+    if target.starts_with(b"/api/") && target.ends_with(b"/") {
+        &target[..target.len() - 1]
+    } else {
+        target
+    }
+}
 
 // What a method finds at a target, with its ids.
 fn found_at(router: &Router<Place>, method: Method, target: &[u8]) -> Option<(Route, [u32; 2])>
@@ -294,10 +324,10 @@ fn read_ids(ids: Ids, target: &[u8]) -> Option<[u32; 2]>
 {
     match ids {
         Ids::None => Some([0, 0]),
-        Ids::One => Some([read_id(segment(next(target)))?, 0]),
-        Ids::Two => {
-            let first = read_id(segment(next(target)))?;
-            let second = read_id(segment(next(next(next(target)))))?;
+        Ids::One(place) => Some([read_id(segment_at(target, place))?, 0]),
+        Ids::Two(place, other) => {
+            let first = read_id(segment_at(target, place))?;
+            let second = read_id(segment_at(target, other))?;
             Some([first, second])
         }
     }
@@ -308,6 +338,17 @@ fn read_id(segment: &[u8]) -> Option<u32>
 {
     let id = read_number(segment, 4_294_967_295)?;
     Some(id as u32)
+}
+
+// A segment of a target, counted from 0.
+fn segment_at(target: &[u8], place: usize) -> &[u8]
+    ensures { result.now ≡ segment_at place target.now }
+{
+    if place == 0 {
+        segment(target)
+    } else {
+        segment_at(next(target), place - 1)
+    }
 }
 
 // The segment behind the first slash of a path.

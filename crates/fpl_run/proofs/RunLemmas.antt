@@ -70,7 +70,7 @@ no_memory K tells serves holds passes faults (Some (order.Score profile)) old = 
   (refl, refl, refl, refl),
 )
 no_memory K tells serves holds passes faults (Some (order.Pipe key store)) old = (inr (refl, refl, (fault.Memory, refl, holds_still K tells serves holds passes old.keeper, (refl, refl))), refl, refl)
-no_memory K tells serves holds passes faults (Some (order.Serve key port count store)) old = (inr (refl, refl, (fault.Memory, refl, holds_still K tells serves holds passes old.keeper, (refl, refl))), refl, refl)
+no_memory K tells serves holds passes faults (Some (order.Serve key port clients count pages store)) old = (inr (refl, refl, (fault.Memory, refl, holds_still K tells serves holds passes old.keeper, (refl, refl))), refl, refl)
 no_memory K tells serves holds passes faults (Some (order.Load key store folder split profile)) old = (inl (load_fault.Memory, tt, (refl, refl), refl, refl), refl, refl)
 no_memory K tells serves holds passes faults (Some (order.Report key store shown)) old = (inr (refl, (fault.Memory, refl, holds_still K tells serves holds passes old.keeper, (refl, refl))), refl, refl, refl)
 no_memory K tells serves holds passes faults (Some (order.Generate seed store)) old = (inr (refl, (fault.Memory, refl, holds_still K tells serves holds passes old.keeper, (refl, refl))), refl, refl, refl, refl)

@@ -67,7 +67,7 @@ IsUnread before after status = Ends IsNotReadDue status before after × ((status
 
 -- for how many connections words ask
 abbrev pub connections_in : Option Words → ℕ
-connections_in (Some (order.Serve key port connections store)) = connections
+connections_in (Some (order.Serve key port clients connections pages store)) = connections
 connections_in said = 0
 
 -- a run that was not handed the input, and none but `serve` the doors, left them as they were
@@ -92,7 +92,7 @@ RunsAs tells serves holds passes faults (Some (order.Score profile)) old new sta
 RunsAs tells serves holds passes faults (Some (order.Pipe key store)) old new status =
     Pipes tells serves holds passes faults old.keeper new.keeper key old.left new.left old.moments new.moments old.taken new.taken status
     × LeavesDoors old new × LeavesFiles old new
-RunsAs tells serves holds passes faults (Some (order.Serve key port connections store)) old new status =
+RunsAs tells serves holds passes faults (Some (order.Serve key port clients connections pages store)) old new status =
     Serves tells serves holds passes faults old.keeper new.keeper key connections old.doors new.doors old.moments new.moments old.taken new.taken status
     × LeavesInput old new × LeavesFiles old new
 RunsAs tells serves holds passes faults (Some (order.Load key store folder split profile)) old new status =

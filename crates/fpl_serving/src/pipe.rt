@@ -8,7 +8,7 @@ use crate::talk::talk;
 use fpl_asking::status::{CUT, DONE, MEMORY, READ_FAULT, REFUSED, TOO_LONG, WRITE_FAULT};
 use fpl_base::{Clock, Keeper, Key, Sink, Source, Steps};
 use fpl_desk::opened;
-use fpl_session::Ending;
+use fpl_session::{Buffers, Ending};
 use std::alloc::Global;
 use std::sync::ledger::Ledger;
 
@@ -33,7 +33,15 @@ pub fn pipe<S: Source, W: Sink, C: Clock, K: Keeper, L: Ledger>(
 {
     match opened(alloc, key, keeper, steps) {
         Ok((desk, mut host)) => ended(talk(
-            alloc, &desk, &mut host, keeper, input, output, clock, steps,
+            alloc,
+            &mut Buffers::new(),
+            &desk,
+            &mut host,
+            keeper,
+            input,
+            output,
+            clock,
+            steps,
         )),
         Err(fault) => unopened(alloc, fault, output),
     }

@@ -11,15 +11,16 @@ use crate::talk::talk;
 use fpl_asking::status::{DONE, DOORS, MEMORY};
 use fpl_base::{Clock, Doors, Failed, Keeper, Key, Sink, Steps};
 use fpl_desk::{Desk, HostWithScratch, opened};
-use fpl_session::Ending;
+use fpl_session::{Buffers, Ending};
 use std::alloc::Global;
 use std::sync::ledger::Ledger;
 
-/// Serves so many connections for the operator with this key, and answers the exit status.
+/// Serves so many connections for the operator with this key, and answers the exit status. The memory of a session is taken
+/// for the first of them, and used again by the others.
 pub fn serve<W: Sink, C: Clock, K: Keeper, D: Doors, L: Ledger>(
     alloc: Global,
     key: &Key,
-    connections: u16,
+    connections: u64,
     output: &mut W,
     clock: &mut C,
     keeper: &mut K,
@@ -59,7 +60,7 @@ fn serve_all<C: Clock, K: Keeper, D: Doors, L: Ledger>(
     alloc: Global,
     desk: &Desk,
     host: &mut HostWithScratch,
-    connections: u16,
+    connections: u64,
     clock: &mut C,
     keeper: &mut K,
     doors: &mut D,
@@ -79,8 +80,9 @@ fn serve_all<C: Clock, K: Keeper, D: Doors, L: Ledger>(
     ensures statuses { (result ≡ 0) ⊎ (result ≡ 6) ⊎ (result ≡ 8) }
     ensures doors { result ≡ 8 → Rose (D.faults doors.old) (D.faults doors.new) }
 {
+    let mut buffers = Buffers::new();
     for _ in 0..connections {
-        match serve_one(alloc, desk, host, clock, keeper, doors, steps) {
+        match serve_one(alloc, &mut buffers, desk, host, clock, keeper, doors, steps) {
             Ok(ending) => {
                 if ending == Ending::Memory {
                     return MEMORY;
@@ -95,6 +97,7 @@ fn serve_all<C: Clock, K: Keeper, D: Doors, L: Ledger>(
 // Serves the next connection, and gives it back.
 fn serve_one<C: Clock, K: Keeper, D: Doors, L: Ledger>(
     alloc: Global,
+    buffers: &mut Buffers,
     desk: &Desk,
     host: &mut HostWithScratch,
     clock: &mut C,
@@ -119,6 +122,7 @@ fn serve_one<C: Clock, K: Keeper, D: Doors, L: Ledger>(
     let (mut source, mut sink) = doors.next()?;
     let ending = talk(
         alloc,
+        buffers,
         desk,
         host,
         keeper,

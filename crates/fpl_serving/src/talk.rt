@@ -15,7 +15,7 @@ use fpl_desk::{
     ByRecords, ByRows, ByStops, Desk, HostWithScratch, ReadsFirst, RowsFirst, StopsFirst,
     looks_read_few, sessions_answer,
 };
-use fpl_session::{Ending, session, sessions_lift, sessions_split};
+use fpl_session::{Buffers, Ending, session, sessions_lift, sessions_split};
 use std::alloc::Global;
 use std::sync::ledger::Ledger;
 
@@ -23,6 +23,7 @@ use std::sync::ledger::Ledger;
 /// deadline passes, the host and its keeper stay as they were, and no more reads are counted than these views allow in all.
 pub fn talk<S: Source, W: Sink, C: Clock, K: Keeper, L: Ledger>(
     alloc: Global,
+    buffers: &mut Buffers,
     desk: &Desk,
     host: &mut HostWithScratch,
     keeper: &mut K,
@@ -58,7 +59,9 @@ pub fn talk<S: Source, W: Sink, C: Clock, K: Keeper, L: Ledger>(
     // The laws of what a session is told by, for the prover.
     talks_lead::<K>();
     talks_count::<K>();
-    session(alloc, desk, host, keeper, source, sink, clock, steps)
+    session(
+        alloc, buffers, desk, host, keeper, source, sink, clock, steps,
+    )
 }
 
 // A law: a session leads on by each of the three views of its keeper.

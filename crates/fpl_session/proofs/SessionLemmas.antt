@@ -1,5 +1,5 @@
 -- pieces of a stream, and the whole session
-use Rattle.std.proofs.Common.{◌≡◌, ◌∙◌, ap, sym, subst, refl, ℕ, List, [], ◌∷◌, ◌++◌, ◌+◌, ◌-◌, ◌<◌, ◌≤◌, ◌^◌, length, arith, inl, inr, append_assoc, append-nil, take, drop}
+use Rattle.std.proofs.Common.{◌≡◌, ◌≢◌, ◌∙◌, ap, sym, subst, refl, ℕ, List, [], ◌∷◌, ◌++◌, ◌+◌, ◌-◌, ◌<◌, ◌≤◌, ◌^◌, length, arith, inl, inr, append_assoc, append-nil, take, drop}
 use Rattle.std.proofs.lemmas.List.{take-append-drop, take_all, length-append}
 use Rattle.std.specs.Prelude.{Option, Some, None, IfSome, Err}
 use Rattle.std.specs.Io.KnownBytes.{Appends, Consumes}
@@ -155,6 +155,10 @@ module _ {S : Type 0} (step : S → Request → List ℕ → S → Type 0) where
   exchanged_stops most left now s r a b u v Ends.Read got c fits small stopped = absurd stopped
   exchanged_stops most left now s r a b u v Ends.Long got c fits small stopped = absurd stopped
   exchanged_stops most left now s r a b u v Ends.Memory got c fits small stopped = absurd stopped
+
+  -- a session that reads does not end for want of memory
+  pub exchanged_reads : (most : ℕ) (left now : Option (List ℕ)) (s r : Held) (a b : S) (u v : Option (List ℕ)) (e : Ending) → Exchanged step most left now s r a b u v (Err e) → e ≢ Ends.Memory
+  exchanged_reads most left now s r a b u v e h is = subst (λ x. Exchanged step most left now s r a b u v (Err x)) is h
 
   cut_is : (rest : List ℕ) → 0 < length rest → Ends.Cut ≡ ending_of (Open rest)
   cut_is [] some = absurd (omega arith)

@@ -1,5 +1,5 @@
 // Piece after piece.
-ghost use Rattle.std.specs.Prelude.{◌≡◌, ◌≤◌, ◌<◌, ◌-◌, [], length};
+ghost use Rattle.std.specs.Prelude.{◌≡◌, ◌≢◌, ◌≤◌, ◌<◌, ◌-◌, [], length};
 ghost use Rattle.fpl_base.specs.Causes.{Rose};
 ghost use Rattle.fpl_http.specs.Held.{IsWaiting};
 ghost use Rattle.fpl_session.specs.Replies.{Speaks};
@@ -43,6 +43,7 @@ pub fn converse<R: Service<H, K, C, L>, H, K: Keeper, S: Source, W: Sink, C: Clo
     ensures write_later { W.faults out.old ≤ W.faults out.new }
     ensures read { result ≡ Ending.Read → Rose (S.faults src.old) (S.faults src.new) }
     ensures write { result ≡ Ending.Write → Rose (W.faults out.old) (W.faults out.new) }
+    ensures memory { result ≢ Ending.Memory }
 {
     let mut taken = 0;
     while taken < MAX_BYTES {

@@ -16,4 +16,5 @@ mod turn;
 pub use ending::Ending;
 pub use laws::{Answering, Standing, Staying, sessions_lift, sessions_split, sessions_stay};
 pub use opening::session;
+pub use places::Buffers;
 pub use service::Service;

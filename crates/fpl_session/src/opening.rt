@@ -1,26 +1,26 @@
 // The whole session.
-ghost use Rattle.std.specs.Prelude.{◌≡◌, ◌≤◌, ◌<◌, [], IfOk, IfSome, length};
+ghost use Rattle.std.specs.Prelude.{◌≡◌, ◌≢◌, ◌≤◌, ◌<◌, IfSome, false, true};
 ghost use Rattle.fpl_base.specs.Causes.{Rose};
-ghost use Rattle.fpl_http.specs.Held.{IsWaiting};
 ghost use Rattle.fpl_session.specs.Replies.{Speaks};
 ghost use Rattle.fpl_session.specs.Sessions.{EndsAs, SessionOf, SessionOver};
 
 use crate::converse::converse;
 use crate::ending::Ending;
-use crate::outbox::Outbox;
-use crate::places::Places;
+use crate::places::Buffers;
 use crate::service::Service;
 use fpl_base::{Clock, Keeper, Memory, Sink, Source, Steps};
-use fpl_http::{Decoder, two_readings_are_one};
+use fpl_http::two_readings_are_one;
 use std::alloc::Global;
 use std::sync::ledger::Ledger;
 
 /// Answers the messages of a source into a sink, one after another. It reads pieces of 65,536 bytes, and takes 2^32 bytes
 /// at most. The answers to what a piece brought are written together, before the next read, and earlier where they are
 /// more than 262,144 bytes. A response that finds no memory is the fixed one of status 507, bytes that are no message
-/// are answered with the body `{"error":"bytes"}`, and nothing behind a message that closes is answered.
+/// are answered with the body `{"error":"bytes"}`, and nothing behind a message that closes is answered. What it keeps is in
+/// the buffers, which the sessions that follow it use again: of what another left in them nothing is heard or told.
 pub fn session<R: Service<H, K, C, L>, H, K: Keeper, S: Source, W: Sink, C: Clock, L: Ledger>(
     alloc: Global,
+    buffers: &mut Buffers,
     service: &R,
     host: &mut H,
     keeper: &mut K,
@@ -43,6 +43,10 @@ pub fn session<R: Service<H, K, C, L>, H, K: Keeper, S: Source, W: Sink, C: Cloc
         (W.taken out.old) (W.taken out.new) result) }
     ensures exact { IfSome (S.left src.old) (λ all. EndsAs all result) }
 
+    // Memory is wanting only where the buffers were not there, and they stay.
+    ensures memory { result ≡ Ending.Memory → buffers.old ≡ false }
+    ensures kept { buffers.old ≡ true → buffers.new ≡ true }
+
     // A fault is answered only where its count rose, and no count falls.
     ensures read_later { S.faults src.old ≤ S.faults src.new }
     ensures write_later { W.faults out.old ≤ W.faults out.new }
@@ -51,12 +55,15 @@ pub fn session<R: Service<H, K, C, L>, H, K: Keeper, S: Source, W: Sink, C: Cloc
 {
     // The law that a stream is read in one way, for the prover.
     two_readings_are_one();
-    open_session(alloc, service, host, keeper, src, out, clock, steps)
+    open_session(
+        alloc, buffers, service, host, keeper, src, out, clock, steps,
+    )
 }
 
-/// Takes what a session needs, and begins it.
+/// Takes what a session needs, and runs it.
 fn open_session<R: Service<H, K, C, L>, H, K: Keeper, S: Source, W: Sink, C: Clock, L: Ledger>(
     alloc: Global,
+    buffers: &mut Buffers,
     service: &R,
     host: &mut H,
     keeper: &mut K,
@@ -71,37 +78,30 @@ fn open_session<R: Service<H, K, C, L>, H, K: Keeper, S: Source, W: Sink, C: Clo
         (R.see (host.old, keeper.old, clock.old, steps.old))
         (R.see (host.new, keeper.new, clock.new, steps.new))
         (W.taken out.old) (W.taken out.new) result }
+    ensures memory { result ≡ Ending.Memory → buffers.old ≡ false }
+    ensures kept { buffers.old ≡ true → buffers.new ≡ true }
     ensures read_later { S.faults src.old ≤ S.faults src.new }
     ensures write_later { W.faults out.old ≤ W.faults out.new }
     ensures read { result ≡ Ending.Read → Rose (S.faults src.old) (S.faults src.new) }
     ensures write { result ≡ Ending.Write → Rose (W.faults out.old) (W.faults out.new) }
 {
-    match buffers(alloc) {
-        Ok((mut places, mut buffer)) => converse(
-            alloc,
-            &mut places,
-            &mut buffer,
-            service,
-            host,
-            keeper,
-            src,
-            out,
-            clock,
-            steps,
-        ),
+    match buffers.take(alloc) {
+        Ok((mut places, mut piece)) => {
+            let ending = converse(
+                alloc,
+                &mut places,
+                &mut piece,
+                service,
+                host,
+                keeper,
+                src,
+                out,
+                clock,
+                steps,
+            );
+            buffers.keep(places, piece);
+            ending
+        }
         Err(Memory) => Ending::Memory,
     }
-}
-
-const PIECE: usize = 65_536;
-
-/// What a session needs: places that hold nothing, and one to read into.
-fn buffers(alloc: Global) -> Result<(Places, Vec<u8>), Memory>
-    ensures { IfOk result (λ p. IsWaiting p.0.decoder × (p.0.decoder.pending ≡ [])
-        × (length p.1.items ≡ 65536) × (p.0.outbox ≡ [])) }
-{
-    let decoder = Decoder::new(alloc)?;
-    let buffer = vec![in alloc; 0; PIECE]?;
-    let outbox = Outbox::new(alloc)?;
-    Ok((Places { decoder, outbox }, buffer))
 }

@@ -43,6 +43,13 @@ impl Outbox {
         })
     }
 
+    /// Gives up the texts.
+    pub fn clear(&mut self)
+        ensures { self.new ≡ [] }
+    {
+        self.bytes.clear();
+    }
+
     /// Whether it is to be written before another text comes.
     pub fn is_full(&self) -> bool
         ensures { result ≡ nat_lt 262144 (length self.now) }

@@ -1,10 +1,10 @@
 // A shelf of the files of this machine, the trusted edge: it counts each error and tells no bytes.
 ghost use Rattle.std.specs.Prelude.{◌≡◌, ◌≤◌, ◌<◌, Err, IfOk, IfSome, None, length};
 ghost use Rattle.std.specs.Io.KnownBytes.{Consumes, IsAtEnd};
-ghost use Rattle.fpl_base.specs.declared.outside.ShelfFault.TheVariants as fault;
+ghost use Rattle.fpl_shelves.specs.declared.disk.Unread.TheVariants as unread;
 
 use crate::LONGEST;
-use fpl_base::{Bytes, Shelf, ShelfFault};
+use fpl_base::{Bytes, Shelf, ShelfFault, Text};
 use std::alloc::Global;
 use std::fs::File;
 use std::io;
@@ -19,6 +19,15 @@ const PIECE: usize = 65_536;
 pub struct Disk<'a, R: Files> {
     rt: &'a R,
     faults: u64,
+    missed: Option<(Text, io::Error)>,
+}
+
+/// Why the bytes of a file were not read.
+#[derive(Drop)]
+enum Unread {
+    Failed(io::Error),
+    Long,
+    Memory,
 }
 
 impl<'a, R: Files> Disk<'a, R> {
@@ -26,44 +35,58 @@ impl<'a, R: Files> Disk<'a, R> {
     pub fn new(rt: &'a R) -> Self
         ensures { result.faults ≡ 0 }
     {
-        Disk { rt, faults: 0 }
+        Disk {
+            rt,
+            faults: 0,
+            missed: None,
+        }
+    }
+
+    /// Which file failed last, by its path, and why, where one did and there was memory for the path.
+    pub fn missed(&self) -> Option<(&str, &io::Error)> {
+        match &self.missed {
+            Some((path, fault)) => Some((path.text(), fault)),
+            None => None,
+        }
     }
 
     // The bytes of the file of a path.
-    fn read_file(&self, alloc: Global, path: &str) -> Result<Bytes, ShelfFault>
+    fn read_file(&self, alloc: Global, path: &str) -> Result<Bytes, Unread>
         ensures { IfOk result (λ bytes. length bytes ≤ 4194304) }
     {
         match File::open(self.rt, path) {
             Ok(mut file) => whole(alloc, &mut file),
-            Err(_) => Err(ShelfFault::Failed),
+            Err(fault) => Err(Unread::Failed(fault)),
         }
     }
 }
 
 // All bytes that a reader has.
-fn whole<R: Read>(alloc: Global, file: &mut R) -> Result<Bytes, ShelfFault>
+fn whole<R: Read>(alloc: Global, file: &mut R) -> Result<Bytes, Unread>
     ensures all { IfOk result
         (λ bytes. Consumes (R.remaining file.old) (R.remaining file.new) bytes
         × IsAtEnd (R.remaining file.new)) }
     ensures few { IfOk result (λ bytes. length bytes ≤ 4194304) }
-    ensures long { result ≡ Err fault.Long
+    ensures long { result ≡ Err unread.Long
         → IfSome (R.remaining file.old) (λ bytes. 4194304 < length bytes) }
 {
     let mut place = [0; PIECE];
     let mut bytes = Vec::new(alloc);
     for _ in 0..=LONGEST {
-        let count = file.read(&mut place).map_err(|_| ShelfFault::Failed)?;
+        let count = file
+            .read(&mut place)
+            .map_err(|fault| Unread::Failed(fault))?;
         if count == 0 {
             return Ok(Bytes::from_vec(bytes));
         }
         if bytes.len() + count > LONGEST {
-            return Err(ShelfFault::Long);
+            return Err(Unread::Long);
         }
         if bytes.extend_from_slice(&place[..count]).is_err() {
-            return Err(ShelfFault::Memory);
+            return Err(Unread::Memory);
         }
     }
-    Err(ShelfFault::Long)
+    Err(Unread::Long)
 }
 
 impl<'a, R: Files> Shelf for Disk<'a, R> {
@@ -74,10 +97,17 @@ impl<'a, R: Files> Shelf for Disk<'a, R> {
     ghost faults = { λ s. s.faults };
 
     fn read(&mut self, alloc: Global, name: &str) -> Result<Bytes, ShelfFault> {
-        let read = self.read_file(alloc, name);
-        if matches!(read, Err(ShelfFault::Failed)) {
-            self.faults = self.faults.saturating_add(1);
+        match self.read_file(alloc, name) {
+            Ok(bytes) => Ok(bytes),
+            Err(Unread::Failed(fault)) => {
+                self.faults = self.faults.saturating_add(1);
+                if let Ok(path) = Text::new(alloc, name) {
+                    self.missed = Some((path, fault));
+                }
+                Err(ShelfFault::Failed)
+            }
+            Err(Unread::Long) => Err(ShelfFault::Long),
+            Err(Unread::Memory) => Err(ShelfFault::Memory),
         }
-        read
     }
 }

@@ -3,7 +3,7 @@ ghost use Rattle.std.specs.Prelude.{◌≡◌, ◌<◌};
 
 use fpl_base::{Keeper, Key, Memory, Moment, Sink, Source, Steps};
 use fpl_desk::opened;
-use fpl_session::{Ending, session};
+use fpl_session::{Buffers, Ending, session};
 use outside_forms::{FaultyKeeper, FaultySink, MemoryClock, MemoryKeeper, MemorySource, Plan};
 use season_opening::OpenFault;
 use std::alloc::Global;
@@ -27,7 +27,15 @@ fn ran<S: Source, W: Sink, K: Keeper, L: Ledger>(
     let mut clock = MemoryClock::new(Moment::new(0).unwrap(), &[]);
     match opened(alloc, key, keeper, &mut steps) {
         Ok((desk, mut host)) => Ok(session(
-            alloc, &desk, &mut host, keeper, input, output, &mut clock, &mut steps,
+            alloc,
+            &mut Buffers::new(),
+            &desk,
+            &mut host,
+            keeper,
+            input,
+            output,
+            &mut clock,
+            &mut steps,
         )),
         Err(fault) => Err(fault),
     }

@@ -37,12 +37,12 @@ score = with_rule (new_app (codes "score")) (offered (codes "profile"))
 abbrev pub pipe : App
 pipe = with_rule (with_rule (new_app (codes "pipe")) (wanted (codes "key"))) (offered (codes "store"))
 
--- serve --key K --port N --connections N [--store PATH]
+-- serve --key K --port N [--connections N] [--clients N] [--pages PATH] [--store PATH]
 abbrev pub serve : App
 serve =
-    let key = with_rule (new_app (codes "serve")) (wanted (codes "key")) in
-    let connections = with_rule (with_rule key (wanted (codes "port"))) (wanted (codes "connections")) in
-    with_rule connections (offered (codes "store"))
+    let port = with_rule (with_rule (new_app (codes "serve")) (wanted (codes "key"))) (wanted (codes "port")) in
+    let clients = with_rule (with_rule port (offered (codes "connections"))) (offered (codes "clients")) in
+    with_rule (with_rule clients (offered (codes "pages"))) (offered (codes "store"))
 
 -- load --key K --store PATH --dir PATH --split N [--profile N]
 abbrev pub load : App

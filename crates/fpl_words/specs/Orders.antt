@@ -6,7 +6,7 @@ use Rattle.clap.specs.Words.{Row, Text}
 use Rattle.fpl_words.specs.declared.words.Words.{Words}
 use Rattle.fpl_words.specs.declared.words.Words.TheVariants as words
 use Rattle.fpl_words.specs.Options.{entered_in}
-use Rattle.fpl_words.specs.Values.{◌>>=◌, key, number, path, profile, report_of, store}
+use Rattle.fpl_words.specs.Values.{◌>>=◌, clients, connections, key, number, pages, path, profile, report_of, store}
 
 -- What each command says by the values of its options.
 
@@ -18,8 +18,8 @@ pipe given = key given >>= λ k. store given >>= λ kept. Some (words.Pipe k kep
 
 abbrev pub serve : List Row → Option Words
 serve given =
-    key given >>= λ k. number (codes "port") 1 65535 given >>= λ port. number (codes "connections") 1 65535 given >>= λ connections.
-    store given >>= λ kept. Some (words.Serve k port connections kept)
+    key given >>= λ k. number (codes "port") 1 65535 given >>= λ port. clients given >>= λ most. connections most given >>= λ count.
+    pages most given >>= λ folder. store given >>= λ kept. Some (words.Serve k port most count folder kept)
 
 abbrev pub load : List Row → Option Words
 load given =

@@ -1,5 +1,5 @@
 -- What the values of options say.
-use Rattle.std.specs.Prelude.{◌≡◌, ℕ, ◌&&◌, ◌==◌, nat_le, List, length, codes, if◌then◌else◌, Option, Some, None, is_some, Result, MatchResult}
+use Rattle.std.specs.Prelude.{◌≡◌, ◌^◌, ◌-◌, ℕ, ◌&&◌, ◌==◌, nat_le, List, length, codes, if◌then◌else◌, Option, Some, None, is_some, Result, MatchResult}
 use Rattle.std.specs.Fmt.{decimal}
 use Rattle.std.specs.Str.{bytes_eq}
 use Rattle.std.specs.Str.Parse.{digits_value}
@@ -60,6 +60,29 @@ path name given = first_of name given >>= if_path
 abbrev pub store : List Row → Option (Option Text)
 store given = if_given if_path (first_of (codes "store") given)
 
+-- how many clients there may be at once, where they are gathered
+abbrev pub clients : List Row → Option (Option ℕ)
+clients given = if_given (number_in 1 1024) (first_of (codes "clients") given)
+
+-- how many messages are answered; where none says it, so many that the last never comes
+abbrev pub messages : Option Text → Option ℕ
+messages None = Some (2 ^ 64 - 1)
+messages (Some text) = number_in 1 (2 ^ 64 - 1) text
+
+-- how many connections are served: the number has to be given, but where clients are gathered, and each message is one
+abbrev pub connections : Option ℕ → List Row → Option ℕ
+connections None given = number (codes "connections") 1 65535 given
+connections (Some most) given = messages (first_of (codes "connections") given)
+
+-- what is said where an option that it does not need is not given
+abbrev pub without : {T : Type 0} → Text → List Row → Option T → Option T
+without name given said = if is_some (first_of name given) then None else said
+
+-- the folder whose files are pages, which are for clients that are gathered alone
+abbrev pub pages : Option ℕ → List Row → Option (Option Text)
+pages None given = without (codes "pages") given (Some None)
+pages (Some most) given = if_given if_path (first_of (codes "pages") given)
+
 -- the rules of a season: 1 is A, 2 is B
 abbrev pub profile_named : Text → Option Profile
 profile_named text = if bytes_eq text (codes "1") then Some rules.A else (if bytes_eq text (codes "2") then Some rules.B else None)
@@ -71,10 +94,6 @@ profile_or_first (Some text) = profile_named text
 -- the rules of a season, A where none are named
 abbrev pub profile : List Row → Option Profile
 profile given = profile_or_first (first_of (codes "profile") given)
-
--- what is said where an option that it does not need is not given
-abbrev pub without : {T : Type 0} → Text → List Row → Option T → Option T
-without name given said = if is_some (first_of name given) then None else said
 
 abbrev pub season_report : List Row → Option What
 season_report given = without (codes "id") given (without (codes "gameweek") given (Some what.Season))

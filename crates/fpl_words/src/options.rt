@@ -29,8 +29,8 @@ fn host_command<'a>(alloc: Global) -> Result<Command<'a>, AllocError>
 {
     let command = with_command(alloc, bare_command(alloc), "score", &[], &["profile"])?;
     let command = with_command(alloc, command, "pipe", &["key"], &["store"])?;
-    let wanted = &["key", "port", "connections"];
-    let command = with_command(alloc, command, "serve", wanted, &["store"])?;
+    let offered = &["connections", "clients", "pages", "store"];
+    let command = with_command(alloc, command, "serve", &["key", "port"], offered)?;
     let wanted = &["key", "store", "dir", "split"];
     let command = with_command(alloc, command, "load", wanted, &["profile"])?;
     let wanted = &["key", "store", "what"];

@@ -6,7 +6,10 @@ ghost use Rattle.fpl_words.specs.Orders.{generate, is_dash, load, order_named, o
 ghost use Rattle.fpl_words.specs.Values.{Answers};
 
 use crate::options::{entered, parse};
-use crate::values::{is_word, key_of, number_of, path_of, profile_of, store_of, what_of};
+use crate::values::{
+    clients_of, connections_of, is_word, key_of, number_of, pages_of, path_of, profile_of,
+    store_of, what_of,
+};
 use crate::words::{WordFault, Words};
 use clap::ArgMatches;
 use fpl_base::{Memory, Text};
@@ -105,12 +108,16 @@ fn serve(alloc: Global, given: &ArgMatches<'_>) -> Result<Words, WordFault>
 {
     let key = key_of(alloc, given)?;
     let port = number_of(given, "port", 1, 65_535)?;
-    let connections = number_of(given, "connections", 1, 65_535)?;
+    let clients = clients_of(given)?;
+    let connections = connections_of(given, clients)?;
+    let pages = pages_of(alloc, given, clients)?;
     let store = store_of(alloc, given)?;
     Ok(Words::Serve {
         key,
         port: port as u16,
-        connections: connections as u16,
+        clients,
+        connections,
+        pages,
         store,
     })
 }

@@ -1,8 +1,8 @@
 // The values of options, read.
-ghost use Rattle.std.specs.Prelude.{◌≡◌, ◌≤◌, IfOk, codes, is_some};
+ghost use Rattle.std.specs.Prelude.{◌≡◌, ◌≤◌, IfOk, None, Some, codes, is_some};
 ghost use Rattle.clap.specs.Words.{first_of, rows_of, found_of};
 ghost use Rattle.std.specs.Str.{bytes_eq};
-ghost use Rattle.fpl_words.specs.Values.{Answers, entry_report, fixture_report, id, if_key, if_path, key, number, number_in, path, profile, profile_named, report_named, report_of, season_report, store, table_report};
+ghost use Rattle.fpl_words.specs.Values.{Answers, clients, connections, entry_report, fixture_report, id, if_given, if_key, if_path, key, messages, number, number_in, pages, path, profile, profile_named, report_named, report_of, season_report, store, table_report, without};
 
 use crate::options::value_of;
 use crate::words::{What, WordFault};
@@ -110,6 +110,72 @@ fn number_in(text: &str, least: u64, greatest: u64) -> Result<u64, WordFault>
         }
         None => Err(WordFault::Unread),
     }
+}
+
+// How many clients there may be at once, where they are gathered.
+pub fn clients_of(given: &ArgMatches<'_>) -> Result<Option<u16>, WordFault>
+    ensures { Answers (clients (rows_of (found_of given.now))) result }
+{
+    match value_of(given, "clients") {
+        Some(text) => {
+            let most = number_in(text, 1, 1_024)?;
+            Ok(Some(most as u16))
+        }
+        None => Ok(None),
+    }
+}
+
+// How many connections are served, each of which is a message where clients are gathered.
+pub fn connections_of(given: &ArgMatches<'_>, most: Option<u16>) -> Result<u64, WordFault>
+    ensures { Answers (connections most (rows_of (found_of given.now))) result }
+{
+    match most {
+        Some(_) => messages_of(given),
+        None => number_of(given, "connections", 1, 65_535),
+    }
+}
+
+fn messages_of(given: &ArgMatches<'_>) -> Result<u64, WordFault>
+    ensures { Answers (messages (first_of (codes "connections") (rows_of (found_of given.now))))
+        result }
+{
+    match value_of(given, "connections") {
+        Some(text) => number_in(text, 1, u64::MAX),
+        None => Ok(u64::MAX),
+    }
+}
+
+// The folder whose files are pages, where clients are gathered and one is named.
+pub fn pages_of(
+    alloc: Global,
+    given: &ArgMatches<'_>,
+    most: Option<u16>,
+) -> Result<Option<Text>, WordFault>
+    ensures { Answers (pages most (rows_of (found_of given.now))) result }
+{
+    match most {
+        Some(_) => folder_of(alloc, given),
+        None => no_folder(given),
+    }
+}
+
+fn folder_of(alloc: Global, given: &ArgMatches<'_>) -> Result<Option<Text>, WordFault>
+    ensures { Answers (if_given if_path (first_of (codes "pages") (rows_of (found_of given.now))))
+        result }
+{
+    match value_of(given, "pages") {
+        Some(text) => Ok(Some(path_in(alloc, text)?)),
+        None => Ok(None),
+    }
+}
+
+fn no_folder(given: &ArgMatches<'_>) -> Result<Option<Text>, WordFault>
+    ensures { Answers (without (codes "pages") (rows_of (found_of given.now)) (Some None)) result }
+{
+    if is_given(given, "pages") {
+        return Err(WordFault::Unread);
+    }
+    Ok(None)
 }
 
 // What a report shows.

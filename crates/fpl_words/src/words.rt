@@ -13,11 +13,14 @@ pub enum Words {
         key: Key,
         store: Option<Text>,
     },
-    /// Runs a session with each of so many connections to a port of this machine; neither is 0.
+    /// Runs a session with each of so many connections to a port of this machine; no number is 0. Where clients are gathered,
+    /// so many at once, each message of theirs is a connection, and the files of a folder may be their pages.
     Serve {
         key: Key,
         port: u16,
-        connections: u16,
+        clients: Option<u16>,
+        connections: u64,
+        pages: Option<Text>,
         store: Option<Text>,
     },
     /// Loads a season from the three files of a folder. Its first half ends with the gameweek `split`, 0 to 38.

@@ -203,17 +203,6 @@ impl ManagerBook {
         }
     }
 
-    /// All transfers of an entry in the order of making, each with its gameweek; none where it was not issued. It takes no
-    /// memory.
-    pub fn sales(&self, e: EntryId) -> &[(Gw, Sale)]
-        ensures { result.now ≡ sales_of self.now e }
-    {
-        match self.manager(e) {
-            Some(manager) => manager.sales.as_slice(),
-            None => &[],
-        }
-    }
-
     /// Whether nothing was done for an entry in a later gameweek. A call with `next` needs it.
     pub fn is_up_to(&self, e: EntryId, g: Gw) -> bool
         ensures { IsTrue result ↔ AllUpTo g (season_of self.now e) }

@@ -132,5 +132,8 @@ fn own_goals_of(events: &[Event], player: PlayerId) -> u16
     requires { length events.now ≤ 200 }
     ensures { result ≡ count_by (scores_own player) events.now }
 {
-    events.iter().filter(|event| event.scores_own(player)).count() as u16
+    events
+        .iter()
+        .filter(|event| event.scores_own(player))
+        .count() as u16
 }

@@ -1,11 +1,13 @@
 // The bodies of records, appended to bytes.
-ghost use Rattle.std.specs.Prelude.{[], ◌≡◌, ◌≤◌, IfOk, IsTrue, length};
+ghost use Rattle.std.specs.Prelude.{[], ◌≡◌, ◌≤◌, ◌<◌, ◌^◌, IfOk, IsTrue, length};
+ghost use Rattle.std.specs.List.{AllByRecursion};
+ghost use Rattle.fpl_base.specs.Texts.{is_code, is_key, is_name};
 ghost use Rattle.record_fields.specs.Fields.{short_text};
+ghost use Rattle.record_fields.specs.Ranges.{IsBelow32, IsByte, IsClub, IsGameweek, IsId, IsMoment, IsPick, IsPlayer, IsWide, is_place};
 ghost use Rattle.record_codec.specs.Commands.{is_command};
-ghost use Rattle.record_codec.specs.Items.{body_of, is_item};
 ghost use Rattle.record_codec.specs.Items as bodies;
+ghost use Rattle.record_codec.specs.Ranges.{HasRanges};
 
-use crate::Item;
 use crate::commands::append_command;
 use fpl_base::{
     Bytes, Chip, ClubId, Code, EntryId, Gw, Key, Memory, Moment, Name, PlayerId, Position, Profile,
@@ -22,83 +24,6 @@ use std::alloc::Global;
 // The bytes that most bodies have at most: a team has 97, a line 56.
 const ROOM: usize = 100;
 
-// The body of an item.
-pub fn body(alloc: Global, item: &Item) -> Result<Bytes, Memory>
-    requires { IsTrue (is_item item.now) }
-    ensures { IfOk result (λ bytes. bytes ≡ body_of item.now) }
-{
-    match *item {
-        Item::Season {
-            profile,
-            split,
-            locked,
-            ref deadlines,
-        } => season_body(alloc, profile, split, locked, deadlines),
-        Item::Club { ref name, .. } => club_body(alloc, name),
-        Item::Player {
-            position,
-            club,
-            price,
-            gone,
-            ref name,
-            ..
-        } => player_body(alloc, position, club, price, gone, name),
-        Item::Fixture {
-            home,
-            away,
-            gameweek,
-            kickoff,
-            finished,
-            ..
-        } => fixture_body(alloc, home, away, gameweek, kickoff, finished),
-        Item::Line { ref line, .. } => line_body(alloc, line),
-        Item::Entry {
-            first,
-            ref key,
-            ref name,
-            ..
-        } => entry_body(alloc, first, key, name),
-        Item::Team {
-            ref picks,
-            captain,
-            vice,
-            bank,
-            chip,
-            ..
-        } => team_body(alloc, picks, captain, vice, bank, chip),
-        Item::Transfer {
-            out,
-            into,
-            sold,
-            bought,
-            ..
-        } => transfer_body(alloc, out, into, sold, bought),
-        Item::League {
-            kind,
-            start,
-            creator,
-            ref order,
-            ref code,
-            ref name,
-            ..
-        } => league_body(alloc, kind, start, creator, order, code, name),
-        Item::Member { .. } => Ok(Bytes::new(alloc)),
-        Item::Cup {
-            start,
-            ref slots,
-            ref coins,
-            ..
-        } => cup_body(alloc, start, slots, coins),
-        Item::Last {
-            number,
-            status,
-            made,
-            ref command,
-            ..
-        } => last_body(alloc, number, status, made, command),
-    }
-}
-
 // No bytes yet, and room for those of most bodies, so that they are not moved as they grow.
 fn no_bytes(alloc: Global) -> Result<Vec<u8>, Memory>
     ensures { IfOk result (λ bytes. bytes.items ≡ []) }
@@ -106,7 +31,7 @@ fn no_bytes(alloc: Global) -> Result<Vec<u8>, Memory>
     Ok(Vec::with_capacity(alloc, ROOM)?)
 }
 
-fn season_body(
+pub fn season_body(
     alloc: Global,
     profile: Profile,
     split: u8,
@@ -114,7 +39,8 @@ fn season_body(
     deadlines: &Moments,
 ) -> Result<Bytes, Memory>
     requires { length deadlines.now ≤ 255 }
-    ensures { IfOk result (λ bytes. bytes ≡ bodies.season_body profile split locked deadlines.now) }
+    ensures written { IfOk result (λ bytes. bytes ≡ bodies.season_body profile split locked deadlines.now) }
+    ensures fits { IfOk result (λ _. (split < 256) × (locked < 256) × AllByRecursion IsMoment deadlines.now) }
 {
     let mut bytes = no_bytes(alloc)?;
     append_u8(&mut bytes, profile_byte(profile))?;
@@ -125,8 +51,9 @@ fn season_body(
     Ok(Bytes::from_vec(bytes))
 }
 
-fn club_body(alloc: Global, name: &Name) -> Result<Bytes, Memory>
-    ensures { IfOk result (λ bytes. bytes ≡ short_text name.now) }
+pub fn club_body(alloc: Global, name: &Name) -> Result<Bytes, Memory>
+    ensures written { IfOk result (λ bytes. bytes ≡ short_text name.now) }
+    ensures fits { IfOk result (λ _. IsTrue (is_name name.now)) }
 {
     let mut bytes = no_bytes(alloc)?;
     append_short_text(&mut bytes, name.bytes())?;
@@ -142,7 +69,8 @@ pub fn player_body(
     gone: bool,
     name: &Name,
 ) -> Result<Bytes, Memory>
-    ensures { IfOk result (λ bytes. bytes ≡ bodies.player_body position club price gone name.now) }
+    ensures written { IfOk result (λ bytes. bytes ≡ bodies.player_body position club price gone name.now) }
+    ensures fits { IfOk result (λ _. IsClub club × (price < 2 ^ 16) × IsTrue (is_name name.now)) }
 {
     let mut bytes = no_bytes(alloc)?;
     append_u8(&mut bytes, position_byte(position))?;
@@ -153,7 +81,7 @@ pub fn player_body(
     Ok(Bytes::from_vec(bytes))
 }
 
-fn fixture_body(
+pub fn fixture_body(
     alloc: Global,
     home: ClubId,
     away: ClubId,
@@ -161,8 +89,9 @@ fn fixture_body(
     kickoff: Moment,
     finished: bool,
 ) -> Result<Bytes, Memory>
-    ensures { IfOk result
+    ensures written { IfOk result
         (λ bytes. bytes ≡ bodies.fixture_body home away gameweek kickoff finished) }
+    ensures fits { IfOk result (λ _. IsClub home × IsClub away × IsTrue (is_place gameweek) × IsMoment kickoff) }
 {
     let mut bytes = no_bytes(alloc)?;
     append_u8(&mut bytes, home.get())?;
@@ -173,16 +102,18 @@ fn fixture_body(
     Ok(Bytes::from_vec(bytes))
 }
 
-fn line_body(alloc: Global, line: &Line) -> Result<Bytes, Memory>
-    ensures { IfOk result (λ bytes. bytes ≡ bodies.line_body line.now) }
+pub fn line_body(alloc: Global, line: &Line) -> Result<Bytes, Memory>
+    ensures written { IfOk result (λ bytes. bytes ≡ bodies.line_body line.now) }
+    ensures fits { IfOk result (λ _. IsWide line.now) }
 {
     let mut bytes = no_bytes(alloc)?;
     append_figures(&mut bytes, &line.figures)?;
     Ok(Bytes::from_vec(bytes))
 }
 
-fn entry_body(alloc: Global, first: Option<Gw>, key: &Key, name: &Name) -> Result<Bytes, Memory>
-    ensures { IfOk result (λ bytes. bytes ≡ bodies.entry_body first key.now name.now) }
+pub fn entry_body(alloc: Global, first: Option<Gw>, key: &Key, name: &Name) -> Result<Bytes, Memory>
+    ensures written { IfOk result (λ bytes. bytes ≡ bodies.entry_body first key.now name.now) }
+    ensures fits { IfOk result (λ _. IsTrue (is_place first) × IsTrue (is_key key.now) × IsTrue (is_name name.now)) }
 {
     let mut bytes = no_bytes(alloc)?;
     append_u8(&mut bytes, gameweek_byte(first))?;
@@ -191,7 +122,7 @@ fn entry_body(alloc: Global, first: Option<Gw>, key: &Key, name: &Name) -> Resul
     Ok(Bytes::from_vec(bytes))
 }
 
-fn team_body(
+pub fn team_body(
     alloc: Global,
     picks: &[(PlayerId, u16); 15],
     captain: u8,
@@ -199,7 +130,8 @@ fn team_body(
     bank: u32,
     chip: Chip,
 ) -> Result<Bytes, Memory>
-    ensures { IfOk result (λ bytes. bytes ≡ bodies.team_body picks.now captain vice bank chip) }
+    ensures written { IfOk result (λ bytes. bytes ≡ bodies.team_body picks.now captain vice bank chip) }
+    ensures fits { IfOk result (λ _. (length picks.now ≡ 15) × AllByRecursion IsPick picks.now × (captain < 256) × (vice < 256) × (bank < 2 ^ 32)) }
 {
     let mut bytes = no_bytes(alloc)?;
     append_picks(&mut bytes, picks)?;
@@ -210,14 +142,15 @@ fn team_body(
     Ok(Bytes::from_vec(bytes))
 }
 
-fn transfer_body(
+pub fn transfer_body(
     alloc: Global,
     out: PlayerId,
     into: PlayerId,
     sold: u16,
     bought: u16,
 ) -> Result<Bytes, Memory>
-    ensures { IfOk result (λ bytes. bytes ≡ bodies.transfer_body out into sold bought) }
+    ensures written { IfOk result (λ bytes. bytes ≡ bodies.transfer_body out into sold bought) }
+    ensures fits { IfOk result (λ _. IsPlayer out × IsPlayer into × (sold < 2 ^ 16) × (bought < 2 ^ 16)) }
 {
     let mut bytes = no_bytes(alloc)?;
     append_u32(&mut bytes, out.get())?;
@@ -227,7 +160,7 @@ fn transfer_body(
     Ok(Bytes::from_vec(bytes))
 }
 
-fn league_body(
+pub fn league_body(
     alloc: Global,
     kind: LeagueKind,
     start: Gw,
@@ -237,8 +170,9 @@ fn league_body(
     name: &Name,
 ) -> Result<Bytes, Memory>
     requires { length order.now ≤ 255 }
-    ensures { IfOk result
+    ensures written { IfOk result
         (λ bytes. bytes ≡ bodies.league_body kind start creator order.now code.now name.now) }
+    ensures fits { IfOk result (λ _. IsGameweek start × IsId creator × AllByRecursion IsId order.now × IsTrue (is_code code.now) × IsTrue (is_name name.now)) }
 {
     let mut bytes = no_bytes(alloc)?;
     append_u8(&mut bytes, kind_byte(kind))?;
@@ -251,9 +185,10 @@ fn league_body(
     Ok(Bytes::from_vec(bytes))
 }
 
-fn cup_body(alloc: Global, start: Gw, slots: &Slots, coins: &Coins) -> Result<Bytes, Memory>
+pub fn cup_body(alloc: Global, start: Gw, slots: &Slots, coins: &Coins) -> Result<Bytes, Memory>
     requires { length slots.now ≤ 65535 }
-    ensures { IfOk result (λ bytes. bytes ≡ bodies.cup_body start slots.now coins.now) }
+    ensures written { IfOk result (λ bytes. bytes ≡ bodies.cup_body start slots.now coins.now) }
+    ensures fits { IfOk result (λ _. IsGameweek start × AllByRecursion IsBelow32 slots.now × AllByRecursion IsByte coins.now) }
 {
     let mut bytes = no_bytes(alloc)?;
     append_u8(&mut bytes, start.get())?;
@@ -280,7 +215,8 @@ pub fn last_body(
     command: &Command,
 ) -> Result<Bytes, Memory>
     requires { IsTrue (is_command command.now) }
-    ensures { IfOk result (λ bytes. bytes ≡ bodies.last_body number status made command.now) }
+    ensures written { IfOk result (λ bytes. bytes ≡ bodies.last_body number status made command.now) }
+    ensures fits { IfOk result (λ _. (number < 2 ^ 64) × (status < 2 ^ 16) × (made < 2 ^ 32) × HasRanges command.now) }
 {
     let mut bytes = Vec::with_capacity(alloc, command_room(command))?;
     append_u64(&mut bytes, number)?;

@@ -1,7 +1,9 @@
 // Commands, appended to bytes.
 ghost use Rattle.std.specs.Prelude.{◌≡◌, ◌≤◌, ◌++◌, OnOk, IsTrue, length};
 ghost use Rattle.record_fields.specs.Fields.{whole, byte, listed, profile_end};
+ghost use Rattle.record_fields.specs.Ranges.{IsPlayer};
 ghost use Rattle.record_codec.specs.Commands.{bytes_of_command, is_command};
+ghost use Rattle.record_codec.specs.Ranges.{HasRanges};
 ghost use Rattle.season_book.specs.declared.command.Command.TheVariants as command;
 
 use fpl_base::{
@@ -19,7 +21,8 @@ use season_book::{Clubs, Command, Lines, Moments, Order, Swaps};
 // A command's number, the ids of its target, and its members in order.
 pub fn append_command(bytes: &mut Vec<u8>, command: &Command) -> Result<(), Memory>
     requires { IsTrue (is_command command.now) }
-    ensures { OnOk result (bytes.new.items ≡ bytes.old.items ++ bytes_of_command command.now) }
+    ensures written { OnOk result (bytes.new.items ≡ bytes.old.items ++ bytes_of_command command.now) }
+    ensures fits { OnOk result (HasRanges command.now) }
 {
     match *command {
         Command::Season {
@@ -121,10 +124,11 @@ fn append_season(
 ) -> Result<(), Memory>
     requires deadlines { length deadlines.now ≤ 38 }
     requires clubs { length clubs.now ≤ 20 }
-    ensures { OnOk result
+    ensures written { OnOk result
         (bytes.new.items
         ≡ bytes.old.items
         ++ bytes_of_command (command.Season profile deadlines.now split clubs.now)) }
+    ensures fits { OnOk result (HasRanges (command.Season profile deadlines.now split clubs.now)) }
 {
     append_u8(bytes, 1)?;
     append_u16(bytes, deadlines.as_slice().len() as u16)?;
@@ -153,9 +157,10 @@ fn append_player(
     club: ClubId,
     price: u16,
 ) -> Result<(), Memory>
-    ensures { OnOk result
+    ensures written { OnOk result
         (bytes.new.items
         ≡ bytes.old.items ++ bytes_of_command (command.Player id name.now position club price)) }
+    ensures fits { OnOk result (HasRanges (command.Player id name.now position club price)) }
 {
     append_u8(bytes, 3)?;
     append_u64(bytes, id.get() as u64)?;
@@ -166,8 +171,9 @@ fn append_player(
 }
 
 fn append_gone(bytes: &mut Vec<u8>, player: PlayerId, gone: bool) -> Result<(), Memory>
-    ensures { OnOk result
+    ensures written { OnOk result
         (bytes.new.items ≡ bytes.old.items ++ bytes_of_command (command.Gone player gone)) }
+    ensures fits { OnOk result (IsPlayer player) }
 {
     append_u8(bytes, 6)?;
     append_u64(bytes, player.get() as u64)?;
@@ -182,9 +188,10 @@ fn append_fixture(
     gameweek: Option<Gw>,
     kickoff: Moment,
 ) -> Result<(), Memory>
-    ensures { OnOk result
+    ensures written { OnOk result
         (bytes.new.items
         ≡ bytes.old.items ++ bytes_of_command (command.Fixture id home away gameweek kickoff)) }
+    ensures fits { OnOk result (HasRanges (command.Fixture id home away gameweek kickoff)) }
 {
     append_u8(bytes, 7)?;
     append_u64(bytes, id.get() as u64)?;
@@ -200,9 +207,10 @@ fn append_move(
     gameweek: Option<Gw>,
     kickoff: Moment,
 ) -> Result<(), Memory>
-    ensures { OnOk result
+    ensures written { OnOk result
         (bytes.new.items
         ≡ bytes.old.items ++ bytes_of_command (command.Move fixture gameweek kickoff)) }
+    ensures fits { OnOk result (HasRanges (command.Move fixture gameweek kickoff)) }
 {
     append_u8(bytes, 8)?;
     append_u32(bytes, fixture)?;
@@ -217,9 +225,10 @@ fn append_sheet(
     finished: bool,
 ) -> Result<(), Memory>
     requires { length lines.now ≤ 100 }
-    ensures { OnOk result
+    ensures written { OnOk result
         (bytes.new.items
         ≡ bytes.old.items ++ bytes_of_command (command.Sheet fixture lines.now finished)) }
+    ensures fits { OnOk result (HasRanges (command.Sheet fixture lines.now finished)) }
 {
     append_u8(bytes, 9)?;
     append_u32(bytes, fixture)?;
@@ -234,9 +243,10 @@ fn append_one_line(
     player: PlayerId,
     line: &Line,
 ) -> Result<(), Memory>
-    ensures { OnOk result
+    ensures written { OnOk result
         (bytes.new.items
         ≡ bytes.old.items ++ bytes_of_command (command.Line fixture player line.now)) }
+    ensures fits { OnOk result (HasRanges (command.Line fixture player line.now)) }
 {
     append_u8(bytes, 10)?;
     append_u32(bytes, fixture)?;
@@ -245,8 +255,9 @@ fn append_one_line(
 }
 
 fn append_drop(bytes: &mut Vec<u8>, fixture: u32, player: PlayerId) -> Result<(), Memory>
-    ensures { OnOk result
+    ensures written { OnOk result
         (bytes.new.items ≡ bytes.old.items ++ bytes_of_command (command.Drop fixture player)) }
+    ensures fits { OnOk result (HasRanges (command.Drop fixture player)) }
 {
     append_u8(bytes, 11)?;
     append_u32(bytes, fixture)?;
@@ -254,9 +265,10 @@ fn append_drop(bytes: &mut Vec<u8>, fixture: u32, player: PlayerId) -> Result<()
 }
 
 fn append_finished(bytes: &mut Vec<u8>, fixture: u32, finished: bool) -> Result<(), Memory>
-    ensures { OnOk result
+    ensures written { OnOk result
         (bytes.new.items
         ≡ bytes.old.items ++ bytes_of_command (command.Finished fixture finished)) }
+    ensures fits { OnOk result (HasRanges (command.Finished fixture finished)) }
 {
     append_u8(bytes, 12)?;
     append_u32(bytes, fixture)?;
@@ -264,8 +276,9 @@ fn append_finished(bytes: &mut Vec<u8>, fixture: u32, finished: bool) -> Result<
 }
 
 fn append_key(bytes: &mut Vec<u8>, key: &Key, name: &Name) -> Result<(), Memory>
-    ensures { OnOk result
+    ensures written { OnOk result
         (bytes.new.items ≡ bytes.old.items ++ bytes_of_command (command.Key key.now name.now)) }
+    ensures fits { OnOk result (HasRanges (command.Key key.now name.now)) }
 {
     append_u8(bytes, 13)?;
     append_long_text(bytes, key.bytes())?;
@@ -280,10 +293,11 @@ fn append_slots_of_players(
     captain: PlayerId,
     vice: PlayerId,
 ) -> Result<(), Memory>
-    ensures { OnOk result
+    ensures written { OnOk result
         (bytes.new.items
         ≡ bytes.old.items ++ byte number ++ listed whole players.now ++ whole captain
         ++ whole vice) }
+    ensures fits { OnOk result (HasRanges (command.Squad players.now captain vice)) }
 {
     append_u8(bytes, number)?;
     append_u16(bytes, 15)?;
@@ -294,8 +308,9 @@ fn append_slots_of_players(
 
 fn append_transfers(bytes: &mut Vec<u8>, swaps: &Swaps) -> Result<(), Memory>
     requires { length swaps.now ≤ 15 }
-    ensures { OnOk result
+    ensures written { OnOk result
         (bytes.new.items ≡ bytes.old.items ++ bytes_of_command (command.Transfers swaps.now)) }
+    ensures fits { OnOk result (HasRanges (command.Transfers swaps.now)) }
 {
     append_u8(bytes, 15)?;
     append_u16(bytes, swaps.as_slice().len() as u16)?;
@@ -317,9 +332,10 @@ fn append_league(
     code: &Code,
     start: Gw,
 ) -> Result<(), Memory>
-    ensures { OnOk result
+    ensures written { OnOk result
         (bytes.new.items
         ≡ bytes.old.items ++ bytes_of_command (command.League kind name.now code.now start)) }
+    ensures fits { OnOk result (HasRanges (command.League kind name.now code.now start)) }
 {
     append_u8(bytes, 19)?;
     append_u8(bytes, kind_byte(kind))?;
@@ -329,8 +345,9 @@ fn append_league(
 }
 
 fn append_join(bytes: &mut Vec<u8>, league: u32, code: &Code) -> Result<(), Memory>
-    ensures { OnOk result
+    ensures written { OnOk result
         (bytes.new.items ≡ bytes.old.items ++ bytes_of_command (command.Join league code.now)) }
+    ensures fits { OnOk result (HasRanges (command.Join league code.now)) }
 {
     append_u8(bytes, 20)?;
     append_u32(bytes, league)?;
@@ -339,8 +356,9 @@ fn append_join(bytes: &mut Vec<u8>, league: u32, code: &Code) -> Result<(), Memo
 
 fn append_draw(bytes: &mut Vec<u8>, league: u32, order: &Order) -> Result<(), Memory>
     requires { length order.now ≤ 64 }
-    ensures { OnOk result
+    ensures written { OnOk result
         (bytes.new.items ≡ bytes.old.items ++ bytes_of_command (command.Draw league order.now)) }
+    ensures fits { OnOk result (HasRanges (command.Draw league order.now)) }
 {
     append_u8(bytes, 21)?;
     append_u32(bytes, league)?;
@@ -351,9 +369,10 @@ fn append_draw(bytes: &mut Vec<u8>, league: u32, order: &Order) -> Result<(), Me
 fn append_cup(bytes: &mut Vec<u8>, start: Gw, slots: &Slots, coins: &Coins) -> Result<(), Memory>
     requires slots { length slots.now ≤ 1024 }
     requires coins { length coins.now ≤ 1024 }
-    ensures { OnOk result
+    ensures written { OnOk result
         (bytes.new.items
         ≡ bytes.old.items ++ bytes_of_command (command.Cup start slots.now coins.now)) }
+    ensures fits { OnOk result (HasRanges (command.Cup start slots.now coins.now)) }
 {
     append_u8(bytes, 22)?;
     append_u64(bytes, start.get() as u64)?;

@@ -1,14 +1,11 @@
-// Records and commands of bytes.
+// Records of bytes.
 ghost use Rattle.std.specs.Prelude.{◌≡◌, IfOk};
-ghost use Rattle.record_codec.specs.CommandReading.{command_of};
 ghost use Rattle.record_codec.specs.ItemReading.{item_of};
 
-use crate::read_commands::command_at;
 use crate::read_items::item_in;
 use crate::{Item, Slot};
 use fpl_base::{Memory, RecordKey};
-use record_fields::{Reading, Unread};
-use season_book::Command;
+use record_fields::Unread;
 use std::alloc::Global;
 
 /// The record of a key and a body; `Ok(None)` exactly where no item has them. It takes memory.
@@ -20,24 +17,6 @@ pub fn decode(alloc: Global, key: RecordKey, body: &[u8]) -> Result<Option<Item>
     };
     match item_in(alloc, slot, body) {
         Ok(item) => Ok(Some(item)),
-        Err(Unread::Nothing) => Ok(None),
-        Err(Unread::Memory) => Err(Memory),
-    }
-}
-
-/// The command of these bytes; `Ok(None)` exactly where no command that can be ordered has them. It takes memory.
-pub fn decode_command(alloc: Global, bytes: &[u8]) -> Result<Option<Command>, Memory>
-    ensures { IfOk result (λ command. command ≡ command_of bytes.now) }
-{
-    let mut reading = Reading::of(bytes);
-    match command_at(alloc, &mut reading) {
-        Ok(command) => {
-            if reading.is_done() {
-                Ok(Some(command))
-            } else {
-                Ok(None)
-            }
-        }
         Err(Unread::Nothing) => Ok(None),
         Err(Unread::Memory) => Err(Memory),
     }

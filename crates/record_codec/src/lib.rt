@@ -12,7 +12,7 @@ mod read_items;
 mod slot;
 mod writing;
 
-pub use decoding::{decode, decode_command};
+pub use decoding::decode;
 pub use item::Item;
 pub use laws::{commands_have_their_bytes, keys_are_of_slots, records_have_one_spelling};
 pub use slot::Slot;

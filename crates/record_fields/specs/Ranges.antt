@@ -1,7 +1,9 @@
 -- The ranges of the values that have types of their own.
-use Rattle.std.specs.Prelude.{◌≡◌, ℕ, Bool, true, ◌&&◌, nat_le, IsTrue, length, Option, Some, None}
+use Rattle.std.specs.Prelude.{◌≡◌, ◌<◌, ◌^◌, ℕ, Bool, true, ◌&&◌, nat_le, IsTrue, List, length, Option, Some, None}
 use Rattle.std.specs.List.{AllByRecursion}
+use Rattle.fpl_base.specs.Texts.{is_name}
 use Rattle.rule_book.specs.declared.line.Line.{Line}
+use Rattle.rule_book.specs.declared.transfers.Swap.{Swap}
 
 -- at least this and at most that
 abbrev pub is_between : ℕ → ℕ → ℕ → Bool
@@ -46,3 +48,33 @@ IsFigure n = IsTrue (is_between 0 65535 n)
 
 abbrev pub IsWide : Line → Type 0
 IsWide line = (length line.figures ≡ 28) × AllByRecursion IsFigure line.figures
+
+-- a club with its name
+abbrev pub IsClubNamed : ℕ × List ℕ → Type 0
+IsClubNamed club = IsClub club.0 × IsTrue (is_name club.1)
+
+-- a player with his line in a fixture
+abbrev pub IsRow : ℕ × Line → Type 0
+IsRow row = IsPlayer row.0 × IsWide row.1
+
+-- a transfer that is asked for
+abbrev pub IsSwap : Swap → Type 0
+IsSwap swap = IsPlayer swap.out × IsPlayer swap.into
+
+-- a player of a team with the price at which he was bought
+abbrev pub IsPick : ℕ × ℕ → Type 0
+IsPick pick = IsPlayer pick.0 × (pick.1 < 2 ^ 16)
+
+-- a slot of a cup, and a coin
+abbrev pub IsBelow32 : ℕ → Type 0
+IsBelow32 n = n < 2 ^ 32
+
+abbrev pub IsByte : ℕ → Type 0
+IsByte n = n < 256
+
+-- a number of a command's list that is written in eight bytes: of a slot of a cup, of a coin
+abbrev pub IsSlotNumber : ℕ → Type 0
+IsSlotNumber n = IsTrue (is_between 0 4294967295 n)
+
+abbrev pub IsCoinNumber : ℕ → Type 0
+IsCoinNumber n = IsTrue (is_between 0 255 n)

@@ -1,7 +1,8 @@
 // Fields of records and commands, appended to bytes.
-ghost use Rattle.std.specs.Prelude.{◌≡◌, ◌≤◌, ◌++◌, OnOk, length};
+ghost use Rattle.std.specs.Prelude.{◌≡◌, ◌≤◌, ◌++◌, IsTrue, OnOk, length};
 ghost use Rattle.std.specs.Int.{w16, w32, w64};
 ghost use Rattle.record_fields.specs.Fields.{byte, number, or_zero, short_text, long_text, flag, profile_number, position_number, chip_number, kind_number};
+ghost use Rattle.record_fields.specs.Ranges.{is_place};
 
 use fpl_base::{Chip, Gw, Memory, Position, Profile};
 use rule_book::LeagueKind;
@@ -72,7 +73,8 @@ pub fn flag_byte(holds: bool) -> u8
 
 /// The number of a gameweek, and 0 of none.
 pub fn gameweek_byte(gameweek: Option<Gw>) -> u8
-    ensures { result ≡ or_zero gameweek }
+    ensures value { result ≡ or_zero gameweek }
+    ensures fits { IsTrue (is_place gameweek) }
 {
     let Some(g) = gameweek else {
         return 0;

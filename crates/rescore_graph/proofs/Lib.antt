@@ -3,7 +3,6 @@ pub mod RaisedFacts
 pub mod ProgressFacts
 pub mod WorkFacts
 pub mod LevelFacts
-pub mod MaxFacts
 pub mod ChangeFacts
 pub mod RemainsFacts
 pub mod HashFacts

@@ -3,6 +3,3 @@ pub mod States
 pub mod Settling
 pub mod Listed
 pub mod Work
-pub mod MaxGraph
-pub mod MaxLaws
-pub mod MaxOrder

@@ -4,19 +4,14 @@
 #![tactic(auto)]
 
 mod cells;
-mod greatest;
 mod laws;
 mod levels;
-mod max_book;
-mod max_node;
 mod nodes;
 mod rules;
 mod settle;
 
 pub use cells::{Cells, Slot};
 pub use laws::{replay_is_one, replay_is_own};
-pub use max_book::MaxBook;
-pub use max_node::{MaxNode, Peak};
 pub use nodes::Nodes;
 pub use rules::Rules;
 pub use settle::Report;

@@ -7,7 +7,6 @@ use std::marker::Model;
 /// A list of nodes.
 #[derive(Drop)]
 pub struct Nodes<N: Copy> {
-    alloc: Global,
     nodes: Vec<N>,
 }
 
@@ -25,7 +24,6 @@ impl<N: Copy> Nodes<N> {
         ensures { result ≡ [] }
     {
         Nodes {
-            alloc,
             nodes: Vec::new(alloc),
         }
     }
@@ -57,12 +55,5 @@ impl<N: Copy> Nodes<N> {
         ensures { result.now ≡ self.now }
     {
         self.nodes.as_slice()
-    }
-
-    /// Another list of the same nodes.
-    pub fn copy(&self) -> Result<Self, Memory>
-        ensures { IfOk result (λ l. l ≡ self.now) }
-    {
-        Ok(Nodes::from_slice(self.alloc, self.as_slice())?)
     }
 }

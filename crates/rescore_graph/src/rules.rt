@@ -28,12 +28,6 @@ pub trait Rules {
     fn level(&self, n: Self::Node) -> u8
         ensures { in_order self.now → (graph self.now).live n → result ≡ (graph self.now).level n };
 
-    /// The nodes whose values this node's own function reads.
-    fn inputs(&self, alloc: Global, n: Self::Node) -> Result<Vec<Self::Node>, Memory>
-        requires { in_order self.now }
-        ensures { (graph self.now).live n
-            → IfOk result (λ ns. ns.items ≡ (graph self.now).inputs n) };
-
     /// The nodes of which this node is an input.
     fn dependents(&self, alloc: Global, n: Self::Node) -> Result<Vec<Self::Node>, Memory>
         requires { in_order self.now }

@@ -6,7 +6,6 @@ ghost use Rattle.season_records.specs.Touched.{op_of};
 
 use fpl_base::{Memory, Op, Tenths};
 use record_codec::{Item, Slot, encode};
-use season_items::keeps_ranges;
 use std::alloc::Global;
 
 // What is kept of an item from now on.
@@ -14,7 +13,6 @@ pub fn put(alloc: Global, item: &Item) -> Result<Op, Memory>
     requires { IsTrue (is_item item.now) }
     ensures { IfOk result (Keeps (slot_of_item item.now) (Some item.now)) }
 {
-    keeps_ranges(item);
     let (key, body) = encode(alloc, item)?;
     Ok(Op::Put(key, body))
 }

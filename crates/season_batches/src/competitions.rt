@@ -16,7 +16,6 @@ use cup_rounds::Cups;
 use fpl_base::{Caller, CupId, EntryId, LeagueId, Memory, Op};
 use record_codec::{Item, Slot, encode_last};
 use season_book::{Command, Made, Order};
-use season_items::keeps_command_ranges;
 use season_running::Lasts;
 use std::alloc::Global;
 
@@ -129,7 +128,6 @@ fn put_last(
 {
     let status = status_of(made);
     let made = made_id(made);
-    keeps_command_ranges(command);
     let (key, body) = encode_last(alloc, caller, number, status, made, command)?;
     Ok(Op::Put(key, body))
 }

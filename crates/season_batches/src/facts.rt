@@ -14,7 +14,6 @@ use rule_book::Player;
 use season_book::Moments;
 use season_calendar::Calendar;
 use season_facts::Season;
-use season_items::keeps_player_ranges;
 use std::alloc::Global;
 
 // Of the season itself.
@@ -99,7 +98,6 @@ fn put_player(alloc: Global, there: &Player, price: u16) -> Result<Op, Memory>
         (Some (item.Player there.now.id there.now.position there.now.club price there.now.gone
         there.now.name))) }
 {
-    keeps_player_ranges(there.id, there.club, price, &there.name);
     let (key, body) = encode_player(
         alloc,
         there.id,

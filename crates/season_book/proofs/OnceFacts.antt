@@ -28,7 +28,8 @@ use Rattle.season_book.specs.LeagueCommands.{cup_broken, cup_drawn, cup_made, cu
 use Rattle.season_book.specs.LeagueViews.{cup_shown, league_shown}
 use Rattle.season_book.specs.Once.{Acted, Acts, CommandsActOnce, Rests, RiseByOne, WasDone, acted_numbers, number_asked}
 use Rattle.season_book.specs.Runs.{Asked}
-use Rattle.season_book.specs.Verdict.{Failures, IsVerdictIn, MayAnswer, MayBeLeft, Outcome, Verdict, accepted, begun, cup_ruled, cups_ruled, in_season, judged, key_refusal, keyed, leagues_ruled, my_answer, number_refusal, pass, ruled, ruled_by, ruled_in, ruled_of, seen_in, settled, shown_or_unknown, unless_broken, unless_misnumbered, unless_refused, view_answer, with_entry, with_history}
+use Rattle.season_book.specs.Verdict.{Failures, IsVerdictIn, MayAnswer, MayBeLeft, Outcome, Verdict, accepted, begun, cup_ruled, cups_ruled, in_season, judged, key_refusal, keyed, leagues_ruled, my_answer, number_refusal, pass, ruled, ruled_by, ruled_in, ruled_of, page_of, seen_in, settled, shown_or_unknown, unless_broken, unless_misnumbered, unless_refused, unseen, view_answer, wants_no_season, with_entry, with_history}
+use Rattle.season_book.specs.Windows.{me_window, window_data}
 use Rattle.season_book.specs.Views.{shown_of}
 use Rattle.season_book.specs.declared.answer.Answer.{Answer}
 use Rattle.season_book.specs.declared.answer.Answer.TheVariants as answer
@@ -76,9 +77,12 @@ undone_seen book caller view.Me facts = undone_mine book facts caller (entry_in 
 undone_seen book caller (view.EntryGameweek e g) facts = undone_shown (option_map shown.EntryGameweek (entry_shown facts book.entries e g))
 undone_seen book caller (view.League l) facts = undone_shown (option_map (league_shown facts book.entries) (entry_in book.leagues l))
 undone_seen book caller (view.Cup c) facts = undone_shown (option_map (λ b. shown.Cup (cup_shown facts book.entries b)) (entry_in book.cups c))
+undone_seen book caller (view.Window w) facts =
+    undone_shown (option_map page_of (window_data facts book.entries book.leagues book.cups caller (last_number book caller) w))
 
-undone_in : (book : Book) (caller : Caller) (view : View) (facts : Option Facts) → IsUndone (option_map_or (seen_in book caller view) facts (answer.Rule rule.NoSeason))
-undone_in book caller view None = tt
+undone_in : (book : Book) (caller : Caller) (view : View) (facts : Option Facts) → IsUndone (option_map_or (seen_in book caller view) facts (unseen book caller view))
+undone_in book caller view None =
+    chosen_answer (wants_no_season view) IsUndone (answer.Shown (page_of (me_window book.entries caller (last_number book caller)))) (answer.Rule rule.NoSeason) tt tt
 undone_in book caller view (Some facts) = undone_seen book caller view facts
 
 chosen : (b : Bool) (P : Result Facts Answer → Type 0) (x y : Result Facts Answer) → P x → P y → P (if b then x else y)

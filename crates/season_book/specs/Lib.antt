@@ -10,3 +10,4 @@ pub mod Once
 pub mod Runs
 pub mod Verdict
 pub mod Views
+pub mod Windows

@@ -1,5 +1,5 @@
 -- The verdict on a request: the answer, and the book afterwards.
-use Rattle.std.specs.Prelude.{◌≡◌, ◌⊎◌, ◌+◌, ◌++◌, ℕ, ◌==◌, List, [], ◌∷◌, length, not, Option, Some, None, Result, Ok, Err, is_some, nat_lt, if◌then◌else◌}
+use Rattle.std.specs.Prelude.{◌≡◌, ◌⊎◌, ◌+◌, ◌++◌, ℕ, Bool, true, false, ◌==◌, List, [], ◌∷◌, length, not, Option, Some, None, Result, Ok, Err, is_some, nat_lt, if◌then◌else◌}
 use Rattle.std.specs.Option.{option_map, option_map_or}
 use Rattle.fpl_base.specs.Causes.{Rose}
 use Rattle.fpl_base.specs.declared.kinds.Caller.{Caller}
@@ -23,6 +23,7 @@ use Rattle.season_book.specs.Hosts.{caller_with, keys_of}
 use Rattle.season_book.specs.LeagueCommands.{cup_broken, cup_drawn, cup_made, cup_there, is_issued, is_registered, league_made, league_refusal, leagues_after, leagues_there}
 use Rattle.season_book.specs.LeagueViews.{cup_shown, league_shown}
 use Rattle.season_book.specs.Views.{shown_of}
+use Rattle.season_book.specs.Windows.{me_window, window_data}
 use Rattle.season_book.specs.declared.part.Part.{Part}
 use Rattle.season_book.specs.declared.part.Part.TheVariants as part
 use Rattle.season_book.specs.declared.answer.Answer.{Answer}
@@ -31,8 +32,12 @@ use Rattle.season_book.specs.declared.request.Request.{Request}
 use Rattle.season_book.specs.declared.request.Request.TheVariants as request
 use Rattle.season_book.specs.declared.request.View.{View}
 use Rattle.season_book.specs.declared.request.View.TheVariants as view
+use Rattle.season_book.specs.declared.request.Window.{Window}
+use Rattle.season_book.specs.declared.request.Window.TheVariants as window
 use Rattle.season_book.specs.declared.shown.Shown.{Shown}
 use Rattle.season_book.specs.declared.shown.Shown.TheVariants as shown
+use Rattle.serde_json.specs.Data.{Data}
+use Rattle.serde_json.specs.Written.{compact_text}
 
 -- the facts when a moment was told: the gameweeks whose deadlines have passed are locked
 abbrev pub locked_at : ℕ → Facts → Facts
@@ -203,17 +208,38 @@ my_answer book facts caller (Some entry) =
     answer.Shown (shown.Me (me_shown facts entry.history (caller_number caller) (last_number book caller)))
     else answer.Rule rule.NotRegistered
 
+-- a JSON value as text
+abbrev pub page_of : Data → Shown
+page_of d = shown.Page (compact_text d)
+
+-- what a caller's window gets in a season
+abbrev pub window_answer : Book → Caller → Window → Facts → Answer
+window_answer book caller w facts =
+    shown_or_unknown (option_map page_of (window_data facts book.entries book.leagues book.cups caller (last_number book caller) w))
+
 -- what a caller's view gets in a season
 abbrev pub seen_in : Book → Caller → View → Facts → Answer
 seen_in book caller view.Me facts = my_answer book facts caller (entry_in book.entries (caller_number caller))
 seen_in book caller (view.EntryGameweek e g) facts = shown_or_unknown (option_map shown.EntryGameweek (entry_shown facts book.entries e g))
 seen_in book caller (view.League l) facts = shown_or_unknown (option_map (league_shown facts book.entries) (entry_in book.leagues l))
 seen_in book caller (view.Cup c) facts = shown_or_unknown (option_map (λ b. shown.Cup (cup_shown facts book.entries b)) (entry_in book.cups c))
+seen_in book caller (view.Window w) facts = window_answer book caller w facts
 seen_in book caller view facts = fact_shown (Some facts) view
+
+-- whether a view wants no season: who the caller is, and nothing else
+abbrev pub wants_no_season : View → Bool
+wants_no_season (view.Window window.Me) = true
+wants_no_season view = false
+
+-- what a caller's view gets before there is a season
+abbrev pub unseen : Book → Caller → View → Answer
+unseen book caller view =
+    if wants_no_season view then answer.Shown (page_of (me_window book.entries caller (last_number book caller)))
+    else answer.Rule rule.NoSeason
 
 -- what a caller's view gets
 abbrev pub view_answer : Book → Caller → View → Answer
-view_answer book caller view = option_map_or (seen_in book caller view) book.facts (answer.Rule rule.NoSeason)
+view_answer book caller view = option_map_or (seen_in book caller view) book.facts (unseen book caller view)
 
 -- a command that the caller's last one repeats, which made this
 abbrev pub IsRepeat : Book → Caller → ℕ → Command → Made → Type 0

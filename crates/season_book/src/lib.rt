@@ -21,9 +21,9 @@ pub use laws::commands_act_once;
 pub use lists::{Clubs, Lines, Moments, Order, Swaps};
 pub use made::Made;
 pub use part::Part;
-pub use request::{Request, View};
+pub use request::{Request, View, Window};
 pub use rule_book::{Coins, Slots};
 pub use shown::{
-    Shown, ShownClassic, ShownCup, ShownEntryGameweek, ShownFixture, ShownHead, ShownHeadRanked,
-    ShownLine, ShownLines, ShownMe, ShownPick, ShownRanked, ShownSeason,
+    Page, Shown, ShownClassic, ShownCup, ShownEntryGameweek, ShownFixture, ShownHead,
+    ShownHeadRanked, ShownLine, ShownLines, ShownMe, ShownPick, ShownRanked, ShownSeason,
 };

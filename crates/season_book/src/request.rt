@@ -20,6 +20,25 @@ pub enum View {
     League { league: u32 },
     /// The rounds of a cup.
     Cup { cup: u32 },
+    /// A window.
+    Window(Window),
+}
+
+/// What is shown below `/api/`, in the shapes of the public game: one JSON value each.
+#[derive(Clone, Copy, Debug, PartialEq, Eq)]
+pub enum Window {
+    /// Who the caller is, and the number of his last command; also before a season.
+    Me,
+    /// The entries, with their names and first gameweeks.
+    Entries,
+    /// The leagues.
+    Leagues,
+    /// The leagues that the caller's entry is in, with their codes.
+    MyLeagues,
+    /// The cups.
+    Cups,
+    /// What was handed in on a fixture: its lines, and whether it is finished.
+    Sheet { fixture: u32 },
 }
 
 /// What a caller asks.

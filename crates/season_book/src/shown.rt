@@ -121,6 +121,9 @@ pub struct ShownCup {
     pub rounds: ListOf<Option<Slots>>,
 }
 
+/// The text of a JSON value, without spaces.
+pub type Page = ListOf<u8>;
+
 /// What a view shows.
 #[derive(Drop)]
 pub enum Shown {
@@ -134,4 +137,6 @@ pub enum Shown {
     Classic(ShownClassic),
     Head(ShownHead),
     Cup(ShownCup),
+    /// What a window shows.
+    Page(Page),
 }

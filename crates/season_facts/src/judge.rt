@@ -3,6 +3,7 @@ ghost use Rattle.std.specs.Prelude.{◌≤◌, ◌+◌, ℕ, List};
 ghost use Rattle.fpl_base.specs.declared.kinds.Position.{Position};
 ghost use Rattle.season_book.specs.Doing.{IsWeighed};
 ghost use Rattle.season_book.specs.declared.command.Command.TheVariants as command;
+ghost use Rattle.season_facts.specs.Judged.{CountsJudged};
 
 use crate::Season;
 use fpl_base::{ClubId, Gw, Moment, PlayerId, Rule, Steps, Tenths};
@@ -23,6 +24,7 @@ impl Season {
     ) -> Result<(), Answer>
         ensures weighed { IsWeighed self.now now command.now result }
         ensures counted { steps.new ≤ steps.old + 1 }
+        ensures exact { CountsJudged command.now result steps.old steps.new }
     {
         match command {
             Command::Season { .. } => Err(Answer::Rule(Rule::SeasonThere)),
@@ -244,6 +246,7 @@ impl Season {
     ) -> Result<(), Answer>
         ensures weighed { IsWeighed self.now now (command.Drop number player) result }
         ensures counted { steps.new ≤ steps.old + 1 }
+        ensures exact { CountsJudged (command.Drop number player) result steps.old steps.new }
     {
         let Some(fixture) = self.fixture_there(number) else {
             return Err(Answer::Unknown);

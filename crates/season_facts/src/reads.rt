@@ -4,11 +4,10 @@ ghost use Rattle.std.specs.List.{zip};
 ghost use Rattle.rule_book.specs.Calendar.{fixture_of};
 ghost use Rattle.rule_book.specs.Figures.{IsLine};
 ghost use Rattle.rule_book.specs.MatchFacts.{line_of, lines_of, is_finished};
-ghost use Rattle.rule_book.specs.PlayerFigures.{position_in};
 ghost use Rattle.rule_book.specs.Players.{player_of};
 
 use crate::Season;
-use fpl_base::{FixtureId, Memory, PlayerId, Position, Profile, Steps};
+use fpl_base::{FixtureId, Memory, PlayerId, Profile, Steps};
 use match_facts::MatchFacts;
 use player_prices::Players;
 use rule_book::{Fixture, Line, Player};
@@ -59,16 +58,6 @@ impl Season {
         match PlayerId::new(number) {
             Some(id) => self.players.get(id),
             None => None,
-        }
-    }
-
-    /// Where a player plays: in goal if he is not there, as no player with a line is.
-    pub fn position(&self, player: PlayerId) -> Position
-        ensures { result ≡ position_in self.now.players player }
-    {
-        match self.players.get(player) {
-            Some(there) => there.position,
-            None => Position::Keeper,
         }
     }
 

@@ -1,16 +1,52 @@
 -- The reads that the answer of a book allows.
-use Rattle.std.proofs.Common.{◌≡◌, ◌≤◌, ◌+◌, ℕ, Some, subst, sym}
+use Rattle.std.proofs.Common.{◌≡◌, ◌≤◌, ◌+◌, ◌∙◌, ℕ, List, [], ◌∷◌, Option, Some, None, ap, arith, refl, subst, sym}
 use Rattle.std.specs.Option.{option_map_or}
 use Rattle.fpl_base.specs.declared.kinds.Caller.{Caller}
-use Rattle.fpl_base.specs.declared.rule.Rule.TheVariants as rule
-use Rattle.season_book.specs.Book.{Book, Facts}
-use Rattle.season_book.specs.Verdict.{seen_in, view_answer}
-use Rattle.season_book.specs.declared.answer.Answer.TheVariants as answer
+use Rattle.rule_book.specs.ById.{at_id}
+use Rattle.rule_book.specs.declared.player.Player.{Player}
+use Rattle.season_book.specs.Book.{Book, EntryFacts, Facts, Last, caller_number, last_number}
+use Rattle.season_book.specs.Doing.{IsShown}
+use Rattle.season_book.specs.Hosts.{number_in}
+use Rattle.season_book.specs.Verdict.{seen_in, unseen, view_answer}
+use Rattle.season_book.specs.declared.answer.Answer.{Answer}
 use Rattle.season_book.specs.declared.request.View.{View}
-use Rattle.season_views.specs.Reads.{reads_allowed}
+use Rattle.season_book.specs.declared.request.View.TheVariants as view
+use Rattle.season_book.specs.declared.request.Window.{Window}
+use Rattle.season_entries.specs.Entries.{AreEntries}
+use Rattle.season_running.specs.Standing.{HostRows, Running, StandsIn, host_rows, number_at}
+use Rattle.season_views.specs.Reads.{reads_allowed, spoken_of, view_reads, window_reads}
 
 -- what is allowed by what is seen in the season is allowed by the answer of the book
 pub seen_reads : (book : Book) (caller : Caller) (view : View) (facts : Facts) (old new : ℕ) → book.facts ≡ Some facts
-    → new ≤ old + reads_allowed (seen_in book caller view facts) → new ≤ old + reads_allowed (view_answer book caller view)
+    → new ≤ old + reads_allowed (seen_in book caller view facts) → new ≤ old + view_reads book caller view
 seen_reads book caller view facts old new is few =
-    subst (λ o. new ≤ old + reads_allowed (option_map_or (seen_in book caller view) o (answer.Rule rule.NoSeason))) (sym is) few
+    let answered : new ≤ old + reads_allowed (view_answer book caller view) =
+    subst (λ o. new ≤ old + reads_allowed (option_map_or (seen_in book caller view) o (unseen book caller view))) (sym is) few in
+    omega (arith, answered)
+
+-- what a window speaks of is allowed
+pub window_few : (book : Book) (caller : Caller) (w : Window) (facts : Facts) (old new : ℕ) → book.facts ≡ Some facts
+    → new ≤ old + window_reads facts w → new ≤ old + view_reads book caller (view.Window w)
+window_few book caller w facts old new is few =
+    let spoken : new ≤ old + spoken_of book (view.Window w) =
+    subst (λ o. new ≤ old + option_map_or (λ facts. window_reads facts w) o 0) (sym is) few in
+    omega (arith, spoken)
+
+-- the number of a caller's last command is that of each book that a host stands for
+pub last_is : (operator : List ℕ) (o : Option Running) (lasts : List (ℕ × Last)) (host : HostRows) (book : Book) (caller : Caller) (n : ℕ)
+    → host_rows operator o lasts ≡ host → n ≡ number_at lasts caller → StandsIn host book → n ≡ last_number book caller
+last_is operator o lasts host book caller n view_is is stands =
+    is ∙ ap (λ l. number_in (at_id l (caller_number caller))) (ap (λ (h : HostRows). h.lasts) view_is ∙ sym stands.lasts)
+
+no_entries : (players : List Player) (entries : List EntryFacts) → AreEntries players [] entries → entries ≡ []
+no_entries players [] are = refl
+no_entries players (entry ∷ entries) are = absurd are
+
+-- before a season a view gets what is due of a book without entries
+pub before_season : (operator : List ℕ) (o : Option Running) (lasts : List (ℕ × Last)) (host : HostRows) (book : Book) (caller : Caller) (view : View) (n : ℕ) (reply : Answer)
+    → host_rows operator o lasts ≡ host → o ≡ None → StandsIn host book → n ≡ number_at lasts caller
+    → ((b : Book) → b.entries ≡ [] → n ≡ last_number b caller → IsShown (unseen b caller view) reply) → IsShown (view_answer book caller view) reply
+before_season operator o lasts host book caller view n reply view_is is stands number shown =
+    let here : StandsIn (host_rows operator None lasts) book = subst (λ p. StandsIn (host_rows operator p lasts) book) is (subst (λ h. StandsIn h book) (sym view_is) stands) in
+    subst (λ f. IsShown (option_map_or (seen_in book caller view) f (unseen book caller view)) reply) (sym here.facts)
+    (shown book (no_entries [] book.entries here.entries) (last_is operator o lasts host book caller n view_is number stands))

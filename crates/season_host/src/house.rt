@@ -2,11 +2,11 @@
 ghost use Rattle.std.specs.Prelude.{◌≡◌, ◌≢◌, ◌≤◌, ◌+◌, [], Some, IfErr, IfOk, OnOk};
 ghost use Rattle.std.specs.Option.{option_map_or};
 ghost use Rattle.rule_book.specs.Refusals.{IsJudged};
-ghost use Rattle.season_book.specs.Book.{Book};
+ghost use Rattle.season_book.specs.Book.{Book, last_number};
 ghost use Rattle.season_book.specs.Commands.{IsCommand};
 ghost use Rattle.season_book.specs.Doing.{IsOutLate, IsShown, IsStoreless};
 ghost use Rattle.season_book.specs.Hosts.{owner_of};
-ghost use Rattle.season_book.specs.Verdict.{fact_shown, number_refusal, view_answer};
+ghost use Rattle.season_book.specs.Verdict.{fact_shown, number_refusal, unseen, view_answer};
 ghost use Rattle.season_book.specs.declared.answer.Answer.TheVariants as answer_of;
 ghost use Rattle.season_book.specs.declared.request.Request.TheVariants as request_of;
 ghost use Rattle.season_records.specs.Touched.{batch, touched};
@@ -16,7 +16,7 @@ ghost use Rattle.season_running.specs.EntryLaws.{IsOrderlyHost};
 ghost use Rattle.season_running.specs.Standing.{Follows, StandsIn, host_rows, keys_in, number_at, passed};
 ghost use Rattle.season_host.specs.Accepted.{MayEndIn, TellItemsBy, answer_from, change_from, locks_more, made_in, slots_from};
 ghost use Rattle.season_views.specs.Cells.{AreKeptOf};
-ghost use Rattle.season_views.specs.Reads.{reads_allowed};
+ghost use Rattle.season_views.specs.Reads.{reads_allowed, view_reads};
 ghost use Rattle.season_host.specs.Cells.{AreCellsOfHost, IsChange, lines_in, running_in};
 ghost use Rattle.season_host.specs.declared.change.Change.TheVariants as change_of;
 
@@ -25,12 +25,12 @@ use crate::change::Change;
 use fpl_base::{Caller, Key, Memory, Moment, Op, Rule, Steps};
 use record_codec::Slot;
 use season_batches::batch_of;
-use season_book::{Answer, Command, Made, View};
+use season_book::{Answer, Command, Made, Shown, View, Window};
 use season_cells::KeptCells;
 use season_facts::Season;
 use season_graph::SeasonCells;
 use season_running::{Lasts, RunningSeason};
-use season_views::show;
+use season_views::{show, window_before};
 use std::alloc::Global;
 use std::marker::Model;
 use std::sync::ledger::Ledger;
@@ -194,10 +194,10 @@ impl House {
             → IsShown (view_answer book caller.now view) result }
         ensures storeless { IsStoreless result }
         ensures cost { (book : Book) → StandsIn self.now book
-            → steps.new ≤ steps.old + reads_allowed (view_answer book caller.now view) }
+            → steps.new ≤ steps.old + view_reads book caller.now view }
     {
         let Some(running) = &self.running else {
-            return Answer::Rule(Rule::NoSeason);
+            return answer_before(self.alloc, caller, self.lasts.number(caller), view);
         };
         let Some(kept) = cells else { unreachable!() };
         let cells = kept.cells();
@@ -208,6 +208,9 @@ impl House {
             }
             View::League { league } => running.league(self.alloc, cells, league, steps),
             View::Cup { cup } => running.cup(self.alloc, cells, cup, steps),
+            View::Window(window) => {
+                running.window(self.alloc, caller, self.lasts.number(caller), window, steps)
+            }
             View::Season
             | View::Player { .. }
             | View::PlayerGameweek { .. }
@@ -304,6 +307,21 @@ impl House {
                 Err(refused) => Err(refused),
             },
         }
+    }
+}
+
+// What a caller's view gets before there is a season, when there are no entries.
+fn answer_before(alloc: Global, caller: &Caller, last: u64, view: View) -> Answer
+    ensures shown { (book : Book) → book.entries ≡ [] → last ≡ last_number book caller.now
+        → IsShown (unseen book caller.now view) result }
+    ensures storeless { IsStoreless result }
+{
+    match view {
+        View::Window(Window::Me) => match window_before(alloc, caller, last) {
+            Ok(page) => Answer::Shown(Shown::Page(page)),
+            Err(Memory) => Answer::Memory,
+        },
+        _ => Answer::Rule(Rule::NoSeason),
     }
 }
 

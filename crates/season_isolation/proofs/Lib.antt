@@ -6,3 +6,4 @@ pub mod OtherFacts
 pub mod ReplyFacts
 pub mod TableFacts
 pub mod ViewFacts
+pub mod WindowFacts

@@ -14,7 +14,8 @@ use Rattle.season_isolation.specs.Agree.{Agree, Alike}
 use Rattle.season_isolation.specs.Isolation.{AnswersAreIsolated, IsToldAlike, RepliesAreIsolated, RuledAlike}
 use Rattle.season_isolation.proofs.CommandFacts.{commands_are_isolated}
 use Rattle.season_isolation.proofs.LockFacts.{locks_again}
-use Rattle.season_isolation.proofs.ViewFacts.{number_alike, views_are_isolated}
+use Rattle.season_isolation.proofs.ViewFacts.{views_are_isolated}
+use Rattle.season_isolation.proofs.WindowFacts.{number_alike}
 
 pub passed_again : (now : ℕ) (book : Book) → pass (pass book now) now ≡ pass book now
 passed_again now book = ap (λ f. record book { facts = f }) (locks_again now book.facts)

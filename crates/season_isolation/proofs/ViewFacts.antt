@@ -14,9 +14,9 @@ use Rattle.rule_book.specs.PlayerFigures.{position_in}
 use Rattle.rule_book.specs.UpTo.{AgreeUpTo, start_of}
 use Rattle.rule_book.proofs.AgreeFacts.{scores_agree}
 use Rattle.rule_book.proofs.UpToFacts.{count_the_same, tell_the_same}
-use Rattle.season_book.specs.Book.{Book, EntryFacts, Facts, Last, caller_number, last_number}
+use Rattle.season_book.specs.Book.{Book, EntryFacts, Facts, caller_number, last_number}
 use Rattle.season_book.specs.EntryViews.{entry_gameweek_shown, entry_shown, has_scored, me_shown, score_by, team_by}
-use Rattle.season_book.specs.Verdict.{my_answer, pass, seen_in, shown_or_unknown, view_answer}
+use Rattle.season_book.specs.Verdict.{my_answer, page_of, pass, seen_in, shown_or_unknown, unseen, view_answer, wants_no_season}
 use Rattle.season_book.specs.declared.answer.Answer.TheVariants as answer
 use Rattle.season_book.specs.declared.request.View.{View}
 use Rattle.season_book.specs.declared.request.View.TheVariants as view
@@ -25,6 +25,7 @@ use Rattle.season_book.specs.declared.shown.ShownEntryGameweek.{ShownEntryGamewe
 use Rattle.season_isolation.specs.Agree.{Alike, EntriesAlike, EntryAlike}
 use Rattle.season_isolation.specs.Isolation.{ViewsAreIsolated}
 use Rattle.season_isolation.proofs.TableFacts.{cup_alike, league_alike}
+use Rattle.season_isolation.proofs.WindowFacts.{me_alike, number_alike, window_alike}
 
 -- what is shown of a gameweek is looked at only where the gameweek is locked
 where_locked : {T : Type 0} (first locked begun also : Bool) (x y : T) → (locked ≡ true → (begun ≡ also) × (x ≡ y))
@@ -70,10 +71,6 @@ entry_alike facts entries others a e g =
     let f : EntryFacts → Option ShownEntryGameweek = λ entry. if has_scored facts entry.history g then Some (entry_gameweek_shown facts entry.history g) else None in
     numbered_alike f (nat_eq e 0) (slice_get entries (e - 1)) (slice_get others (e - 1)) (placed_alike (Some facts) f (scored_alike facts g) entries others a (e - 1))
 
--- the number of a last command that is the same
-pub number_alike : (caller : Caller) (book other : Book) → Alike caller book other → last_number book caller ≡ last_number other caller
-number_alike caller book other a = ap (λ (o : Option Last). option_map_or (λ last. last.number) o 0) a.last
-
 mine_alike : (caller : Caller) (book other : Book) (facts : Facts) → Alike caller book other → (entry : Option EntryFacts) → my_answer book facts caller entry ≡ my_answer other facts caller entry
 mine_alike caller book other facts a None = refl
 mine_alike caller book other facts a (Some entry) =
@@ -90,6 +87,8 @@ seen_alike caller book other a facts is (view.League l) =
 seen_alike caller book other a facts is (view.Cup c) =
     let rounds = cup_alike facts book.entries other.entries (subst (λ f. EntriesAlike f book.entries other.entries) is a.entries) in
     λ i. shown_or_unknown (option_map (λ b. shown.Cup (rounds b i)) (entry_in (a.cups i) c))
+seen_alike caller book other a facts is (view.Window w) =
+    ap (λ d. shown_or_unknown (option_map page_of d)) (window_alike caller book other a facts w)
 seen_alike caller book other a facts is view.Season = refl
 seen_alike caller book other a facts is (view.Player p) = refl
 seen_alike caller book other a facts is (view.PlayerGameweek p g) = refl
@@ -97,11 +96,12 @@ seen_alike caller book other a facts is (view.Fixture f) = refl
 
 view_alike : (caller : Caller) (book other : Book) (view : View) → Alike caller book other → view_answer book caller view ≡ view_answer other caller view
 view_alike caller book other view a =
-    by_facts book.facts refl ∙ ap (λ f. option_map_or (seen_in other caller view) f (answer.Rule rule.NoSeason)) a.facts
+    by_facts book.facts refl ∙ ap (λ f. option_map_or (seen_in other caller view) f (unseen other caller view)) a.facts
   where
     by_facts : (facts : Option Facts) → book.facts ≡ facts
-        → option_map_or (seen_in book caller view) facts (answer.Rule rule.NoSeason) ≡ option_map_or (seen_in other caller view) facts (answer.Rule rule.NoSeason)
-    by_facts None is = refl
+        → option_map_or (seen_in book caller view) facts (unseen book caller view) ≡ option_map_or (seen_in other caller view) facts (unseen other caller view)
+    by_facts None is =
+        ap (λ d. if wants_no_season view then answer.Shown (page_of d) else answer.Rule rule.NoSeason) (me_alike caller book other a)
     by_facts (Some facts) is = seen_alike caller book other a facts is view
 
 pub views_are_isolated : ViewsAreIsolated

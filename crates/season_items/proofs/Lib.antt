@@ -1,4 +1,3 @@
-pub mod Each
 pub mod LockFacts
 pub mod ReadFacts
 pub mod StayFacts

@@ -13,7 +13,7 @@ use Rattle.sqlite.specs.State.{State, HasCleanDisk, Survives}
 use Rattle.fpl_base.specs.declared.records.Op.{Op}
 use Rattle.fpl_base.specs.Keeping.{Map, applied}
 use Rattle.season_keeper.specs.Table.{Tables, neither, record_alone, line_alone, record_first, line_first, schema_of, records_in, lines_in}
-use Rattle.season_keeper.specs.Holding.{Store, Tells, Keeps, Finds, Moved, MayLeave, holds_one, tells_one, keeps_tells}
+use Rattle.season_keeper.specs.Holding.{Store, Tells, Keeps, Finds, Moved, MayLeave, LeavesNewly, LeavesOnly, holds_one, tells_one, keeps_tells}
 use Rattle.season_keeper.proofs.Changing.{holds_as}
 use Rattle.season_keeper.proofs.Batches.{Leaves, Applied}
 
@@ -82,22 +82,36 @@ pub gave_keeps : (old new : Database) (m n : Map) → Tells old m → Tells old 
 gave_keeps old new m n tells gave = subst (Keeps new) (tells_one old n m gave.0 tells) gave.1
 
 -- while the store is open, a stop leaves what was committed alone
-pub alone_of : (s : State) (m : Map) → ((db : Trees) → s.may_leave db → db ≡ s.committed.trees) → s.committed ≡ s.now → Keeps s.now m → (x : Map) → MayLeave s x → x ≡ m
-alone_of s m settled same keeps x left =
-    let trees : left.0.trees ≡ s.now.trees = settled left.0.trees left.1 ∙ ap (λ (d : Database). d.trees) same in trees_one left.0 s.now x m trees left.2 (keeps_tells s.now m keeps)
+pub only_of : (s : State) (m : Map) → ((db : Trees) → s.may_leave db → db ≡ s.committed.trees) → s.committed ≡ s.now → Keeps s.now m → LeavesOnly s m
+only_of s m settled same keeps trees left = (s.now, settled trees left ∙ ap (λ (d : Database). d.trees) same, keeps_tells s.now m keeps)
+
+pub alone_by : (s : State) (m : Map) → LeavesOnly s m → (x : Map) → MayLeave s x → x ≡ m
+alone_by s m only x left = let it = only left.0.trees left.1 in trees_one left.0 it.0 x m it.1 left.2 it.2
 
 -- a batch leaves what could be left before it, or itself
-pub stops_of : (old new : State) (ops : List Op) (m : Map) → Survives old new (Leaves (Applied old.now ops)) → HasCleanDisk new → Keeps old.now m → (x : Map) → MayLeave new x → MayLeave old x ⊎ (x ≡ applied m ops)
-stops_of old new ops m s clean keeps x left = elim (s.crash clean left.0.trees left.1) [
-  | inl before ↦ inl (left.0, before, left.2)
-  | inr after ↦ inr (trees_one left.0 after.0 x (applied m ops) after.1 left.2 (keeps_tells after.0 (applied m ops) (after.2 m keeps)))
+pub batch_leaves : (old new : State) (ops : List Op) (m : Map) → Survives old new (Leaves (Applied old.now ops)) → HasCleanDisk new → Keeps old.now m → LeavesNewly old new (applied m ops)
+batch_leaves old new ops m s clean keeps trees left = elim (s.crash clean trees left) [
+  | inl before ↦ inl before
+  | inr after ↦ inr (after.0, after.1, keeps_tells after.0 (applied m ops) (after.2 m keeps))
 ]
 
--- a reading leaves what could be left before it
-pub reading_stops : (old new : State) (m : Map) → Survives old new (Leaves (Moved old.now)) → HasCleanDisk new → old.may_leave old.now.trees → Tells old.now m → (x : Map) → MayLeave new x → MayLeave old x
-reading_stops old new m s clean settled tells x left = elim (s.crash clean left.0.trees left.1) [
-  | inl before ↦ (left.0, before, left.2)
-  | inr after ↦
-      let is : x ≡ m = trees_one left.0 after.0 x m after.1 left.2 (keeps_tells after.0 m (moved_tells old.now after.0 m after.2 tells)) in
-      subst (MayLeave old) (sym is) (old.now, settled, tells)
+-- a reading leaves what could be left before it, or the same records in the two tables
+pub reading_leaves : (old new : State) (m : Map) → Survives old new (Leaves (Moved old.now)) → HasCleanDisk new → Tells old.now m → LeavesNewly old new m
+reading_leaves old new m s clean tells trees left = elim (s.crash clean trees left) [
+  | inl before ↦ inl before
+  | inr after ↦ inr (after.0, after.1, keeps_tells after.0 m (moved_tells old.now after.0 m after.2 tells))
+]
+
+-- so a stop leaves a map that it could leave before, or the new one
+pub stops_by : (old new : State) (m : Map) → LeavesNewly old new m → (x : Map) → MayLeave new x → MayLeave old x ⊎ (x ≡ m)
+stops_by old new m newly x left = elim (newly left.0.trees left.1) [
+  | inl before ↦ inl (left.0, before, left.2)
+  | inr it ↦ inr (trees_one left.0 it.0 x m it.1 left.2 it.2)
+]
+
+-- and one that it could leave before, where the new one is that which the store told
+pub told_before : (old new : State) (m : Map) → LeavesNewly old new m → old.may_leave old.now.trees → Tells old.now m → (x : Map) → MayLeave new x → MayLeave old x
+told_before old new m newly settled tells x left = elim (stops_by old new m newly x left) [
+  | inl before ↦ before
+  | inr is ↦ subst (MayLeave old) (sym is) (old.now, settled, tells)
 ]

@@ -1,8 +1,9 @@
 -- Which databases keep a map, and what a stop may leave of it.
-use Rattle.std.specs.Prelude.{is_some, refl, ◌≡◌, ℕ, Bool, true, false, IsTrue, List, Option, Some, None}
+use Rattle.std.specs.Prelude.{is_some, refl, ◌≡◌, ◌⊎◌, ℕ, Bool, true, false, IsTrue, List, Option, Some, None}
 use Rattle.std.specs.Coded.{Coded, code_by, coded×, coded_ℕ, coded_bool}
 use Rattle.std.proofs.Common.{sym, ap, subst, ◌∙◌, true≢false, inl, inr}
 use Rattle.sqlite_value.specs.Order.{Row}
+use Rattle.sqlite_trees.specs.Tree.{Trees}
 use Rattle.sqlite_schema.specs.declared.schema.Schema.{Schema}
 use Rattle.sqlite.specs.Effect.{Database, IsDatabase}
 use Rattle.sqlite.specs.State.{State}
@@ -59,6 +60,18 @@ pub record HoldsMap (s : State) (ready : Bool) (m : Map) : Type 0 where
 -- a stop at this moment may leave tables that tell the map
 abbrev pub MayLeave : State → Map → Type 0
 MayLeave s m = (db : Database) × s.may_leave db.trees × Tells db m
+
+-- these trees are those of tables that tell the map
+abbrev pub TreesTell : Trees → Map → Type 0
+TreesTell trees m = (db : Database) × (trees ≡ db.trees) × Tells db m
+
+-- whatever a stop may leave now, and could not leave before, tells the map
+abbrev pub LeavesNewly : State → State → Map → Type 0
+LeavesNewly old new m = (trees : Trees) → new.may_leave trees → old.may_leave trees ⊎ TreesTell trees m
+
+-- whatever a stop may leave tells the map
+abbrev pub LeavesOnly : State → Map → Type 0
+LeavesOnly s m = (trees : Trees) → s.may_leave trees → TreesTell trees m
 
 -- both tables are there now, with the rows of before
 pub record Grows (before after : Database) (was : Store before) : Type 0 where

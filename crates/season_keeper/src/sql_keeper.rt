@@ -1,11 +1,11 @@
 // A keeper over an open connection.
-ghost use Rattle.std.specs.Prelude.{◌≡◌, false, IsTrue, Some, IfOk, OnOk, OnErr, ◌≤◌};
+ghost use Rattle.std.specs.Prelude.{◌≡◌, ◌⊎◌, false, IsTrue, Some, Err, IfOk, OnOk, OnErr, ◌≤◌};
 ghost use Rattle.sqlite.specs.State.{HasCleanDisk};
 ghost use Rattle.sqlite.specs.Held.{state};
 ghost use Rattle.fpl_base.specs.Causes.{Rose};
 ghost use Rattle.fpl_base.specs.declared.outside.KeeperFault.TheVariants as fault;
-ghost use Rattle.fpl_base.specs.Keeping.{Map, KeysRise, HasKeeperCause, map_of};
-ghost use Rattle.season_keeper.specs.Holding.{Store, Tells, Keeps, HoldsMap, MayLeave, IsUndone, finds_one};
+ghost use Rattle.fpl_base.specs.Keeping.{Map, KeysRise, HasKeeperCause, applied, map_of};
+ghost use Rattle.season_keeper.specs.Holding.{Store, Tells, Keeps, HoldsMap, MayLeave, LeavesNewly, LeavesOnly, IsUndone, finds_one};
 
 use crate::batch::apply;
 use crate::store::load_pairs;
@@ -115,6 +115,13 @@ impl<S: Alter> Keeper for SqlKeeper<S> {
             → IsTrue (state S.Store self.new.conn).is_open
             → OnErr result
             (IsUndone (state S.Store self.old.conn) (state S.Store self.new.conn)) }
+        ensures leaves { HasCleanDisk (state S.Store self.new.conn) → (m : Map)
+            → HoldsMap (state S.Store self.old.conn) self.old.ready m
+            → LeavesNewly (state S.Store self.old.conn) (state S.Store self.new.conn) m }
+        ensures leaves_only { OnOk result
+            (HasCleanDisk (state S.Store self.new.conn) → (m : Map)
+            → HoldsMap (state S.Store self.old.conn) self.old.ready m
+            → LeavesOnly (state S.Store self.new.conn) m) }
     {
         match load_pairs(&mut self.conn, alloc) {
             Ok(Some(pairs)) => {
@@ -126,7 +133,47 @@ impl<S: Alter> Keeper for SqlKeeper<S> {
         }
     }
 
-    fn commit(&mut self, _alloc: Global, ops: &[Op]) -> Result<(), KeeperFault> {
+    fn commit(&mut self, _alloc: Global, ops: &[Op]) -> Result<(), KeeperFault>
+        ensures done { OnOk result
+            (HasCleanDisk (state S.Store self.new.conn) → (m : Map)
+            → HoldsMap (state S.Store self.old.conn) self.old.ready m
+            → HoldsMap (state S.Store self.new.conn) self.new.ready (applied m ops.now)) }
+        ensures alone { OnOk result
+            (HasCleanDisk (state S.Store self.new.conn) → (m : Map)
+            → HoldsMap (state S.Store self.old.conn) self.old.ready m → (x : Map)
+            → MayLeave (state S.Store self.new.conn) x → x ≡ applied m ops.now) }
+        ensures failed { OnErr result
+            (HasCleanDisk (state S.Store self.new.conn)
+            → IsTrue (state S.Store self.new.conn).is_open → (m : Map)
+            → HoldsMap (state S.Store self.old.conn) self.old.ready m
+            → HoldsMap (state S.Store self.new.conn) self.new.ready m
+            ⊎ HoldsMap (state S.Store self.new.conn) self.new.ready (applied m ops.now)) }
+        ensures kept { result ≡ Err fault.Memory → HasCleanDisk (state S.Store self.new.conn)
+            → IsTrue (state S.Store self.new.conn).is_open → (m : Map)
+            → HoldsMap (state S.Store self.old.conn) self.old.ready m
+            → HoldsMap (state S.Store self.new.conn) self.new.ready m }
+        ensures stops { HasCleanDisk (state S.Store self.new.conn) → (m : Map)
+            → HoldsMap (state S.Store self.old.conn) self.old.ready m → (x : Map)
+            → MayLeave (state S.Store self.new.conn) x
+            → MayLeave (state S.Store self.old.conn) x ⊎ (x ≡ applied m ops.now) }
+        ensures told { HasCleanDisk (state S.Store self.new.conn)
+            → HasCleanDisk (state S.Store self.old.conn) }
+        ensures served { HasCleanDisk (state S.Store self.new.conn)
+            → IsTrue (state S.Store self.new.conn).is_open
+            → IsTrue (state S.Store self.old.conn).is_open }
+        ensures serves { OnOk result
+            (HasCleanDisk (state S.Store self.new.conn)
+            → IsTrue (state S.Store self.new.conn).is_open) }
+        ensures cause { HasKeeperCause self.old.faults self.new.faults result }
+        ensures leaves { HasCleanDisk (state S.Store self.new.conn) → (m : Map)
+            → HoldsMap (state S.Store self.old.conn) self.old.ready m
+            → LeavesNewly (state S.Store self.old.conn) (state S.Store self.new.conn)
+            (applied m ops.now) }
+        ensures leaves_only { OnOk result
+            (HasCleanDisk (state S.Store self.new.conn) → (m : Map)
+            → HoldsMap (state S.Store self.old.conn) self.old.ready m
+            → LeavesOnly (state S.Store self.new.conn) (applied m ops.now)) }
+    {
         if !self.ready {
             return Err(self.fault(None));
         }

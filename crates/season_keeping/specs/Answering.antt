@@ -6,7 +6,7 @@ use Rattle.fpl_base.specs.declared.kinds.Caller.{Caller}
 use Rattle.fpl_base.specs.declared.outside.KeeperFault.{KeeperFault}
 use Rattle.fpl_base.specs.declared.outside.KeeperFault.TheVariants as fault
 use Rattle.season_book.specs.Book.{Book}
-use Rattle.season_book.specs.Verdict.{Failures, IsVerdict, IsVerdictIn, Verdict, view_answer}
+use Rattle.season_book.specs.Verdict.{Failures, IsVerdict, IsVerdictIn, Verdict}
 use Rattle.season_book.specs.declared.answer.Answer.{Answer}
 use Rattle.season_book.specs.declared.answer.Answer.TheVariants as answer
 use Rattle.season_book.specs.declared.request.Request.{Request}
@@ -20,7 +20,7 @@ use Rattle.season_host.specs.Accepted.{TellItemsBy}
 use Rattle.season_cells.specs.Kept.{CellRows}
 use Rattle.season_host.specs.Cells.{AreCorrected, IsCheapCommand, IsCheapNow, running_in}
 use Rattle.season_running.specs.Standing.{HostRows, StandsIn}
-use Rattle.season_views.specs.Reads.{reads_allowed}
+use Rattle.season_views.specs.Reads.{view_reads}
 use Rattle.season_keeping.specs.Housed.{Backs, Housed}
 
 -- Answers.
@@ -145,7 +145,7 @@ answer_of_fault fault.Memory = answer.Memory
 
 -- a view makes no more counted reads than the answer of the book allows
 abbrev pub ReadsFew : Book → Caller → Request → ℕ → ℕ → Type 0
-ReadsFew book caller (request_of.View view) before behind = behind ≤ before + reads_allowed (view_answer book caller view)
+ReadsFew book caller (request_of.View view) before behind = behind ≤ before + view_reads book caller view
 ReadsFew book caller (request_of.Command number command) before behind = ⊤
 
 -- an answer says that the keeper failed where its count rose meanwhile, and behind every other one the count is as it was; none

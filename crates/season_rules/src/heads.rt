@@ -166,15 +166,6 @@ pub(crate) fn rounds_of(books: &Books, league: LeagueId) -> u8
     (books.calendar.locked() + 1).saturating_sub(books.start(league))
 }
 
-// The gameweek of a round of a league.
-pub(crate) fn round_gameweek(books: &Books, league: LeagueId, round: u8) -> Gw
-    requires there { 0 < length (order_in books.now.leagues.now league) }
-    requires within { start_in books.now.leagues.now league + round < 39 }
-    ensures { result ≡ start_in books.now.leagues.now league + round }
-{
-    Gw::new(books.start(league) + round).unwrap()
-}
-
 // The match of a place and the one that it meets in a gameweek, from the side of the place, by what its cell holds.
 fn seen<L: Ledger>(
     league: LeagueId,

@@ -1,42 +1,17 @@
-// The nodes of head-to-head leagues: their inputs, and the nodes of which they are inputs.
+// The nodes of head-to-head leagues: the nodes of which they are inputs.
 ghost use Rattle.std.specs.Prelude.{◌≡◌, ◌<◌, ◌++◌, ℕ, IfOk, IfSome, length};
 ghost use Rattle.std.specs.Option.{option_to_list};
 ghost use Rattle.rule_book.specs.declared.pairing.Opponent.{Opponent};
 ghost use Rattle.season_nodes.specs.BookFacts.{facts_of};
 ghost use Rattle.season_nodes.specs.Dependents.{average_dependents, average_if, is_average, match_dependents, opponent_dependents, place_in, round_dependents};
 ghost use Rattle.season_nodes.specs.Rounds.{order_in};
-ghost use Rattle.season_nodes.specs.Season.{inputs_of, match_node, match_nodes, opponent_in, opponent_inputs, team_if};
+ghost use Rattle.season_nodes.specs.Season.{match_node, opponent_in};
 ghost use Rattle.season_nodes.specs.declared.nodes.Node.{Node};
 
-use crate::heads::{round_gameweek, rounds_of};
 use fpl_base::{EntryId, Gw, LeagueId, Memory};
 use rule_book::Opponent;
 use season_nodes::{Books, Node};
 use std::alloc::Global;
-
-// The gameweek of an entry, if it is live.
-pub(crate) fn team_if(books: &Books, entry: EntryId, gameweek: Gw) -> Option<Node>
-    ensures { option_to_list result ≡ team_if (facts_of books.now) entry gameweek }
-{
-    if books.has_team(entry, gameweek) {
-        Some(Node::TeamGw(entry, gameweek))
-    } else {
-        None
-    }
-}
-
-// What tells the points of an opponent in a gameweek, if it is live.
-fn opponent_input(books: &Books, league: LeagueId, gameweek: Gw, opponent: Opponent) -> Option<Node>
-    requires there { (j : ℕ) → opponent ≡ Opponent.Place j
-        → j < length (order_in books.now.leagues.now league) }
-    ensures { option_to_list result
-        ≡ opponent_inputs (facts_of books.now) league gameweek opponent }
-{
-    match opponent {
-        Opponent::Place(other) => team_if(books, books.order(league)[other], gameweek),
-        Opponent::Average => Some(Node::Average(league, gameweek)),
-    }
-}
 
 // These nodes with one more behind them, if it is there.
 pub(crate) fn with_node(mut found: Vec<Node>, more: Option<Node>) -> Result<Vec<Node>, Memory>
@@ -46,98 +21,6 @@ pub(crate) fn with_node(mut found: Vec<Node>, more: Option<Node>) -> Result<Vec<
         found.push(node)?;
     }
     Ok(found)
-}
-
-// The inputs of the Average of a league in a gameweek: the live gameweeks of those in its order.
-pub(crate) fn average_inputs(
-    books: &Books,
-    alloc: Global,
-    league: LeagueId,
-    gameweek: Gw,
-) -> Result<Vec<Node>, Memory>
-    ensures { IfOk result
-        (λ ns. ns.items ≡ inputs_of (facts_of books.now) (Node.Average league gameweek)) }
-{
-    let mut found = Vec::new(alloc);
-    for entry in books.order(league) {
-        if books.has_team(*entry, gameweek) {
-            found.push(Node::TeamGw(*entry, gameweek))?;
-        }
-    }
-    Ok(found)
-}
-
-// What tells the points of the two of a match.
-fn pair_inputs(
-    books: &Books,
-    alloc: Global,
-    league: LeagueId,
-    gameweek: Gw,
-    place: usize,
-) -> Result<Vec<Node>, Memory>
-    requires { place < length (order_in books.now.leagues.now league) }
-    ensures { IfOk result
-        (λ ns. ns.items ≡ inputs_of (facts_of books.now) (Node.Match league gameweek place)) }
-{
-    let own = team_if(books, books.order(league)[place], gameweek);
-    let found = with_node(Vec::new(alloc), own)?;
-    let opponent = books.opponent(league, gameweek, place);
-    let found = with_node(found, opponent_input(books, league, gameweek, opponent))?;
-    Ok(found)
-}
-
-// The inputs of a match of a league in a gameweek.
-pub(crate) fn match_inputs(
-    books: &Books,
-    alloc: Global,
-    league: LeagueId,
-    gameweek: Gw,
-    place: u8,
-) -> Result<Vec<Node>, Memory>
-    ensures { place < length (order_in books.now.leagues.now league) → IfOk result
-        (λ ns. ns.items ≡ inputs_of (facts_of books.now) (Node.Match league gameweek place)) }
-{
-    let place = usize::from(place);
-    if place >= books.order(league).len() {
-        return Ok(Vec::new(alloc));
-    }
-    let found = pair_inputs(books, alloc, league, gameweek, place)?;
-    Ok(found)
-}
-
-// The matches of a place in the locked gameweeks from the start of its league on.
-fn match_nodes(
-    books: &Books,
-    alloc: Global,
-    league: LeagueId,
-    place: usize,
-) -> Result<Vec<Node>, Memory>
-    requires { place < length (order_in books.now.leagues.now league) }
-    ensures { IfOk result (λ ns. ns.items ≡ match_nodes (facts_of books.now) league place) }
-{
-    let mut found = Vec::new(alloc);
-    for round in 0..rounds_of(books, league) {
-        let gameweek = round_gameweek(books, league, round);
-        let lower = books.lower(league, gameweek, place);
-        found.push(Node::Match(league, gameweek, lower))?;
-    }
-    Ok(found)
-}
-
-// The inputs of a member's row of a league: its matches.
-pub(crate) fn row_inputs(
-    books: &Books,
-    alloc: Global,
-    league: LeagueId,
-    entry: EntryId,
-) -> Result<Vec<Node>, Memory>
-    ensures { IfOk result
-        (λ ns. ns.items ≡ inputs_of (facts_of books.now) (Node.HeadRow league entry)) }
-{
-    match books.place(league, entry) {
-        Some(place) => Ok(match_nodes(books, alloc, league, place)?),
-        None => Ok(Vec::new(alloc)),
-    }
 }
 
 // The place of an entry in the order of a league that has a round in a gameweek.

@@ -1,25 +1,22 @@
 // The rules by which the nodes of a season have values.
-ghost use Rattle.std.specs.Prelude.{◌≡◌, ◌+◌, ◌≤◌, ◌&&◌, nat_le, true, filter, map, IfOk, IsTrue, ◌↔◌};
+ghost use Rattle.std.specs.Prelude.{◌≡◌, ◌+◌, ◌≤◌, ◌&&◌, nat_le, IfOk, IsTrue, ◌↔◌};
 ghost use Rattle.season_nodes.specs.BookFacts.{facts_of};
 ghost use Rattle.season_nodes.specs.Dependents.{live_gameweek, line_dependents, bonus_affected, bonus_dependents, gameweek_dependents, table_dependents, team_dependents, total_dependents};
 ghost use Rattle.season_nodes.specs.IndexFacts.{IsIndex, holders_in};
 ghost use Rattle.season_nodes.specs.NodeOrder.{node_exact};
-ghost use Rattle.season_nodes.specs.Season.{IsSeason, has_begun, is_there, season_graph, inputs_of, starts_of};
+ghost use Rattle.season_nodes.specs.Season.{IsSeason, season_graph, starts_of};
 ghost use Rattle.season_nodes.specs.SeasonLaws.{season_lawful};
 ghost use Rattle.season_nodes.specs.declared.nodes.Node.{Node};
 
 use crate::heads::{average_points, head_row, match_scores};
-use crate::rounds::{
-    average_dependents, average_inputs, match_dependents, match_inputs, row_inputs, with_round,
-};
+use crate::rounds::{average_dependents, match_dependents, with_round};
 use crate::teams::team_gameweek;
-use crate::ties::{cup_dependents, tie_dependents, tie_inputs};
-use crate::totals::{counted_at, locked_from, total};
+use crate::ties::{cup_dependents, tie_dependents};
+use crate::totals::total;
 use crate::winners::tie_winner;
 use crate::worth::{bonus_in, bonuses, gameweek_figures, line_worth};
 use fpl_base::{CupId, EntryId, FixtureId, Gw, Memory, PlayerId, Steps};
 use rescore_graph::{Cells, Rules};
-use rule_book::Pick;
 use season_nodes::{
     AveragePoints, Books, GameweekFigures, GameweekScore, Index, Node, Value, is_same,
 };
@@ -97,75 +94,6 @@ fn bonus_affected(
     Ok(found)
 }
 
-// The inputs of the bonus of a fixture: its lines.
-fn bonus_inputs(books: &Books, alloc: Global, fixture: FixtureId) -> Result<Vec<Node>, Memory>
-    ensures { IfOk result
-        (λ ns. ns.items ≡ inputs_of (facts_of books.now) (Node.Bonus fixture)) }
-{
-    let mut found = Vec::new(alloc);
-    for player in books.matches.players_of(fixture) {
-        found.push(Node::Line(fixture, *player))?;
-    }
-    Ok(found)
-}
-
-// The inputs of a player's gameweek: his lines in it, and the bonuses of their fixtures.
-fn gameweek_inputs(
-    books: &Books,
-    alloc: Global,
-    player: PlayerId,
-    gameweek: Gw,
-) -> Result<Vec<Node>, Memory>
-    ensures { IfOk result
-        (λ ns. ns.items ≡ inputs_of (facts_of books.now) (Node.PlayerGw player gameweek)) }
-{
-    let mut found = Vec::new(alloc);
-    for fixture in books.calendar.standing(gameweek) {
-        if books.has_line(player, *fixture) {
-            found.push(Node::Line(*fixture, player))?;
-            found.push(Node::Bonus(*fixture))?;
-        }
-    }
-    Ok(found)
-}
-
-// The inputs of an entry's gameweek: the gameweeks of the players of its team who are there.
-fn team_inputs(
-    books: &Books,
-    alloc: Global,
-    entry: EntryId,
-    gameweek: Gw,
-) -> Result<Vec<Node>, Memory>
-    ensures { has_begun (facts_of books.now) entry gameweek ≡ true → IfOk result
-        (λ ns. ns.items ≡ inputs_of (facts_of books.now) (Node.TeamGw entry gameweek)) }
-{
-    match books.team(entry, gameweek) {
-        Some(team) => Ok(gameweeks_of(books, alloc, &team.picks, gameweek)?),
-        None => Ok(Vec::new(alloc)),
-    }
-}
-
-// The gameweeks of the players of these picks who are there.
-fn gameweeks_of(
-    books: &Books,
-    alloc: Global,
-    picks: &[Pick],
-    gameweek: Gw,
-) -> Result<Vec<Node>, Memory>
-    ensures { IfOk result
-        (λ ns. ns.items
-        ≡ map (λ p. Node.PlayerGw p gameweek)
-        (filter (is_there (facts_of books.now)) (map (λ pick. pick.player) picks.now))) }
-{
-    let mut found = Vec::new(alloc);
-    for pick in picks {
-        if books.is_there(pick.player) {
-            found.push(Node::PlayerGw(pick.player, gameweek))?;
-        }
-    }
-    Ok(found)
-}
-
 // The nodes of which a player's gameweek is an input: the gameweeks of the entries that hold him there.
 fn gameweek_dependents(
     index: &Index,
@@ -180,25 +108,6 @@ fn gameweek_dependents(
     let mut found = Vec::with_capacity(alloc, holders.len())?;
     for entry in holders {
         found.push(Node::TeamGw(*entry, gameweek))?;
-    }
-    Ok(found)
-}
-
-// The inputs of an entry's total: its locked gameweeks from one on.
-fn total_inputs(
-    books: &Books,
-    alloc: Global,
-    entry: EntryId,
-    start: Gw,
-) -> Result<Vec<Node>, Memory>
-    ensures { IfOk result
-        (λ ns. ns.items ≡ inputs_of (facts_of books.now) (Node.Total entry start)) }
-{
-    let mut found = Vec::new(alloc);
-    for place in 0..locked_from(books, start) {
-        if let Some(gameweek) = counted_at(books, entry, start, place) {
-            found.push(Node::TeamGw(entry, gameweek))?;
-        }
     }
     Ok(found)
 }
@@ -321,30 +230,6 @@ impl Rules for SeasonRules<'_> {
             Node::Match(..) => 5,
             Node::HeadRow(..) => 6,
             Node::Tie(_, round, _) => tie_level(round),
-        }
-    }
-
-    fn inputs(&self, alloc: Global, n: Node) -> Result<Vec<Node>, Memory> {
-        match n {
-            Node::Line(..) => Ok(Vec::new(alloc)),
-            Node::Bonus(fixture) => Ok(bonus_inputs(&self.books, alloc, fixture)?),
-            Node::PlayerGw(player, gameweek) => {
-                Ok(gameweek_inputs(&self.books, alloc, player, gameweek)?)
-            }
-            Node::TeamGw(entry, gameweek) => {
-                Ok(team_inputs(&self.books, alloc, entry, gameweek)?)
-            }
-            Node::Total(entry, start) => Ok(total_inputs(&self.books, alloc, entry, start)?),
-            Node::Average(league, gameweek) => {
-                Ok(average_inputs(&self.books, alloc, league, gameweek)?)
-            }
-            Node::Match(league, gameweek, place) => {
-                Ok(match_inputs(&self.books, alloc, league, gameweek, place)?)
-            }
-            Node::HeadRow(league, entry) => Ok(row_inputs(&self.books, alloc, league, entry)?),
-            Node::Tie(cup, round, place) => {
-                Ok(tie_inputs(&self.books, alloc, cup, round, place)?)
-            }
         }
     }
 

@@ -9,7 +9,7 @@ use Rattle.rule_book.specs.declared.player.Player.{Player}
 use Rattle.season_book.specs.Book.{Book, EntryFacts, Facts, Last, caller_number, last_number}
 use Rattle.season_book.specs.Doing.{IsOutLate, IsRefused, IsShown, MayAnswerIn}
 use Rattle.season_book.specs.EntryViews.{entry_shown}
-use Rattle.season_book.specs.Verdict.{Failures, IsRepeat, MayAnswer, Outcome, judged, locked_at, number_refusal, pass, ruled, ruled_by, seen_in, shown_or_unknown, view_answer}
+use Rattle.season_book.specs.Verdict.{Failures, IsRepeat, MayAnswer, Outcome, judged, locked_at, number_refusal, pass, ruled, ruled_by, seen_in, shown_or_unknown, unseen, view_answer}
 use Rattle.season_book.specs.declared.answer.Answer.{Answer}
 use Rattle.season_book.specs.declared.answer.Answer.TheVariants as answer
 use Rattle.season_book.specs.declared.command.Command.{Command}
@@ -46,7 +46,7 @@ shows (Some shown) = refl
 pub gameweek_shown : (book : Book) (caller : Caller) (e g : ℕ) (facts : Facts) (reply : Answer) → book.facts ≡ Some facts
     → reply ≡ seen_in book caller (views.EntryGameweek e g) facts → IsShown (view_answer book caller (views.EntryGameweek e g)) reply
 gameweek_shown book caller e g facts reply is same =
-    subst (λ o. IsShown (option_map_or (seen_in book caller (views.EntryGameweek e g)) o (answer.Rule rule.NoSeason)) reply) (sym is)
+    subst (λ o. IsShown (option_map_or (seen_in book caller (views.EntryGameweek e g)) o (unseen book caller (views.EntryGameweek e g))) reply) (sym is)
     (subst (λ r. IsShown (seen_in book caller (views.EntryGameweek e g) facts) r) (sym same)
     (shows (option_map showns.EntryGameweek (entry_shown facts book.entries e g))))
 
@@ -54,7 +54,7 @@ gameweek_shown book caller e g facts reply is same =
 pub seen_answered : (book : Book) (caller : Caller) (view : View) (facts : Facts) (reply : Answer) → book.facts ≡ Some facts
     → IsShown (seen_in book caller view facts) reply → IsShown (view_answer book caller view) reply
 seen_answered book caller view facts reply is shown =
-    subst (λ o. IsShown (option_map_or (seen_in book caller view) o (answer.Rule rule.NoSeason)) reply) (sym is) shown
+    subst (λ o. IsShown (option_map_or (seen_in book caller view) o (unseen book caller view)) reply) (sym is) shown
 
 -- what follows of a value that a call gave
 pub if_ok : {T E : Type 0} (P Q : T → Type 0) (result : Result T E) → ((value : T) → P value → Q value) → IfOk result P → IfOk result Q

@@ -6,3 +6,4 @@ pub mod MoneyFacts
 pub mod RuledFacts
 pub mod StepFacts
 pub mod KeptFacts
+pub mod PageFacts

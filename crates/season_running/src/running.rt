@@ -1,12 +1,15 @@
 // A season with its entries.
-ghost use Rattle.std.specs.Prelude.{◌≡◌, ◌≤◌, ◌+◌, ℕ, List, [], IfErr, IfOk, OnOk, OnErr, None, length, if◌then◌else◌};
+ghost use Rattle.std.specs.Prelude.{◌≡◌, ◌≤◌, ◌+◌, ℕ, List, [], Option, IfErr, IfOk, IsSome, OnOk, OnErr, None, length, if◌then◌else◌};
+ghost use Rattle.std.specs.Option.{option_map};
+ghost use Rattle.serde_json.specs.Data.{Data};
+ghost use Rattle.serde_json.specs.Written.{compact_text};
 ghost use Rattle.fpl_base.specs.Texts.{is_key};
 ghost use Rattle.fpl_base.specs.declared.kinds.Caller.{Caller};
 ghost use Rattle.manager_book.specs.Managers.{AreRisen, manager_in};
 ghost use Rattle.season_book.specs.Book.{Book, caller_number, last_number};
 ghost use Rattle.season_book.specs.Commands.{IsCommand, part_of};
 ghost use Rattle.season_book.specs.Doing.{IsGranted, IsShown, IsStoreless};
-ghost use Rattle.season_book.specs.Verdict.{locked_at, ruled, seen_in};
+ghost use Rattle.season_book.specs.Verdict.{locked_at, page_of, ruled, seen_in, shown_or_unknown};
 ghost use Rattle.season_book.specs.declared.answer.Answer.TheVariants as answer;
 ghost use Rattle.season_book.specs.declared.part.Part.TheVariants as part;
 ghost use Rattle.season_book.specs.declared.request.View.TheVariants as view;
@@ -21,13 +24,13 @@ ghost use Rattle.season_running.specs.Changed.{IsChangedBy};
 ghost use Rattle.season_running.specs.Kept.{AreKeptBy};
 ghost use Rattle.season_running.specs.EntryLaws.{IsOrderly};
 ghost use Rattle.season_running.specs.Standing.{InStep, Plays};
-ghost use Rattle.season_views.specs.Reads.{reads_allowed};
+ghost use Rattle.season_views.specs.Reads.{reads_allowed, window_reads};
 
 use classic_leagues::Leagues;
 use cup_rounds::Cups;
 use fpl_base::{Caller, CupId, EntryId, Key, LeagueId, Memory, Moment, Rule, Steps};
 use manager_book::ManagerBook;
-use season_book::{Answer, Command, Made, Part, Shown};
+use season_book::{Answer, Command, Made, Page, Part, Shown, Window};
 use season_competitions::{do_cup, do_league, judge_cup, judge_league, members_stay};
 use season_entries::{
     do_deed, do_key, early_is_in_time, entries_are_issued, facts_leave_entries, judge_deed,
@@ -35,7 +38,7 @@ use season_entries::{
 };
 use season_facts::Season;
 use season_graph::SeasonCells;
-use season_views::{cup, entry_gameweek, league, my_entry};
+use season_views::{Seen, cup, entry_gameweek, league, my_entry, window};
 use std::alloc::Global;
 use std::marker::Model;
 use std::sync::ledger::Ledger;
@@ -512,6 +515,24 @@ impl RunningSeason {
             None => Answer::Unknown,
         }
     }
+
+    /// What a window shows a caller, under the number of his last command.
+    pub fn window<L: Ledger>(
+        &self,
+        alloc: Global,
+        caller: &Caller,
+        last: u64,
+        asked: Window,
+        steps: &mut Steps<L>,
+    ) -> Answer
+        ensures seen { (book : Book) → Plays self.now book → last ≡ last_number book caller.now
+            → IsShown (seen_in book caller.now (view.Window asked) self.now.facts) result }
+        ensures storeless { IsStoreless result }
+        ensures cost { steps.new ≤ steps.old + window_reads self.now.facts asked }
+    {
+        let seen: Seen<L> = Seen::of(&self.season, &self.managers, &self.leagues, &self.cups);
+        page_answer(window(alloc, &seen, caller, last, asked, steps))
+    }
 }
 
 // What is shown, or want of memory.
@@ -521,6 +542,20 @@ fn answer_of(shown: Result<Shown, Memory>) -> Answer
 {
     match shown {
         Ok(shown) => Answer::Shown(shown),
+        Err(Memory) => Answer::Memory,
+    }
+}
+
+// The text of what a window shows, nothing where an id is not there, or want of memory.
+#[tactic(auto, using(crate::proofs::PageFacts::page_shown, crate::proofs::PageFacts::page_unknown, crate::proofs::PageFacts::page_out))]
+fn page_answer(page: Result<Option<Page>, Memory>) -> Answer
+    ensures shown { (due : Option Data) → IfOk page (λ p. p ≡ option_map compact_text due)
+        → OnErr page (IsSome due) → IsShown (shown_or_unknown (option_map page_of due)) result }
+    ensures storeless { IsStoreless result }
+{
+    match page {
+        Ok(Some(page)) => Answer::Shown(Shown::Page(page)),
+        Ok(None) => Answer::Unknown,
         Err(Memory) => Answer::Memory,
     }
 }

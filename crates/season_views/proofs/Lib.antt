@@ -6,9 +6,11 @@ mod Gameweeks
 mod Histories
 mod Lists
 mod Matches
+mod Numbered
 mod ShownLeagues
 mod Scores
 mod ShownLines
 mod Tables
 mod Told
 mod Totals
+mod Written

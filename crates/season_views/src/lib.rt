@@ -8,10 +8,14 @@ mod head;
 mod leagues;
 mod names;
 mod reading;
+mod seen;
 mod sheets;
 mod views;
+mod windows;
 
 pub use cups::cup;
 pub use entries::{entry_gameweek, my_entry};
 pub use leagues::league;
+pub use seen::Seen;
 pub use views::show;
+pub use windows::{window, window_before};

@@ -40,7 +40,11 @@ pub fn show<L: Ledger>(
             Ok(gameweek_shown(season, cells, player, gameweek, steps))
         }
         View::Fixture { fixture } => fixture_shown(alloc, season, cells, fixture, steps),
-        View::Me | View::EntryGameweek { .. } | View::League { .. } | View::Cup { .. } => Ok(None),
+        View::Me
+        | View::EntryGameweek { .. }
+        | View::League { .. }
+        | View::Cup { .. }
+        | View::Window(_) => Ok(None),
     }
 }
 

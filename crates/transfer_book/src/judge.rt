@@ -3,7 +3,7 @@ ghost use Rattle.std.specs.Prelude.{◌≡◌, ◌==◌, not, ◌||◌};
 ghost use Rattle.std.specs.List.{list_any};
 ghost use Rattle.rule_book.specs.Batch.{is_same_position, is_held, pick_of, first_not_held, first_held, is_gone, first_gone, plays_at, moves_position, first_moved};
 
-use fpl_base::{ClubId, PlayerId, Position};
+use fpl_base::{PlayerId, Position};
 use player_prices::Players;
 use rule_book::{Pick, Swap};
 

@@ -1,4 +1,4 @@
-use Rattle.fpl_answers.proofs.AppendLemmas.{one, then}
+use Rattle.json_members.proofs.AppendLemmas.{one, then}
 use Rattle.fpl_answers.proofs.answers.write_damaged.Goals as goal
 
 pub returns : goal.returns

@@ -3,8 +3,8 @@ use Rattle.json.specs.Tree.{items_tokens}
 use Rattle.serde_json.specs.Data.{array}
 use Rattle.serde_json.specs.View.{items_of}
 use Rattle.serde_json.specs.Written.{items_outline}
-use Rattle.fpl_answers.specs.MemberData.{count}
-use Rattle.fpl_answers.specs.Tokens.{tokens_of}
+use Rattle.json_members.specs.Members.{count}
+use Rattle.json_members.specs.Tokens.{tokens_of}
 use Rattle.fpl_answers.proofs.entries.write_slots.Given as goal
 
 -- the tokens so far, and then those of what is left, are those of all

@@ -1,4 +1,4 @@
-use Rattle.fpl_answers.proofs.AppendLemmas.{one, then}
+use Rattle.json_members.proofs.AppendLemmas.{one, then}
 use Rattle.fpl_answers.proofs.leagues.write_cup.Goals as goal
 
 pub returns : goal.returns

@@ -1,5 +1,5 @@
 use Rattle.std.proofs.Common.{◌≡◌, rules, to_z, of_z, w32}
-use Rattle.fpl_answers.proofs.AppendLemmas.{one, then}
+use Rattle.json_members.proofs.AppendLemmas.{one, then}
 use Rattle.fpl_answers.proofs.leagues.write_head_ranked.Goals as goal
 
 pub returns : goal.returns

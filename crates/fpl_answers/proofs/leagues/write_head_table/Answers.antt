@@ -1,6 +1,6 @@
 use Rattle.std.proofs.Common.{◌∙◌}
 use Rattle.fpl_answers.specs.LeagueData.{head_ranked_data}
-use Rattle.fpl_answers.proofs.AppendLemmas.{one_more}
+use Rattle.json_members.proofs.AppendLemmas.{one_more}
 use Rattle.fpl_answers.proofs.leagues.write_head_table.Goals as goal
 
 pub loop-ranked-preserved : goal.loop-ranked-preserved

@@ -4,7 +4,7 @@ use Rattle.serde_json.specs.Data.{array}
 use Rattle.serde_json.specs.View.{items_of}
 use Rattle.serde_json.specs.Written.{items_outline}
 use Rattle.fpl_answers.specs.LeagueData.{head_ranked_data}
-use Rattle.fpl_answers.specs.Tokens.{tokens_of}
+use Rattle.json_members.specs.Tokens.{tokens_of}
 use Rattle.fpl_answers.proofs.leagues.write_head_table.Given as goal
 
 -- the tokens so far, and then those of what is left, are those of all

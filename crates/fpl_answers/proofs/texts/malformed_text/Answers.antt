@@ -1,6 +1,6 @@
 use Rattle.std.proofs.Common.{◌∙◌}
 use Rattle.fpl_answers.specs.MemberData.{malformed_data}
-use Rattle.fpl_answers.proofs.AppendLemmas.{text_of}
+use Rattle.json_members.proofs.AppendLemmas.{text_of}
 use Rattle.fpl_answers.proofs.texts.malformed_text.Goals as goal
 
 pub returns : goal.returns

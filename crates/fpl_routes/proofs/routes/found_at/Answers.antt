@@ -1,4 +1,4 @@
-use Rattle.std.proofs.Common.{subst}
+use Rattle.std.proofs.Common.{refl, subst}
 use Rattle.fpl_routes.specs.declared.routes.Place.{Place}
 use Rattle.fpl_routes.specs.Targets.{AreIds}
 use Rattle.fpl_routes.proofs.routes.found_at.Goals as goal
@@ -10,3 +10,6 @@ pub returns-in_default-read_ids : goal.returns-in_default-read_ids
 returns-in_default-read_ids c other ns fit =
     let same = c.in-Some.ensures.only other c.in-Some.place fit.1 c.in-Some.ensures.found in
     c.in_default-read_ids.ensures ns (subst (λ (one : Place). AreIds one.ids c.args.target.now ns) same fit.2)
+
+pub returns : goal.returns
+returns c = (c.in-Some.place, (c.in-Some.ensures.text, c.in-Some.ensures.found, c.in-Some-read_ids.ensures), refl)

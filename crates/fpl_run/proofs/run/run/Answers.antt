@@ -22,7 +22,7 @@ pub returns-in-Ok-Serve-clause-runs : goal.returns-in-Ok-Serve-clause-runs
 returns-in-Ok-Serve-clause-runs g c =
     let one = c.in-Ok-Serve in
     let said = subst (λ (w : Words). ordered c.args.words.now ≡ Some w) one.field-0-is one.ensures.ordered in
-    runs_as _ g.K.Keeper.tells g.K.Keeper.serves g.K.Keeper.holds g.K.Keeper.passes g.K.Keeper.faults (ordered c.args.words.now) (order.Serve one.key one.field-0-1 one.connections one.field-0-3) _ _ _ said (c.serve.ensures.served, refl, refl)
+    runs_as _ g.K.Keeper.tells g.K.Keeper.serves g.K.Keeper.holds g.K.Keeper.passes g.K.Keeper.faults (ordered c.args.words.now) (order.Serve one.key one.field-0-1 one.field-0-2 one.connections one.field-0-4 one.field-0-5) _ _ _ said (c.serve.ensures.served, refl, refl)
 
 pub returns-in-Ok-Load-clause-runs : goal.returns-in-Ok-Load-clause-runs
 returns-in-Ok-Load-clause-runs g c =

@@ -2,7 +2,7 @@ use Rattle.std.proofs.Common.{arith, refl, sym, ap, [], ◌-◌}
 use Rattle.fpl_http.specs.Lines.{strip}
 use Rattle.fpl_session.specs.Replies.{Speaks}
 use Rattle.fpl_session.proofs.ServedLemmas.{served_none, Appends-nil}
-use Rattle.fpl_session.proofs.SessionLemmas.{Consumes-nil, talk_more, heard_open, session_ends}
+use Rattle.fpl_session.proofs.SessionLemmas.{Consumes-nil, exchanged_reads, talk_more, heard_open, session_ends}
 use Rattle.fpl_session.proofs.converse.converse.Goals as goal
 
 pub loop-taken-init : goal.loop-taken-init
@@ -47,3 +47,8 @@ returns-clause-session g c =
       heard_open (Speaks (g.R.Service.answers c.args.service.now)) got c.loop-taken.places.decoder (g.R.Service.see (c.args.host.now, c.args.keeper.now, c.args.clock.now, c.args.steps.now)) (g.R.Service.see (c.loop-taken.host, c.loop-taken.keeper, c.loop-taken.clock, c.loop-taken.steps)) (g.R.Service.see (c.loop-taken.host, c.loop-taken.keeper, c.loop-taken.clock, c.loop-taken.steps)) (g.W.Sink.taken c.args.out.now) (g.W.Sink.taken c.loop-taken.out) (g.W.Sink.taken c.loop-taken.out)
           served c.loop-taken.invariant.waiting refl (Appends-nil (g.W.Sink.taken c.loop-taken.out)),
     )
+
+pub returns-in-Err-clause-memory : goal.returns-in-Err-clause-memory
+returns-in-Err-clause-memory g c =
+    exchanged_reads (Speaks (g.R.Service.answers c.args.service.now)) (4294967296 - c.loop-taken.taken) (g.S.Source.left c.loop-taken.src) (g.S.Source.left c.exchange.new.src) c.loop-taken.places.decoder c.exchange.new.places.decoder (g.R.Service.see (c.loop-taken.host, c.loop-taken.keeper, c.loop-taken.clock, c.loop-taken.steps)) (g.R.Service.see (c.exchange.new.host, c.exchange.new.keeper, c.exchange.new.clock, c.exchange.new.steps)) (g.W.Sink.taken c.loop-taken.out) (g.W.Sink.taken c.exchange.new.out) c.in-Err.ending
+    c.in-Err.ensures.exchanged

@@ -28,8 +28,8 @@ comings-preserved c =
       others = λ p came none.
           let none_before : is_listed at.players.items p ≡ false = not_before (is_listed at.players.items p) (is_listed c.add_comer.new.players.items p) (now.more p) none in
           let split : has_come_on (take (at.event-index + 1) c.args.comings.now) p ≡ (has_come_on (take at.event-index c.args.comings.now) p || brings_on p c.event-item.result) =
-              list_any_more (brings_on p) c.args.comings.now at.event-index c.event-item.result here
-              ∙ ap (λ (e : Event). has_come_on (take at.event-index c.args.comings.now) p || brings_on p e) (sym c.event-item.is) in
+          list_any_more (brings_on p) c.args.comings.now at.event-index c.event-item.result here
+          ∙ ap (λ (e : Event). has_come_on (take at.event-index c.args.comings.now) p || brings_on p e) (sym c.event-item.is) in
           elim (has_come_on (take at.event-index c.args.comings.now) p) as (λ b. has_come_on (take at.event-index c.args.comings.now) p ≡ b → line_of c.args.minutes c.args.events.now p ≡ line_of c.args.minutes c.args.told.now p) [
             | true ↦ λ before. at.invariant.others p before none_before
             | false ↦ λ before. now.other p (one_or_other (has_come_on (take at.event-index c.args.comings.now) p) (brings_on p c.event-item.result) (sym split ∙ came) before) none

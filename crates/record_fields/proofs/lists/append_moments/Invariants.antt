@@ -1,7 +1,9 @@
 use Rattle.std.proofs.Common.{◌≡◌, ◌++◌, take, flat_map}
+use Rattle.std.specs.List.{All}
 use Rattle.std.specs.Int.{w64}
 use Rattle.record_fields.specs.Fields.{number}
+use Rattle.record_fields.specs.Ranges.{IsMoment}
 use Rattle.record_fields.proofs.lists.append_moments.Given as goal
 
 abbrev pub invariant-moments : goal.invariant-moments
-invariant-moments l = l.bytes.items ≡ l.fn.bytes.items ++ flat_map (number w64) (take l.moment-index l.fn.moments)
+invariant-moments l = (l.bytes.items ≡ l.fn.bytes.items ++ flat_map (number w64) (take l.moment-index l.fn.moments)) × All IsMoment (take l.moment-index l.fn.moments)

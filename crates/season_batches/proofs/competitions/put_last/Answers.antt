@@ -25,7 +25,7 @@ returns c =
           c.ranges.number.fits,
           omega (arith, c.status_of-status.type_inv, c.status_of-status.ensures),
           omega (arith, c.made_id-made.type_inv, c.made_id-made.ensures),
-          c.keeps_command_ranges.ensures,
+          c.in_ok-key.ensures.fits.0.1.1.1,
         ),
         has_bytes c.args.command.now c.requires,
       ),

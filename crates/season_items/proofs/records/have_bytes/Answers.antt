@@ -1,5 +1,5 @@
 use Rattle.season_items.specs.Read.{HasBytes}
-use Rattle.season_items.proofs.Each.{all_of_them, one_more}
+use Rattle.record_fields.proofs.Each.{all_of_them, one_more}
 use Rattle.season_items.proofs.records.have_bytes.Goals as goal
 
 pub records-preserved : goal.records-preserved

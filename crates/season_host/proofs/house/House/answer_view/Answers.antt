@@ -7,7 +7,7 @@ use Rattle.season_views.proofs.Counted.{eight}
 use Rattle.season_running.specs.Changed.{played_by}
 use Rattle.season_running.proofs.HostFacts.{gameweek_shown, seen_answered, stood_for}
 use Rattle.season_host.proofs.Followed.{kept_of}
-use Rattle.season_host.proofs.ViewReads.{seen_reads}
+use Rattle.season_host.proofs.ViewReads.{last_is, seen_reads, window_few}
 use Rattle.season_host.proofs.house.House.answer_view.Goals as goal
 
 pub returns-in-EntryGameweek-clause-shown : goal.returns-in-EntryGameweek-clause-shown
@@ -70,3 +70,18 @@ returns-in-Cup-clause-cost g c =
     let running = c.in-Some.running in
     let plays = stood_for c.args.self.now c.self.inside.operator c.self.inside.running c.self.inside.lasts running book c.self.view_is c.in-Some.is stands in
     seen_reads book c.args.caller.now (view.Cup c.in-Cup.cup) running.facts c.args.steps.now c.cup.new.steps plays.facts (c.cup.ensures.cost c.args.caller.now book plays))
+
+pub returns-in-Window-clause-shown : goal.returns-in-Window-clause-shown
+returns-in-Window-clause-shown g c =
+    rw c.in-Window.is (λ book stands.
+    let running = c.in-Some.running in
+    let plays = stood_for c.args.self.now c.self.inside.operator c.self.inside.running c.self.inside.lasts running book c.self.view_is c.in-Some.is stands in
+    seen_answered book c.args.caller.now (view.Window c.in-Window.window) running.facts c.window.result plays.facts
+    (c.window.ensures.seen book plays (last_is c.self.inside.operator c.self.inside.running c.self.inside.lasts c.args.self.now book c.args.caller.now c.number.result c.self.view_is c.number.ensures stands)))
+
+pub returns-in-Window-clause-cost : goal.returns-in-Window-clause-cost
+returns-in-Window-clause-cost g c =
+    rw c.in-Window.is (λ book stands.
+    let running = c.in-Some.running in
+    let plays = stood_for c.args.self.now c.self.inside.operator c.self.inside.running c.self.inside.lasts running book c.self.view_is c.in-Some.is stands in
+    window_few book c.args.caller.now c.in-Window.window running.facts c.args.steps.now c.window.new.steps plays.facts c.window.ensures.cost)

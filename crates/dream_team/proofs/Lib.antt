@@ -1,0 +1,9 @@
+mod Choosing
+mod Collecting
+mod Lined
+mod Places
+mod Putting
+mod Ranking
+mod Standing
+mod Trying
+mod Weekly

@@ -1,0 +1,3 @@
+pub mod Dreams
+pub mod Elevens
+pub mod Pools

@@ -1,0 +1,21 @@
+use Rattle.std.proofs.Common.{◌≡◌, ◌<◌, ◌+◌, ◌∙◌, length, ap, arith, subst}
+use Rattle.std.specs.Prelude.{IfSome}
+use Rattle.json_members.proofs.ListLemmas.{numbered_more}
+use Rattle.season_book.specs.Windows.{league_row}
+use Rattle.season_views.proofs.Numbered.{numbered_at}
+use Rattle.season_views.proofs.windows.write_leagues.Goals as goal
+
+pub loop-place-preserved : goal.loop-place-preserved
+loop-place-preserved g c =
+    let things = c.args.seen.now.leagues in
+    let place = c.loop-place.place in
+    let id = c.unwrap.result in
+    let next : id ≡ place + 1 = subst (λ o. IfSome o (λ n. n ≡ place + 1)) c.unwrap.ensures c.new.ensures.value in
+    let number : 1 + place ≡ id = omega (arith, next) in
+    let below : place < length things = omega (arith, c.loop-place-test.true, c.count.ensures.value, ap length c.leagues.ensures) in
+    let there = numbered_at things place id below number in
+    let wrote = c.in_ok-write_league_at.ensures there.0 there.2 in
+    record {
+      tokens = numbered_more league_row things place id there.0 there.1 number wrote c.loop-place.invariant.tokens;
+      before = wrote.before ∙ c.loop-place.invariant.before;
+    }

@@ -1,0 +1,254 @@
+"""Where a play happens: a host with a season, and windows of one Chromium."""
+import time
+from pathlib import Path
+
+from selenium import webdriver
+from selenium.common.exceptions import NoSuchElementException, StaleElementReferenceException
+from selenium.webdriver.chrome.service import Service
+from selenium.webdriver.common.by import By
+
+from seasons import Generated
+from served import Program, StandIn
+
+SECONDS = 30  # the page may take, on a machine that is busy
+ARGUMENTS = ("--headless=new", "--no-sandbox", "--disable-dev-shm-usage", "--lang=en-GB", "--disable-background-timer-throttling")
+EXPECTED = ("Failed to load resource", "net::ERR_")  # what Chromium says of answers that are refusals, and of a host that is gone
+# The page's clock stands at a moment that a play tells, and goes on from there.
+CLOCK = "{{ const gone = {0} - Date.now(); const now = Date.now.bind(Date); Date.now = () => now() + gone; }}"
+
+
+class Wrong(AssertionError):
+    """What a play saw that should not be."""
+
+
+def need(is_so, what):
+    if not is_so:
+        raise Wrong(what)
+
+
+class Stage:
+    def __init__(self, top, program, shots):
+        self.top, self.program, self.shots = Path(top), program, Path(shots)
+        self.web, self.served, self.driver, self.width = self.top / "web", None, None, None
+        self.shots.mkdir(parents=True, exist_ok=True)
+
+    def play(self, play):
+        try:
+            play(self)
+            self.need_quiet()
+        except Exception:
+            self.picture_of_failure(play.__name__)
+            raise
+        finally:
+            if self.served:
+                try:
+                    self.served.stop()
+                except Exception:
+                    pass  # a play may have stopped it
+            self.served = None
+            if self.driver:
+                self.one_window()
+
+    def serve(self):
+        """A fresh host."""
+        self.served = StandIn(self.web) if self.program is None else Program(self.web, self.program)
+        return self.served.start()
+
+    def serve_generated(self):
+        """A host with the season of `generate`."""
+        if self.program is None:
+            self.serve()
+            Generated(self.served).make()
+        else:
+            self.served = Program(self.web, self.program)
+            self.served.generate()
+            self.served.start()
+
+    # Windows
+
+    def open(self, width=1280):
+        """A Chromium of this width: the same one as long as the width is the same."""
+        if self.driver and self.width == width:
+            return
+        self.close()
+        options = webdriver.ChromeOptions()
+        options.binary_location = "/usr/bin/chromium"
+        for argument in ARGUMENTS:
+            options.add_argument(argument)
+        options.set_capability("goog:loggingPrefs", {"browser": "ALL"})
+        if width < 500:
+            metrics = {"width": width, "height": 740, "pixelRatio": 1.0, "touch": True}
+            options.add_experimental_option("mobileEmulation", {"deviceMetrics": metrics})
+        else:
+            options.add_argument(f"--window-size={width},900")
+        self.driver, self.width = webdriver.Chrome(options=options, service=Service("/usr/bin/chromedriver")), width
+
+    def close(self):
+        if self.driver:
+            self.driver.quit()
+        self.driver = None
+
+    def one_window(self):
+        first, *others = self.driver.window_handles
+        for window in others:
+            self.driver.switch_to.window(window)
+            self.driver.close()
+        self.driver.switch_to.window(first)
+        self.driver.get("about:blank")
+
+    def window(self, key=None, moment=None, is_new=False):
+        """A window with the page, in which this key is signed in."""
+        if is_new:
+            self.driver.switch_to.new_window("window")
+        window = Window(self, self.driver.current_window_handle)
+        if moment is not None:
+            self.driver.execute_cdp_cmd("Page.addScriptToEvaluateOnNewDocument", {"source": CLOCK.format(moment * 1000)})
+        self.driver.get(self.served.url)
+        if key is not None:
+            window.sign_in(key)
+        return window
+
+    def need_quiet(self):
+        """Nothing in the page's console but what is expected of it."""
+        if self.driver:
+            said = [it["message"] for it in self.driver.get_log("browser") if it["level"] in ("SEVERE", "WARNING")]
+            strange = [it for it in said if not any(word in it for word in EXPECTED)]
+            need(not strange, f"the console says {strange}")
+
+    def picture_of_failure(self, name):
+        if self.driver:
+            try:
+                (self.shots / f"failed-{name}.png").write_bytes(self.driver.get_screenshot_as_png())
+                print(self.driver.find_element(By.TAG_NAME, "body").text[:2000])
+            except Exception as fault:
+                print(f"no picture: {fault}")
+
+
+class Window:
+    """A window of the browser, with the page in it."""
+
+    def __init__(self, stage, handle):
+        self.stage, self.handle, self.driver = stage, handle, stage.driver
+
+    def here(self):
+        self.driver.switch_to.window(self.handle)
+        return self
+
+    # Waiting
+
+    def until(self, told, what):
+        """Waits until something is told that is not nothing, and gives it."""
+        end = time.monotonic() + SECONDS
+        while time.monotonic() < end:
+            try:
+                found = told()
+                if found:
+                    return found
+            except (NoSuchElementException, StaleElementReferenceException):
+                pass
+            time.sleep(0.05)
+        raise Wrong(f"not within {SECONDS} seconds: {what}")
+
+    def find(self, selector):
+        return self.until(lambda: self.driver.find_element(By.CSS_SELECTOR, selector), selector)
+
+    def all(self, selector):
+        return self.driver.find_elements(By.CSS_SELECTOR, selector)
+
+    def text(self, selector="#main"):
+        """The text of an element, as it is seen."""
+        return self.until(lambda: self.driver.find_element(By.CSS_SELECTOR, selector).text, f"a text in {selector}")
+
+    def sees(self, words, selector="#main"):
+        return self.until(lambda: words in self.driver.find_element(By.CSS_SELECTOR, selector).text, f"{words!r} in {selector}")
+
+    def needs_no(self, selector):
+        need(not self.all(selector), f"there is {selector}")
+
+    def settled(self):
+        """Waits until nothing is being read any more."""
+        self.until(lambda: self.driver.find_element(By.ID, "main").get_attribute("aria-busy") == "false", "the page at rest")
+        return self
+
+    # Acting
+
+    def sign_in(self, key):
+        """Signs in; a window of a browser in which somebody is signed in begins with his key."""
+        self.find("#key, #sign-out")
+        if not self.all("#key"):
+            self.tap("sign-out").tap("yes")
+        self.type("key", key)
+        self.tap("sign-in")
+
+    def tap(self, id):
+        def tapped():
+            element = self.driver.find_element(By.ID, id)
+            if not element.is_enabled():
+                return False
+            self.driver.execute_script("arguments[0].scrollIntoView({block: 'center'})", element)
+            element.click()
+            return True
+
+        self.until(tapped, f"a tap on {id}")
+        return self
+
+    def type(self, id, text):
+        field = self.find(f"#{id}")
+        field.clear()
+        field.send_keys(text)
+        return self
+
+    def set(self, id, value):
+        """The value of a field, as if it was chosen there."""
+        script = "const it = document.getElementById(arguments[0]); it.value = arguments[1]; it.dispatchEvent(new Event('input', {bubbles: true})); it.dispatchEvent(new Event('change', {bubbles: true}))"
+        self.find(f"#{id}")
+        self.driver.execute_script(script, id, str(value))
+        return self
+
+    def unfold(self, id):
+        self.find(f"#{id}")
+        self.driver.execute_script("document.getElementById(arguments[0]).open = true", id)
+        return self
+
+    def go(self, place):
+        self.driver.execute_script("location.hash = '#/' + arguments[0]", place)
+        self.until(lambda: self.driver.execute_script("return document.activeElement.tagName") == "H1", f"the place {place}")
+        return self.settled()
+
+    def reload(self):
+        self.driver.refresh()
+        return self
+
+    def refresh(self):
+        """What happens each minute."""
+        self.driver.execute_script("document.dispatchEvent(new Event('visibilitychange'))")
+        return self.settled()
+
+    def media(self, **features):
+        """Dark, print, reduced motion."""
+        told = {"media": features.pop("media", "")}
+        told["features"] = [{"name": name.replace("_", "-"), "value": value} for name, value in features.items()]
+        self.driver.execute_cdp_cmd("Emulation.setEmulatedMedia", told)
+
+    # Looking
+
+    def overflow(self):
+        """By how many pixels the page is wider than the window."""
+        return self.driver.execute_script("return document.documentElement.scrollWidth - document.documentElement.clientWidth")
+
+    def picture(self, name, height=None):
+        """A picture of the whole place, for a person to look at."""
+        whole = self.driver.execute_script("return Math.max(document.documentElement.scrollHeight, 740)")
+        metrics = {"width": self.stage.width, "height": height or min(whole, 2600), "deviceScaleFactor": 1, "mobile": self.stage.width < 500}
+        self.driver.execute_cdp_cmd("Emulation.setDeviceMetricsOverride", metrics)
+        path = self.stage.shots / f"{name}.png"
+        path.write_bytes(self.driver.get_screenshot_as_png())
+        metrics["height"] = 740
+        self.driver.execute_cdp_cmd("Emulation.setDeviceMetricsOverride", metrics)
+        return path
+
+    def tree(self):
+        """What a screen reader gets: roles and names."""
+        nodes = self.driver.execute_cdp_cmd("Accessibility.getFullAXTree", {})["nodes"]
+        told = lambda node, member: node.get(member, {}).get("value", "")
+        return [(told(node, "role"), told(node, "name")) for node in nodes if not node.get("ignored")]
