@@ -1,6 +1,6 @@
 // What a host keeps in memory, and its answers by that alone.
-ghost use Rattle.std.specs.Prelude.{◌≡◌, ◌≢◌, ◌≤◌, ◌+◌, [], Some, IfErr, IfOk, OnOk};
-ghost use Rattle.std.specs.Option.{option_map_or};
+ghost use Rattle.std.specs.Prelude.{◌≡◌, ◌≢◌, ◌≤◌, ◌+◌, [], Some, IfErr, IfOk, OnOk, slice_get};
+ghost use Rattle.std.specs.Option.{option_map, option_map_or};
 ghost use Rattle.rule_book.specs.Refusals.{IsJudged};
 ghost use Rattle.season_book.specs.Book.{Book, last_number};
 ghost use Rattle.season_book.specs.Commands.{IsCommand};
@@ -13,7 +13,7 @@ ghost use Rattle.season_records.specs.Touched.{batch, touched};
 ghost use Rattle.season_rows.specs.RowsTold.{told_by};
 ghost use Rattle.season_running.specs.Accepting.{IsAccepted};
 ghost use Rattle.season_running.specs.EntryLaws.{IsOrderlyHost};
-ghost use Rattle.season_running.specs.Standing.{Follows, StandsIn, host_rows, keys_in, number_at, passed};
+ghost use Rattle.season_running.specs.Standing.{Follows, StandsIn, host_rows, keys_in, number_at, passed, players_in};
 ghost use Rattle.season_host.specs.Accepted.{MayEndIn, TellItemsBy, answer_from, change_from, locks_more, made_in, slots_from};
 ghost use Rattle.season_views.specs.Cells.{AreKeptOf};
 ghost use Rattle.season_views.specs.Reads.{reads_allowed, view_reads};
@@ -22,7 +22,7 @@ ghost use Rattle.season_host.specs.declared.change.Change.TheVariants as change_
 
 use crate::accepting::{Done, accept, begin};
 use crate::change::Change;
-use fpl_base::{Caller, Key, Memory, Moment, Op, Rule, Steps};
+use fpl_base::{Caller, Key, Memory, Moment, Op, PlayerId, Rule, Steps};
 use record_codec::Slot;
 use season_batches::batch_of;
 use season_book::{Answer, Command, Made, Shown, View, Window};
@@ -147,6 +147,19 @@ impl House {
         ensures { result ≡ number_at self.now.lasts caller }
     {
         self.lasts.number(&caller)
+    }
+
+    /// The player at a place, counted from 0 in ascending order of id; `None` from the end on, and before the season.
+    pub fn player_at(&self, place: usize) -> Option<PlayerId>
+        ensures { result ≡ option_map (λ p. p.id) (slice_get (players_in self.now.facts) place) }
+    {
+        match &self.running {
+            Some(running) => match running.season().players().at(place) {
+                Some(player) => Some(player.id),
+                None => None,
+            },
+            None => None,
+        }
     }
 
     /// A law: the players are lawful, and nothing was done in a gameweek behind the next one or the last.

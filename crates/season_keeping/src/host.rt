@@ -1,5 +1,6 @@
 // The host of a season over its keeper.
-ghost use Rattle.std.specs.Prelude.{◌≡◌, ◌≢◌, ◌≤◌, ◌+◌, ◌⊎◌, Err, IfOk, IsOk, MatchResult, OnErr, OnOk, false, true};
+ghost use Rattle.std.specs.Prelude.{◌≡◌, ◌≢◌, ◌≤◌, ◌+◌, ◌⊎◌, Err, IfOk, IsOk, MatchResult, OnErr, OnOk, false, slice_get, true};
+ghost use Rattle.std.specs.Option.{option_map};
 ghost use Rattle.fpl_base.specs.Keeping.{HasKeeperCause, Map};
 ghost use Rattle.season_book.specs.Book.{Book};
 ghost use Rattle.season_book.specs.Commands.{IsCommand};
@@ -10,7 +11,7 @@ ghost use Rattle.season_book.specs.declared.answer.Answer.TheVariants as answer_
 ghost use Rattle.season_book.specs.declared.request.Request.TheVariants as request_of;
 ghost use Rattle.season_isolation.specs.Isolation.{ToldAlike};
 ghost use Rattle.season_running.specs.EntryLaws.{IsOrderlyHost};
-ghost use Rattle.season_running.specs.Standing.{StandsIn, keys_in, number_at, passed};
+ghost use Rattle.season_running.specs.Standing.{StandsIn, keys_in, number_at, passed, players_in};
 ghost use Rattle.season_opening.specs.declared.loading.OpenFault.TheVariants as fault;
 ghost use Rattle.season_host.specs.Accepted.{locks_more};
 ghost use Rattle.season_host.specs.Cells.{AreCellsOfHost, AreCorrected, IsCheapCommand, IsCheapNow, running_in};
@@ -18,7 +19,7 @@ ghost use Rattle.season_keeping.specs.Answering.{Answers, AreCorrectedBoth, Comm
 ghost use Rattle.season_keeping.specs.Housed.{Backs};
 ghost use Rattle.season_keeping.specs.Opening.{HoldsOn, Opens, Withholds};
 
-use fpl_base::{Caller, Keeper, KeeperFault, Key, Memory, Moment, Steps};
+use fpl_base::{Caller, Keeper, KeeperFault, Key, Memory, Moment, PlayerId, Steps};
 use record_codec::Slot;
 use season_book::{Answer, Command, Request};
 use season_cells::KeptCells;
@@ -161,6 +162,13 @@ impl Host {
         ensures { result ≡ number_at self.now.rows.lasts caller }
     {
         self.house.last(caller)
+    }
+
+    /// The player at a place, counted from 0 in ascending order of id; `None` from the end on, and before the season.
+    pub fn player_at(&self, place: usize) -> Option<PlayerId>
+        ensures { result ≡ option_map (λ p. p.id) (slice_get (players_in self.now.rows.facts) place) }
+    {
+        self.house.player_at(place)
     }
 
     /// A law: the cells of a host that is not stale are those of its season and its managers: each holds what the rule book
