@@ -82,8 +82,14 @@ module _ (K : Type 0) (tells serves : K → Type 0) (holds passes : K → Map �
       (IsGoing fixture minutes all (number + 1) behind rows (sent + more) before)
       (λ s m b on done after status new rows_on. on after status new
       (subst (λ (xs : List EventRow). PlaysOn fixture number sheet xs sent before after status m new) (sym is)
-      (inr (more, behind, b, subst (λ (x : Option (List ℕ)). DoesRow fixture number one sheet behind x before (Ok more) m b) same
-      (subst (λ (x : Option (List ℕ)). DoesRow fixture number one sheet behind here x (Ok more) m b) still done), rows_on))))
+      (inr (
+        more,
+        behind,
+        b,
+        subst (λ (x : Option (List ℕ)). DoesRow fixture number one sheet behind x before (Ok more) m b) same
+            (subst (λ (x : Option (List ℕ)). DoesRow fixture number one sheet behind here x (Ok more) m b) still done),
+        rows_on,
+      ))))
 
   pub going_stop : (fixture minutes number sent status : ℕ) (all rest rows : List EventRow) (one : EventRow) (sheet behind : Sheet) (before here after : Option (List ℕ)) (first mid last : Kept K)
       → rest ≡ one ∷ rows → here ≡ before

@@ -54,9 +54,7 @@ pub(crate) fn row_done<W: Sink, C: Clock, K: Keeper, L: Ledger>(
             inserted(alloc, number, *place, *event, events, output)
         }
         EventRow::Remove { place } => removed(alloc, number, *place, events, output),
-        EventRow::Send => send_changed(
-            alloc, host, fixture, events, output, clock, keeper, steps,
-        ),
+        EventRow::Send => send_changed(alloc, host, fixture, events, output, clock, keeper, steps),
     }
 }
 

@@ -7,13 +7,10 @@ ghost use Rattle.fpl_events.specs.Telling.{TellsRowFault, refused_text, row_text
 
 use event_sheet::RowFault;
 use fpl_asking::print;
-use fpl_asking::status::{DONE, MEMORY, WRONG_ROW};
+use fpl_asking::status::{DONE, MEMORY, REFUSED_ROW, WRONG_ROW};
 use fpl_base::Sink;
 use match_events::EventRule;
 use std::alloc::{AllocError, Global};
-
-/// The status of a row that the events refuse; its number and the rule's are written.
-const ROW_REFUSED: u8 = 14;
 
 /// Tells why there are no rows, and answers the exit status.
 pub fn unplayed<W: Sink>(alloc: Global, fault: RowFault, output: &mut W) -> u8
@@ -44,7 +41,7 @@ pub(crate) fn refused<W: Sink>(alloc: Global, row: usize, rule: EventRule, outpu
     ensures write { result ≡ 3 → Rose (W.faults output.old) (W.faults output.new) }
 {
     match refused_line(alloc, row, rule.number()) {
-        Ok(text) => print(output, text.as_bytes(), ROW_REFUSED),
+        Ok(text) => print(output, text.as_bytes(), REFUSED_ROW),
         Err(AllocError) => MEMORY,
     }
 }
