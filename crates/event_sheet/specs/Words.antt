@@ -1,8 +1,7 @@
 -- How the fields of a row spell an event.
-use Rattle.std.specs.Prelude.{◌≡◌, ◌≤◌, ℕ, false, List, Option, Some, None, codes, length}
+use Rattle.std.specs.Prelude.{◌≡◌, ◌≤◌, ℕ, List, Option, Some, None, codes, length}
 use Rattle.std.specs.Fmt.{decimal}
 use Rattle.csv.specs.Records.{field_at}
-use Rattle.match_events.specs.Events.{is_start}
 use Rattle.match_events.specs.declared.event.Event.{Event}
 use Rattle.match_events.specs.declared.event.EventKind.{EventKind}
 use Rattle.match_events.specs.declared.event.EventKind.TheVariants as kind

@@ -1,4 +1,4 @@
-use Rattle.std.proofs.Common.{ap, Bor, List, ℕ, ◌≡◌, ◌+◌, ◌∙◌, sym, refl, rules, inl, inr, true, Some, ◌∷◌, [], ◌++◌, length, length-append, arith}
+use Rattle.std.proofs.Common.{ap, Bor, List, ℕ, ◌≡◌, ◌∙◌, sym, refl, rules, inl, inr, true, Some, ◌∷◌, [], ◌++◌, length-append, arith}
 use Rattle.std.specs.Result.{is_ok}
 use Rattle.std.proofs.lemmas.List.Sums.{fold_push}
 use Rattle.csv.specs.declared.reader.ReaderBuilder.{ReaderBuilder}
@@ -8,8 +8,7 @@ use Rattle.csv.specs.declared.parser.State.TheVariants as st
 use Rattle.csv.proofs.ReadFacts.{rows-end, rows-more}
 use Rattle.fpl_reports.specs.Rows.{AddAll}
 use Rattle.fpl_reports.proofs.RowLists.{AddAll-more, one_longer}
-use Rattle.event_sheet.specs.Rows.{Adds, AreDoable, IsDoable, Spells, events_after, events_behind}
-use Rattle.event_sheet.specs.declared.row.EventRow.{EventRow}
+use Rattle.event_sheet.specs.Rows.{Adds, IsDoable, events_after, events_behind}
 use Rattle.event_sheet.proofs.RowLemmas.{after_small, doable-push}
 use Rattle.event_sheet.proofs.rows.event_rows.Goals as goal
 
