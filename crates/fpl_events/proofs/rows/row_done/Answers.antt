@@ -5,13 +5,13 @@ use Rattle.fpl_events.proofs.rows.row_done.Goals as goal
 pub returns-in-Insert-clause-done : goal.returns-in-Insert-clause-done
 returns-in-Insert-clause-done g c =
     let kept : Kept _ = record { host = c.args.host.now; moments = g.C.Clock.left c.args.clock.now; failed = g.K.Keeper.faults c.args.keeper.now; keeper = c.args.keeper.now } in
-    row_inserts _ g.K.Keeper.tells g.K.Keeper.serves g.K.Keeper.holds g.K.Keeper.passes c.args.fixture c.args.number c.in-Insert.place.now c.in-Insert.event.now c.args.row.now c.args.events.now c.inserted.new.events
+    row_inserts _ g.K.Keeper.tells g.K.Keeper.serves g.K.Keeper.holds g.K.Keeper.passes c.args.fixture c.args.number c.in-Insert.place c.in-Insert.event c.args.row.now c.args.events.now c.inserted.new.events
     (g.W.Sink.taken c.args.output.now) (g.W.Sink.taken c.inserted.new.output) c.inserted.result kept c.in-Insert.is c.inserted.ensures.done
 
 pub returns-in-Remove-clause-done : goal.returns-in-Remove-clause-done
 returns-in-Remove-clause-done g c =
     let kept : Kept _ = record { host = c.args.host.now; moments = g.C.Clock.left c.args.clock.now; failed = g.K.Keeper.faults c.args.keeper.now; keeper = c.args.keeper.now } in
-    row_removes _ g.K.Keeper.tells g.K.Keeper.serves g.K.Keeper.holds g.K.Keeper.passes c.args.fixture c.args.number c.in-Remove.place.now c.args.row.now c.args.events.now c.removed.new.events
+    row_removes _ g.K.Keeper.tells g.K.Keeper.serves g.K.Keeper.holds g.K.Keeper.passes c.args.fixture c.args.number c.in-Remove.place c.args.row.now c.args.events.now c.removed.new.events
     (g.W.Sink.taken c.args.output.now) (g.W.Sink.taken c.removed.new.output) c.removed.result kept c.in-Remove.is c.removed.ensures.done
 
 pub returns-in-Send-clause-done : goal.returns-in-Send-clause-done
