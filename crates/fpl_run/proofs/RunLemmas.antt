@@ -74,3 +74,4 @@ no_memory K tells serves holds passes faults (Some (order.Serve key port clients
 no_memory K tells serves holds passes faults (Some (order.Load key store folder split profile)) old = (inl (load_fault.Memory, tt, (refl, refl), refl, refl), refl, refl)
 no_memory K tells serves holds passes faults (Some (order.Report key store shown)) old = (inr (refl, (fault.Memory, refl, holds_still K tells serves holds passes old.keeper, (refl, refl))), refl, refl, refl)
 no_memory K tells serves holds passes faults (Some (order.Generate seed store)) old = (inr (refl, (fault.Memory, refl, holds_still K tells serves holds passes old.keeper, (refl, refl))), refl, refl, refl, refl)
+no_memory K tells serves holds passes faults (Some (order.Events key store fixture minutes)) old = (inr (inr (inr refl), refl, refl, refl), refl, refl)

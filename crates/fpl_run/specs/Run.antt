@@ -12,6 +12,7 @@ use Rattle.score_sheet.specs.Sheets.{Scores, HasWrongRow}
 use Rattle.fpl_serving.specs.Pipe.{Pipes}
 use Rattle.fpl_requests.specs.Requests.{Generates, Loads, Reports}
 use Rattle.fpl_serving.specs.Serve.{DoorState, Serves}
+use Rattle.fpl_run.specs.Events.{Recorded}
 
 -- the text for words that are not read
 abbrev pub not_read_text : List ℕ
@@ -104,5 +105,8 @@ RunsAs tells serves holds passes faults (Some (order.Report key store shown)) ol
 RunsAs tells serves holds passes faults (Some (order.Generate seed store)) old new status =
     Generates tells serves holds passes faults old.keeper new.keeper seed old.moments old.taken new.taken status
     × (new.moments ≡ old.moments) × LeavesInput old new × LeavesDoors old new × LeavesFiles old new
+RunsAs tells serves holds passes faults (Some (order.Events key store fixture minutes)) old new status =
+    Recorded tells serves holds passes faults old.keeper new.keeper key fixture minutes old.left new.left old.moments new.moments old.taken new.taken status
+    × LeavesDoors old new × LeavesFiles old new
 RunsAs tells serves holds passes faults None old new status =
     IsUnread old.taken new.taken status × LeavesInput old new × LeavesHost old new

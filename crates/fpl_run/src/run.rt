@@ -6,6 +6,7 @@ ghost use Rattle.fpl_words.specs.Orders.{ordered};
 ghost use Rattle.fpl_serving.specs.Serve.{doors_as};
 ghost use Rattle.fpl_run.specs.Run.{Ends, IsScoreDue, RunsAs, connections_in};
 
+use crate::events::events;
 use crate::score::{Halt, score_due};
 use fpl_asking::print;
 use fpl_asking::status::{MEMORY, READ_FAULT, WORDS};
@@ -95,6 +96,16 @@ pub fn run<S: Source, W: Sink, C: Clock, K: Keeper, D: Doors, F: Shelf, L: Ledge
             report(alloc, &key, what, output, clock, keeper, steps)
         }
         Ok(Words::Generate { seed, .. }) => generate(alloc, seed, output, keeper, steps),
+        Ok(
+            Words::Events {
+                key,
+                fixture,
+                length: minutes,
+                ..
+            },
+        ) => events(
+            alloc, &key, fixture, minutes, input, output, clock, keeper, steps,
+        ),
         Err(WordFault::Unread) => print(output, NOT_READ.as_bytes(), WORDS),
         Err(WordFault::Memory) => MEMORY,
     }

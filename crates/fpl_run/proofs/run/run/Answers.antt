@@ -42,6 +42,12 @@ returns-in-Ok-Generate-clause-runs g c =
     let said = subst (λ (w : Words). ordered c.args.words.now ≡ Some w) one.field-0-is one.ensures.ordered in
     runs_as _ g.K.Keeper.tells g.K.Keeper.serves g.K.Keeper.holds g.K.Keeper.passes g.K.Keeper.faults (ordered c.args.words.now) (order.Generate one.seed one.field-0-1) _ _ _ said (c.generate.ensures.generates _, refl, refl, refl, refl)
 
+pub returns-in-Ok-Events-clause-runs : goal.returns-in-Ok-Events-clause-runs
+returns-in-Ok-Events-clause-runs g c =
+    let one = c.in-Ok-Events in
+    let said = subst (λ (w : Words). ordered c.args.words.now ≡ Some w) one.field-0-is one.ensures.ordered in
+    runs_as _ g.K.Keeper.tells g.K.Keeper.serves g.K.Keeper.holds g.K.Keeper.passes g.K.Keeper.faults (ordered c.args.words.now) (order.Events one.key one.field-0-1 one.fixture one.minutes) _ _ _ said (c.events.ensures.recorded, refl, refl)
+
 pub returns-in-Err-Unread-clause-runs : goal.returns-in-Err-Unread-clause-runs
 returns-in-Err-Unread-clause-runs g c =
     runs_none _ g.K.Keeper.tells g.K.Keeper.serves g.K.Keeper.holds g.K.Keeper.passes g.K.Keeper.faults (ordered c.args.words.now) _ _ _ (c.in-Err-Unread.ensures.ordered c.in-Err-Unread.field-0-is)
