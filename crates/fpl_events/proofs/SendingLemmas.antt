@@ -1,5 +1,5 @@
 -- Lines that are sent one after another.
-use Rattle.std.proofs.Common.{◌≡◌, ◌+◌, ◌<◌, ◌≤◌, drop, get_or, ◌⊎◌, ◌∙◌, Bool, true, false, ℕ, List, [], ◌∷◌, length, Option, None, Some, inl, inr, ap, arith, refl, sym, subst}
+use Rattle.std.proofs.Common.{◌≡◌, ◌+◌, ◌<◌, ◌≤◌, drop, get_or, ◌⊎◌, ◌∙◌, Bool, true, false, ℕ, List, [], ◌∷◌, length, Option, inl, inr, ap, arith, refl, sym, subst}
 use Rattle.std.specs.Prelude.{Ok, Err, Result}
 use Rattle.std.proofs.lemmas.List.{drop_more}
 use Rattle.fpl_base.specs.Causes.{Rose}
@@ -18,7 +18,7 @@ use Rattle.fpl_desk.proofs.KeptLemmas.{leads_same}
 use Rattle.fpl_asking.proofs.AskingLemmas.{leads_then}
 use Rattle.fpl_asking.specs.Asking.{IsHeard}
 use Rattle.fpl_asking.specs.Printing.{EndsBy}
-use Rattle.fpl_events.specs.Sending.{GoesOn, IsSent, SendsAll, SendsChanged, SendsOn, is_done, line_command, next_number, sent_of}
+use Rattle.fpl_events.specs.Sending.{IsSent, SendsAll, SendsChanged, SendsOn, is_done, line_command, next_number, sent_of}
 
 -- a count that rose later rose since
 pub rose_since : (before between now : ℕ) → before ≤ between → Rose between now → Rose before now

@@ -1,7 +1,7 @@
-use Rattle.std.proofs.Common.{◌≡◌, ◌<◌, ◌+◌, ◌∙◌, ℕ, List, ◌∷◌, drop, length, ap, arith, refl, subst, sym}
+use Rattle.std.proofs.Common.{◌≡◌, ◌+◌, ◌∙◌, ℕ, List, drop, length, ap, arith, refl, subst, sym}
 use Rattle.std.specs.Prelude.{Err, Result}
 use Rattle.std.proofs.lemmas.List.{drop_all}
-use Rattle.event_sheet.specs.Rows.{AreDoable, IsDoable, events_after}
+use Rattle.event_sheet.specs.Rows.{AreDoable, IsDoable}
 use Rattle.event_sheet.specs.declared.row.EventRow.{EventRow}
 use Rattle.match_events.specs.Sheets.{Sheet}
 use Rattle.fpl_desk.specs.Kept.{Kept}
