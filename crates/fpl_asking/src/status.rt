@@ -41,3 +41,6 @@ pub const REFUSED: u8 = 12;
 
 /// The host refused a request: the number of the rule, or that something is not there, is written.
 pub const DECLINED: u8 = 13;
+
+/// A row of the input orders what a rule refuses; its number and the rule's are written.
+pub const REFUSED_ROW: u8 = 14;

@@ -16,6 +16,11 @@ use Rattle.fpl_loading.specs.Loading.{IsLoad}
 use Rattle.fpl_loading.specs.declared.files.LoadFault.{LoadFault}
 use Rattle.fpl_generating.specs.Generating.{IsGenerated}
 use Rattle.fpl_dreaming.specs.Dreaming.{IsDreamed}
+use Rattle.event_sheet.specs.Rows.{ExplainsRows, HasEventRows}
+use Rattle.event_sheet.specs.declared.row.EventRow.{EventRow}
+use Rattle.event_sheet.specs.declared.rows.RowFault.{RowFault}
+use Rattle.fpl_events.specs.Playing.{IsPlayed}
+use Rattle.fpl_events.specs.Telling.{TellsRowFault}
 use Rattle.fpl_serving.specs.Keeping.{IsUnopened, Runs}
 
 -- what is asked leads from each book to one: the keeper is not read again on the way
@@ -59,6 +64,14 @@ abbrev pub Dreams : {K : Type 0} → (K → Type 0) → (K → Type 0) → (K �
     → Option (List ℕ) → Option (List ℕ) → ℕ → Type 0
 Dreams tells serves holds passes faults old new key gameweek moments later before after status =
     RunsThrough tells serves holds passes faults old new key moments later before after status (IsDreamed gameweek before after status)
+
+-- a run of `events`: a row of the bytes is wrong, which is told, and nothing was opened; or they have rows, and these were done
+abbrev pub Plays : {K : Type 0} → (K → Type 0) → (K → Type 0) → (K → Map → Type 0) → (K → Map → Type 0) → (K → ℕ) → K → K → List ℕ → ℕ → ℕ → List ℕ
+    → Option Moments → Option Moments → Option (List ℕ) → Option (List ℕ) → ℕ → Type 0
+Plays tells serves holds passes faults old new key fixture minutes bytes moments later before after status =
+    ((why : RowFault) × ExplainsRows minutes bytes why × TellsRowFault why status before after × (new ≡ old) × (later ≡ moments))
+    ⊎ ((rows : List EventRow) × HasEventRows minutes bytes rows
+    × RunsThrough tells serves holds passes faults old new key moments later before after status (IsPlayed fixture minutes rows before after status))
 
 -- the operator of a made-up season has this key
 abbrev pub made_up_key : List ℕ

@@ -1,16 +1,20 @@
 // The commands that ask requests of a host in this process.
-ghost use Rattle.std.specs.Prelude.{◌≡◌, ◌⊎◌, All, IfOk, Option};
+ghost use Rattle.std.specs.Prelude.{◌≡◌, ◌<◌, ◌^◌, ◌⊎◌, All, IfOk, Option, length};
 ghost use Rattle.fpl_base.specs.Causes.{Rose};
 ghost use Rattle.fpl_base.specs.Moments.{Moments};
 ghost use Rattle.season_book.specs.Commands.{IsCommand};
+ghost use Rattle.event_sheet.specs.Rows.{AreDoable};
+ghost use Rattle.fpl_events.specs.Playing.{IsPlayed};
 ghost use Rattle.fpl_generating.specs.Generating.{IsGenerated};
 ghost use Rattle.fpl_loading.specs.Loading.{IsLoad};
-ghost use Rattle.fpl_requests.specs.Requests.{Dreams, Generates, Loads, Reports, RunsThrough, made_up_key, view_of};
+ghost use Rattle.fpl_requests.specs.Requests.{Dreams, Generates, Loads, Plays, Reports, RunsThrough, made_up_key, view_of};
 
+use event_sheet::{EventRow, event_rows};
 use fpl_asking::reported;
 use fpl_asking::status::MEMORY;
 use fpl_base::{Clock, Gw, Keeper, Key, Memory, Profile, Shelf, Sink, Steps, Text};
 use fpl_dreaming::dreamed;
+use fpl_events::{played, unplayed};
 use fpl_generating::generated;
 use fpl_loading::{loaded, ordered_by, unloaded};
 use fpl_serving::unopened;
@@ -146,6 +150,74 @@ fn load_all<W: Sink, C: Clock, K: Keeper, L: Ledger>(
 {
     match Host::open(alloc, keeper, key, steps) {
         Ok(mut host) => loaded(alloc, &mut host, commands, output, clock, keeper, steps),
+        Err(fault) => unopened(alloc, fault, output),
+    }
+}
+
+/// Records a match of so many minutes by the rows of its events, for the operator with this key, and answers the exit
+/// status.
+pub fn play<W: Sink, C: Clock, K: Keeper, L: Ledger>(
+    alloc: Global,
+    key: &Key,
+    fixture: u32,
+    minutes: u8,
+    bytes: &[u8],
+    output: &mut W,
+    clock: &mut C,
+    keeper: &mut K,
+    steps: &mut Steps<L>,
+) -> u8
+    ensures plays { Plays K.tells K.serves K.holds K.passes K.faults keeper.old keeper.new key.now
+        fixture minutes bytes.now (C.left clock.old) (C.left clock.new) (W.taken output.old)
+        (W.taken output.new) result }
+    ensures statuses { (result ≡ 0) ⊎ (result ≡ 3) ⊎ (result ≡ 4) ⊎ (result ≡ 5) ⊎ (result ≡ 6)
+        ⊎ (result ≡ 11) ⊎ (result ≡ 13) ⊎ (result ≡ 14) }
+    ensures write { result ≡ 3 → Rose (W.faults output.old) (W.faults output.new) }
+    ensures keeper { result ≡ 4 → Rose (K.faults keeper.old) (K.faults keeper.new) }
+{
+    match event_rows(alloc, bytes, minutes) {
+        Ok(rows) => play_all(
+            alloc,
+            key,
+            fixture,
+            minutes,
+            rows.as_slice(),
+            output,
+            clock,
+            keeper,
+            steps,
+        ),
+        Err(fault) => unplayed(alloc, fault, output),
+    }
+}
+
+// Does these rows.
+fn play_all<W: Sink, C: Clock, K: Keeper, L: Ledger>(
+    alloc: Global,
+    key: &Key,
+    fixture: u32,
+    minutes: u8,
+    rows: &[EventRow],
+    output: &mut W,
+    clock: &mut C,
+    keeper: &mut K,
+    steps: &mut Steps<L>,
+) -> u8
+    requires doable { AreDoable minutes 0 rows.now }
+    requires few { length rows.now < 2 ^ 32 }
+    ensures plays { RunsThrough K.tells K.serves K.holds K.passes K.faults keeper.old keeper.new
+        key.now (C.left clock.old) (C.left clock.new) (W.taken output.old) (W.taken output.new)
+        result
+        (IsPlayed fixture minutes rows.now (W.taken output.old) (W.taken output.new) result) }
+    ensures statuses { (result ≡ 0) ⊎ (result ≡ 3) ⊎ (result ≡ 4) ⊎ (result ≡ 5) ⊎ (result ≡ 6)
+        ⊎ (result ≡ 13) ⊎ (result ≡ 14) }
+    ensures write { result ≡ 3 → Rose (W.faults output.old) (W.faults output.new) }
+    ensures keeper { result ≡ 4 → Rose (K.faults keeper.old) (K.faults keeper.new) }
+{
+    match Host::open(alloc, keeper, key, steps) {
+        Ok(mut host) => played(
+            alloc, &mut host, fixture, minutes, rows, output, clock, keeper, steps,
+        ),
         Err(fault) => unopened(alloc, fault, output),
     }
 }

@@ -1,3 +1,4 @@
+pub mod Events
 pub mod Input
 pub mod Laws
 pub mod Run

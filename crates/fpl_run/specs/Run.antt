@@ -12,6 +12,7 @@ use Rattle.score_sheet.specs.Sheets.{Scores, HasWrongRow}
 use Rattle.fpl_serving.specs.Pipe.{Pipes}
 use Rattle.fpl_requests.specs.Requests.{Dreams, Generates, Loads, Reports}
 use Rattle.fpl_serving.specs.Serve.{DoorState, Serves}
+use Rattle.fpl_run.specs.Events.{Recorded}
 
 -- the text for words that are not read
 abbrev pub not_read_text : List ℕ
@@ -107,8 +108,9 @@ RunsAs tells serves holds passes faults (Some (order.Generate seed store)) old n
 RunsAs tells serves holds passes faults (Some (order.Dream key store gameweek)) old new status =
     Dreams tells serves holds passes faults old.keeper new.keeper key gameweek old.moments new.moments old.taken new.taken status
     × LeavesInput old new × LeavesDoors old new × LeavesFiles old new
-RunsAs tells serves holds passes faults (Some (order.Events key store fixture length)) old new status =
-    IsUnread old.taken new.taken status × LeavesInput old new × LeavesHost old new
+RunsAs tells serves holds passes faults (Some (order.Events key store fixture minutes)) old new status =
+    Recorded tells serves holds passes faults old.keeper new.keeper key fixture minutes old.left new.left old.moments new.moments old.taken new.taken status
+    × LeavesDoors old new × LeavesFiles old new
 RunsAs tells serves holds passes faults (Some (order.Draft key store members)) old new status =
     IsUnread old.taken new.taken status × LeavesInput old new × LeavesHost old new
 RunsAs tells serves holds passes faults None old new status =

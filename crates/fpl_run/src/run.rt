@@ -6,6 +6,7 @@ ghost use Rattle.fpl_words.specs.Orders.{ordered};
 ghost use Rattle.fpl_serving.specs.Serve.{doors_as};
 ghost use Rattle.fpl_run.specs.Run.{Ends, IsScoreDue, RunsAs, connections_in};
 
+use crate::events::events;
 use crate::score::{Halt, score_due};
 use fpl_asking::print;
 use fpl_asking::status::{MEMORY, READ_FAULT, WORDS};
@@ -98,8 +99,17 @@ pub fn run<S: Source, W: Sink, C: Clock, K: Keeper, D: Doors, F: Shelf, L: Ledge
         Ok(Words::Dream { key, gameweek, .. }) => {
             dream(alloc, &key, gameweek, output, clock, keeper, steps)
         }
-        // Neither of these is done yet.
-        Ok(Words::Events { .. }) => print(output, NOT_READ.as_bytes(), WORDS),
+        Ok(
+            Words::Events {
+                key,
+                fixture,
+                length: minutes,
+                ..
+            },
+        ) => events(
+            alloc, &key, fixture, minutes, input, output, clock, keeper, steps,
+        ),
+        // This is not done yet.
         Ok(Words::Draft { .. }) => print(output, NOT_READ.as_bytes(), WORDS),
         Err(WordFault::Unread) => print(output, NOT_READ.as_bytes(), WORDS),
         Err(WordFault::Memory) => MEMORY,

@@ -52,15 +52,14 @@ pub returns-in-Ok-Events-clause-runs : goal.returns-in-Ok-Events-clause-runs
 returns-in-Ok-Events-clause-runs g c =
     let one = c.in-Ok-Events in
     let said = subst (λ (w : Words). ordered c.args.words.now ≡ Some w) one.field-0-is one.ensures.ordered in
-    runs_as _ g.K.Keeper.tells g.K.Keeper.serves g.K.Keeper.holds g.K.Keeper.passes g.K.Keeper.faults (ordered c.args.words.now) (order.Events one.field-0-0 one.field-0-1 one.field-0-2 one.field-0-3) _ _ _ said
-    ((not_read_ends _ _ _ _ (c.as_bytes.ensures.value) c.print.ensures.printed, unread_statuses _ c.print.ensures.statuses), refl, (refl, refl, refl, refl))
+    runs_as _ g.K.Keeper.tells g.K.Keeper.serves g.K.Keeper.holds g.K.Keeper.passes g.K.Keeper.faults (ordered c.args.words.now) (order.Events one.key one.field-0-1 one.fixture one.minutes) _ _ _ said (c.events.ensures.recorded, refl, refl)
 
 pub returns-in-Ok-Draft-clause-runs : goal.returns-in-Ok-Draft-clause-runs
 returns-in-Ok-Draft-clause-runs g c =
     let one = c.in-Ok-Draft in
     let said = subst (λ (w : Words). ordered c.args.words.now ≡ Some w) one.field-0-is one.ensures.ordered in
     runs_as _ g.K.Keeper.tells g.K.Keeper.serves g.K.Keeper.holds g.K.Keeper.passes g.K.Keeper.faults (ordered c.args.words.now) (order.Draft one.field-0-0 one.field-0-1 one.field-0-2) _ _ _ said
-    ((not_read_ends _ _ _ _ (c.as_bytes-2.ensures.value) c.print-2.ensures.printed, unread_statuses _ c.print-2.ensures.statuses), refl, (refl, refl, refl, refl))
+    ((not_read_ends _ _ _ _ (c.as_bytes.ensures.value) c.print.ensures.printed, unread_statuses _ c.print.ensures.statuses), refl, (refl, refl, refl, refl))
 
 pub returns-in-Err-Unread-clause-runs : goal.returns-in-Err-Unread-clause-runs
 returns-in-Err-Unread-clause-runs g c =

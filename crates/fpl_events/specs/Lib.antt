@@ -1,0 +1,3 @@
+pub mod Playing
+pub mod Sending
+pub mod Telling

@@ -1,0 +1,16 @@
+-- A run of `events`.
+use Rattle.std.specs.Prelude.{◌≡◌, ◌≤◌, ◌<◌, ◌⊎◌, ℕ, List, Option, IfSome, length}
+use Rattle.std.specs.Io.KnownBytes.{Consumes, IsAtEnd}
+use Rattle.fpl_base.specs.Keeping.{Map}
+use Rattle.fpl_base.specs.Moments.{Moments}
+use Rattle.fpl_requests.specs.Requests.{Plays}
+
+-- its input, which has 65,536 bytes at most, was read to its end, and its rows were done; or the input has more (10), or failed
+-- (1), or memory was wanting for it (6), and then nothing was written and nothing asked
+abbrev pub Recorded : {K : Type 0} → (K → Type 0) → (K → Type 0) → (K → Map → Type 0) → (K → Map → Type 0) → (K → ℕ) → K → K → List ℕ → ℕ → ℕ
+    → Option (List ℕ) → Option (List ℕ) → Option Moments → Option Moments → Option (List ℕ) → Option (List ℕ) → ℕ → Type 0
+Recorded tells serves holds passes faults old new key fixture minutes left now moments later before after status =
+    ((bytes : List ℕ) × Consumes left now bytes × IsAtEnd now × (length bytes ≤ 65536)
+    × Plays tells serves holds passes faults old new key fixture minutes bytes moments later before after status)
+    ⊎ ((((status ≡ 10) × IfSome left (λ bytes. 65536 < length bytes)) ⊎ (status ≡ 1) ⊎ (status ≡ 6))
+    × (after ≡ before) × (new ≡ old) × (later ≡ moments))

@@ -1,0 +1,2 @@
+# 65,536 bytes without a row
+print('\n' * 65535)
