@@ -1,5 +1,5 @@
 // Work over the keeper of a file, which names none of its types.
-use crate::keeper::{file_at, file_behind};
+use crate::keeper::{FileKeeper, file_at, file_behind};
 use fpl_base::{Keeper, Text};
 use sqlite::{File, FileStore, Unknown};
 
@@ -17,12 +17,18 @@ pub trait OverKeeper {
 pub fn over_file<W: OverKeeper>(rt: &HostRuntime, path: Text, work: W) -> u8
     requires { W.may work }
 {
-    work.over(&mut file_at(rt, path, Unknown))
+    over(work, file_at(rt, path, Unknown))
 }
 
 /// The same where the store is opened by the first call of the keeper.
 pub fn over_file_behind<W: OverKeeper>(rt: &HostRuntime, path: Text, work: W) -> u8
     requires { W.may work }
 {
-    work.over(&mut file_behind::<FileStore<File>>(rt, path))
+    over(work, file_behind(rt, path))
+}
+
+fn over<W: OverKeeper>(work: W, mut keeper: FileKeeper<'_, FileStore<File>>) -> u8
+    requires { W.may work }
+{
+    work.over::<FileKeeper<'_, FileStore<File>>>(&mut keeper)
 }

@@ -1,4 +1,5 @@
 pub mod CourseLemmas
+pub mod OnceLemmas
 pub mod PipeLemmas
 pub mod ServeLemmas
 pub mod WholeLemmas

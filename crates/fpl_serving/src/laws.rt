@@ -1,8 +1,14 @@
-// A law on the definitions.
+// Laws on the definitions.
+ghost use Rattle.std.specs.Prelude.{Option, Some};
+ghost use Rattle.fpl_replies.specs.Replying.{IsReplyUntil, Served};
+ghost use Rattle.fpl_replies.specs.Whole.{IsKeptReply};
+ghost use Rattle.fpl_serving.specs.Once.{ServesActOnce, SessionsActOnce};
 ghost use Rattle.fpl_serving.specs.Whole.{PipesAreWhole, ServesAreWhole};
 
 use fpl_base::Keeper;
-use fpl_replies::replies_are_whole;
+use fpl_desk::sessions_answer;
+use fpl_replies::{messages_act_once, replies_are_whole};
+use fpl_session::Answering;
 use season_lawful::lawful_books_are_whole;
 
 /// Over a keeper that tells, and serves to the end, a run of `pipe` or `serve` from a lawful book has no reply of status
@@ -14,4 +20,43 @@ pub fn lawful_runs_are_whole<K: Keeper>()
     // The laws on which it stands, for the prover.
     replies_are_whole();
     lawful_books_are_whole::<K>();
+}
+
+/// How messages are replied over a keeper that tells and serves.
+#[derive(Clone, Copy)]
+pub struct RepliesKept;
+
+impl Answering for RepliesKept {
+    ghost State = { Served };
+
+    ghost one = { IsKeptReply };
+
+    ghost other = { IsKeptReply };
+}
+
+/// How they are replied over any keeper, up to the first for which the keeper is read again.
+#[derive(Clone, Copy)]
+pub struct RepliesUntil;
+
+impl Answering for RepliesUntil {
+    ghost State = { Option Served };
+
+    ghost one = { IsReplyUntil };
+
+    ghost other = { IsReplyUntil };
+}
+
+/// A law on the definitions: over one session of `pipe`, and over all connections of one run of `serve`, in turn, no command
+/// acts twice, and none is left out, on whichever connections its messages come. So it is over a keeper that tells and
+/// serves, and over any keeper in a run without a message for which it is read again.
+pub fn runs_act_once()
+    ensures pipe { SessionsActOnce IsKeptReply (λ s. s) }
+    ensures serve { ServesActOnce IsKeptReply (λ s. s) }
+    ensures pipe_until { SessionsActOnce IsReplyUntil (λ s. Some s) }
+    ensures serve_until { ServesActOnce IsReplyUntil (λ s. Some s) }
+{
+    // The laws on which it stands, for the prover.
+    messages_act_once();
+    sessions_answer::<RepliesKept>();
+    sessions_answer::<RepliesUntil>();
 }

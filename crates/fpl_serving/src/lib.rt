@@ -8,5 +8,5 @@ pub mod pipe;
 pub mod serve;
 mod talk;
 
-pub use laws::lawful_runs_are_whole;
+pub use laws::{RepliesKept, RepliesUntil, lawful_runs_are_whole, runs_act_once};
 pub use opening::unopened;
