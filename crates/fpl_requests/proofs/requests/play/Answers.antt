@@ -1,4 +1,4 @@
-use Rattle.std.proofs.Common.{◌≡◌, ◌<◌, ◌^◌, List, inl, inr, length, refl, subst, sym}
+use Rattle.std.proofs.Common.{◌<◌, ◌^◌, List, inl, inr, length, refl, subst, sym}
 use Rattle.event_sheet.specs.Rows.{AreDoable}
 use Rattle.event_sheet.specs.declared.row.EventRow.{EventRow}
 use Rattle.fpl_events.specs.Playing.{IsPlayed}
