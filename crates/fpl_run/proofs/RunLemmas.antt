@@ -10,6 +10,7 @@ use Rattle.fpl_words.specs.declared.words.Words.TheVariants as order
 use Rattle.season_opening.specs.declared.loading.OpenFault.TheVariants as fault
 use Rattle.fpl_loading.specs.declared.files.LoadFault.TheVariants as load_fault
 use Rattle.fpl_serving.proofs.PipeLemmas.{holds_still}
+use Rattle.fpl_run.proofs.Taken.{none_taken}
 use Rattle.fpl_run.specs.Run.{Ends, IsNotReadDue, IsScoreDue, IsUnread, LeavesHost, LeavesInput, Outside, RunsAs, not_read_text, row_text}
 
 -- one write of the text for words that are no command
@@ -64,6 +65,7 @@ no_memory K tells serves holds passes faults (Some (order.Score profile)) old = 
   record {
     due = score_out profile old.left old.taken;
     end = λ is. absurd (omega (arith, is));
+    taken = none_taken 65537 old.left;
     statuses = inr (inr (inr (inl refl)));
     memory = λ _. kept_none old.taken;
   },

@@ -9,6 +9,7 @@ use Rattle.fpl_base.specs.Moments.{Moments}
 use Rattle.fpl_words.specs.declared.words.Words.{Words}
 use Rattle.fpl_words.specs.declared.words.Words.TheVariants as order
 use Rattle.score_sheet.specs.Sheets.{Scores, HasWrongRow}
+use Rattle.fpl_run.specs.Input.{TakesAtMost}
 use Rattle.fpl_serving.specs.Pipe.{Pipes}
 use Rattle.fpl_requests.specs.Requests.{Dreams, Generates, Loads, Reports}
 use Rattle.fpl_serving.specs.Serve.{DoorState, Serves}
@@ -54,11 +55,12 @@ pub record Outside (K : Type 0) : Type 0 where
   pub doors : DoorState
   pub files : Option (List ℕ → List ℕ)
 
--- a run of `score`: it ended as is due for the bytes that the input had, read it to its end where the status is 0, and wrote
--- nothing where memory ran out
+-- a run of `score`: it ended as is due for the bytes that the input had, read it to its end where the status is 0, never took
+-- more of it than 65,537 bytes, and wrote nothing where memory ran out
 pub record Scored (profile : Profile) (left now before after : Option (List ℕ)) (status : ℕ) : Type 0 where
   pub due : IfSome left (λ bytes. Ends (IsScoreDue profile bytes) status before after)
   pub end : status ≡ 0 → IsAtEnd now
+  pub taken : TakesAtMost 65537 left now
   pub statuses : (status ≡ 0) ⊎ (status ≡ 1) ⊎ (status ≡ 3) ⊎ (status ≡ 6) ⊎ (status ≡ 10) ⊎ (status ≡ 11)
   pub memory : status ≡ 6 → Keeps before after
 

@@ -4,6 +4,7 @@ ghost use Rattle.std.specs.Io.KnownBytes.{IsAtEnd, Keeps};
 ghost use Rattle.fpl_base.specs.Causes.{Rose};
 ghost use Rattle.fpl_words.specs.Orders.{ordered};
 ghost use Rattle.fpl_serving.specs.Serve.{doors_as};
+ghost use Rattle.fpl_run.specs.Input.{TakesAtMost};
 ghost use Rattle.fpl_run.specs.Run.{Ends, IsScoreDue, RunsAs, connections_in};
 
 use crate::events::events;
@@ -122,6 +123,7 @@ fn score<S: Source, W: Sink>(alloc: Global, profile: Profile, input: &mut S, out
         (λ bytes. Ends (IsScoreDue profile bytes) result (W.taken output.old)
         (W.taken output.new)) }
     ensures end { result ≡ 0 → IsAtEnd (S.left input.new) }
+    ensures taken { TakesAtMost 65537 (S.left input.old) (S.left input.new) }
     ensures statuses { (result ≡ 0) ⊎ (result ≡ 1) ⊎ (result ≡ 3) ⊎ (result ≡ 6) ⊎ (result ≡ 10)
         ⊎ (result ≡ 11) }
     ensures read { result ≡ 1 → Rose (S.faults input.old) (S.faults input.new) }

@@ -2,6 +2,7 @@
 ghost use Rattle.std.specs.Prelude.{◌≡◌, ◌≤◌, ◌<◌, ◌⊎◌, IfOk, IfSome, length, string_bytes};
 ghost use Rattle.std.specs.Io.KnownBytes.{IsAtEnd};
 ghost use Rattle.fpl_base.specs.Causes.{Rose};
+ghost use Rattle.fpl_run.specs.Input.{TakesAtMost};
 ghost use Rattle.fpl_run.specs.Run.{IsScoreDue, row_text};
 
 use crate::input::{InputFault, read_all};
@@ -43,6 +44,7 @@ pub fn score_due<S: Source>(alloc: Global, profile: Profile, input: &mut S) -> R
     ensures end { IfOk result (λ due. due.status ≡ 0 → IsAtEnd (S.left input.new)) }
     ensures statuses { IfOk result
         (λ due. (due.status ≡ 0) ⊎ (due.status ≡ 11) ⊎ (due.status ≡ 10)) }
+    ensures taken { TakesAtMost 65537 (S.left input.old) (S.left input.new) }
     ensures read { result ≡ Err Halt.Read → Rose (S.faults input.old) (S.faults input.new) }
     ensures later { S.faults input.old ≤ S.faults input.new }
 {

@@ -10,7 +10,7 @@ returns-in-Ok-Score-clause-runs g c =
     let one = c.in-Ok-Score in
     let said = subst (λ (w : Words). ordered c.args.words.now ≡ Some w) one.field-0-is one.ensures.ordered in
     runs_as _ g.K.Keeper.tells g.K.Keeper.serves g.K.Keeper.holds g.K.Keeper.passes g.K.Keeper.faults (ordered c.args.words.now) (order.Score one.profile) _ _ _ said
-    (record { due = c.score.ensures.score; end = c.score.ensures.end; statuses = c.score.ensures.statuses; memory = c.score.ensures.memory }, (refl, refl, refl, refl))
+    (record { due = c.score.ensures.score; end = c.score.ensures.end; taken = c.score.ensures.taken; statuses = c.score.ensures.statuses; memory = c.score.ensures.memory }, (refl, refl, refl, refl))
 
 pub returns-in-Ok-Pipe-clause-runs : goal.returns-in-Ok-Pipe-clause-runs
 returns-in-Ok-Pipe-clause-runs g c =
