@@ -4,9 +4,7 @@
 mod keeper;
 mod opened;
 mod opening;
-mod over;
 
 pub use keeper::{FileKeeper, Reopening, file_at, file_behind};
 pub use opened::Opened;
 pub use opening::{Opening, StoreFile};
-pub use over::{OverKeeper, over_file, over_file_behind};

@@ -11,15 +11,16 @@ ghost use Rattle.std.specs.Prelude.{◌≡◌, None};
 use crate::causes::{tell, tell_port, tell_store};
 use crate::folder::pages_in;
 use crate::key_file::keyed;
-use file_keeper::{OverKeeper, over_file, over_file_behind};
+use file_keeper::{FileKeeper, file_at, file_behind};
 use fpl_asking::status::{DOORS, KEEPER, MEMORY, SHELF};
-use fpl_base::{Doors, Keeper, Memory, Shelf, Text};
+use fpl_base::{Doors, Memory, Shelf, Text};
 use fpl_doors::Listening;
 use fpl_gathering::Gathering;
 use fpl_run::run_here;
 use fpl_shelves::Disk;
 use fpl_words::{WordFault, Words, words_of};
 use outside_forms::Quiet;
+use sqlite::{File, FileStore, Unknown};
 use std::alloc::Global;
 use std::io;
 use std::process::ExitCode;
@@ -146,14 +147,8 @@ fn loading(rt: &HostRuntime, alloc: Global, words: &[Text], store: Text) -> u8 {
     let Ok(path) = Text::new(alloc, store.text()) else {
         return MEMORY;
     };
-    let work = Ran {
-        rt,
-        alloc,
-        words,
-        doors: &mut Quiet,
-        shelf: &mut disk,
-    };
-    let status = over_file_behind(rt, store, work);
+    let keeper = file_behind(rt, store);
+    let status = over_file(rt, alloc, words, keeper, &mut Quiet, &mut disk);
     if status == KEEPER {
         tell_store(rt, path.text());
     }
@@ -163,28 +158,6 @@ fn loading(rt: &HostRuntime, alloc: Global, words: &[Text], store: Text) -> u8 {
         }
     }
     status
-}
-
-// A run with these doors and this shelf, over a keeper of any kind.
-#[derive(Drop)]
-struct Ran<'a, D: Doors, F: Shelf> {
-    rt: &'a HostRuntime,
-    alloc: Global,
-    words: &'a [Text],
-    doors: &'a mut D,
-    shelf: &'a mut F,
-}
-
-impl<'a, D: Doors, F: Shelf> OverKeeper for Ran<'a, D, F> {
-    ghost use Rattle.std.specs.Prelude.{◌≡◌, None};
-
-    ghost may = { λ _. (d : D) → D.coming d ≡ None };
-
-    fn over<K: Keeper>(self, keeper: &mut K) -> u8 {
-        run_here(
-            self.rt, self.alloc, self.words, keeper, self.doors, self.shelf,
-        )
-    }
 }
 
 // Runs with these doors and this shelf, over a store in this file, or in memory.
@@ -198,34 +171,43 @@ fn kept<D: Doors, F: Shelf>(
 ) -> u8
     requires untold { (d : D) → D.coming d ≡ None }
 {
-    let work = Ran {
-        rt,
-        alloc,
-        words,
-        doors,
-        shelf,
-    };
     match store {
-        Some(path) => stored(rt, alloc, path, work),
-        None => work.over(&mut TreeKeeper::new(alloc)),
+        Some(path) => stored(rt, alloc, words, doors, shelf, path),
+        None => run_here(rt, alloc, words, &mut TreeKeeper::new(alloc), doors, shelf),
     }
 }
 
-// Runs over the store of this path, which is opened first.
+// Runs with these doors and this shelf, over the store of this path.
 fn stored<D: Doors, F: Shelf>(
     rt: &HostRuntime,
     alloc: Global,
+    words: &[Text],
+    doors: &mut D,
+    shelf: &mut F,
     path: Text,
-    work: Ran<'_, D, F>,
 ) -> u8
     requires untold { (d : D) → D.coming d ≡ None }
 {
     let Ok(name) = Text::new(alloc, path.text()) else {
         return MEMORY;
     };
-    let status = over_file(rt, path, work);
+    let status = over_file(rt, alloc, words, file_at(rt, path, Unknown), doors, shelf);
     if status == KEEPER {
         tell_store(rt, name.text());
     }
     status
+}
+
+// Runs over a store in a file, with these doors and this shelf.
+fn over_file<D: Doors, F: Shelf>(
+    rt: &HostRuntime,
+    alloc: Global,
+    words: &[Text],
+    mut keeper: FileKeeper<'_, FileStore<File>>,
+    doors: &mut D,
+    shelf: &mut F,
+) -> u8
+    requires untold { (d : D) → D.coming d ≡ None }
+{
+    run_here(rt, alloc, words, &mut keeper, doors, shelf)
 }
