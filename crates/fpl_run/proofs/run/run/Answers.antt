@@ -64,7 +64,7 @@ returns-in-Ok-Draft-clause-runs g c =
 pub returns-in-Err-Unread-clause-runs : goal.returns-in-Err-Unread-clause-runs
 returns-in-Err-Unread-clause-runs g c =
     runs_none _ g.K.Keeper.tells g.K.Keeper.serves g.K.Keeper.holds g.K.Keeper.passes g.K.Keeper.faults (ordered c.args.words.now) _ _ _ (c.in-Err-Unread.ensures.ordered c.in-Err-Unread.field-0-is)
-    ((not_read_ends _ _ _ _ (c.as_bytes-in-Err-Unread.ensures.value) c.print-in-Err-Unread.ensures.printed, unread_statuses _ c.print.ensures.statuses), refl, (refl, refl, refl, refl))
+    ((not_read_ends _ _ _ _ (c.as_bytes-in-Err-Unread.ensures.value) c.print-in-Err-Unread.ensures.printed, unread_statuses _ c.print-in-Err-Unread.ensures.statuses), refl, (refl, refl, refl, refl))
 
 pub returns-clause-runs : goal.returns-clause-runs
 returns-clause-runs g c = no_memory _ g.K.Keeper.tells g.K.Keeper.serves g.K.Keeper.holds g.K.Keeper.passes g.K.Keeper.faults (ordered c.args.words.now) _
