@@ -10,12 +10,11 @@ ghost use Rattle.season_views.specs.Leagues.{AreIssued, classic_row_since};
 
 use crate::names::name_of;
 use crate::reading::total_held;
-use crate::seen::Seen;
+use crate::seen::{Seen, SeenCells};
 use classic_leagues::{League, table};
 use fpl_base::{EntryId, Gw, ListOf, Memory, Steps};
 use rule_book::{Ranked, tables_are_the_one};
 use season_book::{ShownClassic, ShownRanked};
-use season_graph::SeasonCells;
 use season_ledger::rows_tell;
 use std::alloc::Global;
 use std::sync::ledger::Ledger;
@@ -23,7 +22,7 @@ use std::sync::ledger::Ledger;
 // An entry's row of a league that starts in a gameweek, from which it has a total.
 fn classic_row<L: Ledger>(
     seen: &Seen<L>,
-    cells: &SeasonCells,
+    cells: &SeenCells<L>,
     entry: EntryId,
     start: Gw,
     steps: &mut Steps<L>,
@@ -47,7 +46,7 @@ fn classic_row<L: Ledger>(
 fn classic_rows<L: Ledger>(
     alloc: Global,
     seen: &Seen<L>,
-    cells: &SeasonCells,
+    cells: &SeenCells<L>,
     league: &League,
     steps: &mut Steps<L>,
 ) -> Result<Vec<(EntryId, i32, u32)>, Memory>
@@ -115,7 +114,7 @@ fn classic_named<L: Ledger>(
 pub(crate) fn classic<L: Ledger>(
     alloc: Global,
     seen: &Seen<L>,
-    cells: &SeasonCells,
+    cells: &SeenCells<L>,
     league: &League,
     steps: &mut Steps<L>,
 ) -> Result<ShownClassic, Memory>

@@ -14,12 +14,11 @@ ghost use Rattle.season_views.specs.Entries.{OfEachBook};
 ghost use Rattle.season_views.specs.Reads.{reads_of, ties_of};
 
 use crate::reading::tie_held;
-use crate::seen::Seen;
+use crate::seen::{Seen, SeenCells};
 use cup_rounds::{rounds, rounds_follow};
 use fpl_base::{CupId, ListOf, Memory, Steps};
 use rule_book::{Bracket, Slots};
 use season_book::ShownCup;
-use season_graph::SeasonCells;
 use season_ledger::rows_tell;
 use std::alloc::Global;
 use std::sync::ledger::Ledger;
@@ -38,7 +37,7 @@ fn ties(bracket: &Bracket, round: u8) -> u16
 // Who goes on from each tie of the round after so many rounds, as the cells hold it.
 fn winners_held<L: Ledger>(
     alloc: Global,
-    cells: &SeasonCells,
+    cells: &SeenCells<L>,
     id: CupId,
     bracket: &Bracket,
     round: u8,
@@ -76,7 +75,7 @@ fn is_played<L: Ledger>(seen: &Seen<L>, bracket: &Bracket, round: u8) -> bool
 fn winners_shown<L: Ledger>(
     alloc: Global,
     seen: &Seen<L>,
-    cells: &SeasonCells,
+    cells: &SeenCells<L>,
     id: CupId,
     bracket: &Bracket,
     round: u8,
@@ -115,7 +114,7 @@ fn winners_shown<L: Ledger>(
 pub fn cup<L: Ledger>(
     alloc: Global,
     seen: &Seen<L>,
-    cells: &SeasonCells,
+    cells: &SeenCells<L>,
     id: CupId,
     bracket: &Bracket,
     steps: &mut Steps<L>,

@@ -15,13 +15,12 @@ ghost use Rattle.season_views.specs.Cells.{AreKeptIn};
 ghost use Rattle.season_views.specs.Entries.{OfEachHistory, me_with};
 
 use crate::reading::{score_held, total_held};
-use crate::seen::Seen;
+use crate::seen::{Seen, SeenCells};
 use crate::views::locked_gameweek;
 use fpl_base::{EntryId, Gw, PlayerId, Steps, Tenths};
 use player_prices::selling_price;
 use rule_book::{Pick, Team};
 use season_book::{ShownEntryGameweek, ShownMe, ShownPick};
-use season_graph::SeasonCells;
 use season_ledger::rows_tell;
 use std::sync::ledger::Ledger;
 
@@ -31,7 +30,7 @@ use std::sync::ledger::Ledger;
 /// a counted read, and it reads none of another entry (docs/RULES.md, "A team's score").
 pub fn my_entry<L: Ledger>(
     seen: &Seen<L>,
-    cells: &SeasonCells,
+    cells: &SeenCells<L>,
     entry: EntryId,
     last: u64,
     steps: &mut Steps<L>,
@@ -139,7 +138,7 @@ fn player_in_slot(team: &Team, slot: u8) -> PlayerId
 /// counted read (docs/RULES.md, "A team's score").
 pub fn entry_gameweek<L: Ledger>(
     seen: &Seen<L>,
-    cells: &SeasonCells,
+    cells: &SeenCells<L>,
     entry: u32,
     gameweek: u32,
     steps: &mut Steps<L>,
@@ -161,7 +160,7 @@ pub fn entry_gameweek<L: Ledger>(
 // What an entry's team scored in a locked gameweek; none before its first.
 fn gameweek_of<L: Ledger>(
     seen: &Seen<L>,
-    cells: &SeasonCells,
+    cells: &SeenCells<L>,
     entry: EntryId,
     gameweek: Gw,
     steps: &mut Steps<L>,

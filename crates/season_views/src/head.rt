@@ -14,13 +14,12 @@ ghost use Rattle.season_views.specs.Leagues.{AreIssued};
 
 use crate::names::name_of;
 use crate::reading::head_held;
-use crate::seen::Seen;
+use crate::seen::{Seen, SeenCells};
 use classic_leagues::League;
 use fpl_base::{EntryId, LeagueId, ListOf, Memory, Steps};
 use head_to_head::table;
 use rule_book::{HeadRanked, HeadScore, tables_are_the_one};
 use season_book::{ShownHead, ShownHeadRanked};
-use season_graph::SeasonCells;
 use season_ledger::rows_tell;
 use std::alloc::Global;
 use std::sync::ledger::Ledger;
@@ -28,7 +27,7 @@ use std::sync::ledger::Ledger;
 // A row for each member, by what its cell has of its matches.
 fn head_rows<L: Ledger>(
     alloc: Global,
-    cells: &SeasonCells,
+    cells: &SeenCells<L>,
     id: LeagueId,
     league: &League,
     steps: &mut Steps<L>,
@@ -94,7 +93,7 @@ fn head_named<L: Ledger>(
 pub(crate) fn head<L: Ledger>(
     alloc: Global,
     seen: &Seen<L>,
-    cells: &SeasonCells,
+    cells: &SeenCells<L>,
     id: LeagueId,
     league: &League,
     steps: &mut Steps<L>,

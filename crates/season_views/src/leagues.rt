@@ -8,12 +8,11 @@ ghost use Rattle.season_views.specs.Reads.{reads_of};
 
 use crate::classic::classic;
 use crate::head::head;
-use crate::seen::Seen;
+use crate::seen::{Seen, SeenCells};
 use classic_leagues::League;
 use fpl_base::{LeagueId, Memory, Steps};
 use rule_book::LeagueKind;
 use season_book::Shown;
-use season_graph::SeasonCells;
 use std::alloc::Global;
 use std::sync::ledger::Ledger;
 
@@ -23,7 +22,7 @@ use std::sync::ledger::Ledger;
 pub fn league<L: Ledger>(
     alloc: Global,
     seen: &Seen<L>,
-    cells: &SeasonCells,
+    cells: &SeenCells<L>,
     id: LeagueId,
     league: &League,
     steps: &mut Steps<L>,

@@ -14,6 +14,7 @@ ghost use Rattle.rule_book.specs.UpTo.{start_of};
 ghost use Rattle.season_ledger.specs.Rows.{first_in};
 ghost use Rattle.season_ledger.specs.Stands.{StandsFor};
 ghost use Rattle.manager_book.specs.Managers.{name_of, season_of};
+ghost use Rattle.season_nodes.specs.Held.{held_values};
 ghost use Rattle.season_book.specs.Book.{EntryFacts};
 ghost use Rattle.season_views.specs.Seen.{OfEachSeen};
 
@@ -26,11 +27,12 @@ use rule_book::{Fixture, Line, Player, Team};
 use season_book::SharedClubs;
 use season_calendar::Calendar;
 use season_facts::Season;
+use season_graph::{Node, SeasonCells, Value};
 use std::marker::{Model, PhantomData};
 use std::sync::ledger::Ledger;
 
 /// A running season as a view sees it: what is open in it, and what a view may read by the counter of its caller alone. A
-/// view has nothing else of the season, so it reads no line that is not counted.
+/// view has nothing else of the season, so it reads no line and no row of an entry that is not counted.
 #[derive(Drop)]
 pub struct Seen<'a, L: Ledger> {
     season: &'a Season,
@@ -246,5 +248,40 @@ impl<'a, L: Ledger> Seen<'a, L> {
         ensures counted { steps.new ≡ steps.old + length (lines_of self.now.facts.matches fixture) }
     {
         self.season.rows(fixture, steps)
+    }
+}
+
+/// The cells of a season as a view reads them: by the counter of its caller alone.
+#[derive(Drop)]
+pub struct SeenCells<'a, L: Ledger> {
+    cells: &'a SeasonCells,
+    counter: PhantomData<L>,
+}
+
+impl<'a, L: Ledger> Model for SeenCells<'a, L> {
+    ghost use Rattle.season_nodes.specs.Held.{SeasonRows};
+
+    ghost Value = { SeasonRows };
+
+    ghost view = { λ s. s.cells.now };
+}
+
+impl<'a, L: Ledger> SeenCells<'a, L> {
+    /// These cells.
+    pub fn of(cells: &'a SeasonCells) -> Self
+        ensures { result ≡ cells.now }
+    {
+        SeenCells {
+            cells,
+            counter: PhantomData,
+        }
+    }
+
+    /// The value of a node, by a counted read; `None` where it is not live or was not evaluated yet.
+    pub(crate) fn get(&self, node: Node, steps: &mut Steps<L>) -> Option<&Value>
+        ensures value { option_copied result ≡ held_values self.now node }
+        ensures cost { steps.new ≡ steps.old + 1 }
+    {
+        self.cells.get(node, steps)
     }
 }

@@ -10,10 +10,10 @@ ghost use Rattle.season_book.specs.Views.{line_shown};
 ghost use Rattle.season_views.specs.Cells.{AreKeptOf, line_with};
 
 use crate::reading::{bonuses_held, line_held};
-use crate::seen::Seen;
+use crate::seen::{Seen, SeenCells};
 use fpl_base::{FixtureId, Memory, PlayerId, Steps};
 use season_book::{ShownLine, ShownLines};
-use season_graph::{SeasonCells, lines_are_told};
+use season_graph::lines_are_told;
 use season_rules::bonus_among;
 use std::alloc::Global;
 use std::sync::ledger::Ledger;
@@ -22,7 +22,7 @@ use std::sync::ledger::Ledger;
 pub(crate) fn lines_shown<L: Ledger>(
     alloc: Global,
     seen: &Seen<L>,
-    cells: &SeasonCells,
+    cells: &SeenCells<L>,
     fixture: FixtureId,
     steps: &mut Steps<L>,
 ) -> Result<ShownLines, Memory>
@@ -45,7 +45,7 @@ pub(crate) fn lines_shown<L: Ledger>(
 
 // What a player's line in a fixture is worth as its cell holds it, with his bonus among those of the fixture.
 fn line_shown<L: Ledger>(
-    cells: &SeasonCells,
+    cells: &SeenCells<L>,
     fixture: FixtureId,
     bonuses: &[(PlayerId, u8)],
     player: PlayerId,

@@ -8,13 +8,12 @@ ghost use Rattle.season_views.specs.Cells.{AreKeptOf};
 ghost use Rattle.season_views.specs.Reads.{reads_allowed};
 
 use crate::reading::gameweek_held;
-use crate::seen::Seen;
+use crate::seen::{Seen, SeenCells};
 use crate::sheets::lines_shown;
 use fpl_base::{Gw, Memory, Moment, Steps};
 use rule_book::Player;
 use season_book::{Moments, Shown, ShownFixture, ShownSeason, View};
 use season_calendar::Calendar;
-use season_graph::SeasonCells;
 use std::alloc::Global;
 use std::sync::ledger::Ledger;
 
@@ -23,7 +22,7 @@ use std::sync::ledger::Ledger;
 pub fn show<L: Ledger>(
     alloc: Global,
     seen: &Seen<L>,
-    cells: &SeasonCells,
+    cells: &SeenCells<L>,
     view: View,
     steps: &mut Steps<L>,
 ) -> Result<Option<Shown>, Memory>
@@ -105,7 +104,7 @@ fn copy_of_player(player: &Player) -> Result<Player, Memory>
 
 fn gameweek_shown<L: Ledger>(
     seen: &Seen<L>,
-    cells: &SeasonCells,
+    cells: &SeenCells<L>,
     player: u32,
     gameweek: u32,
     steps: &mut Steps<L>,
@@ -136,7 +135,7 @@ pub(crate) fn locked_gameweek<L: Ledger>(seen: &Seen<L>, number: u32) -> Option<
 fn fixture_shown<L: Ledger>(
     alloc: Global,
     seen: &Seen<L>,
-    cells: &SeasonCells,
+    cells: &SeenCells<L>,
     fixture: u32,
     steps: &mut Steps<L>,
 ) -> Result<Option<Shown>, Memory>
