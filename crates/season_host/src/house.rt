@@ -1,12 +1,12 @@
 // What a host keeps in memory, and its answers by that alone.
-ghost use Rattle.std.specs.Prelude.{◌≡◌, ◌≢◌, ◌≤◌, ◌+◌, [], Some, IfErr, IfOk, OnOk, slice_get};
+ghost use Rattle.std.specs.Prelude.{◌≡◌, ◌≢◌, ◌≤◌, ◌+◌, [], IfErr, IfOk, OnOk, slice_get};
 ghost use Rattle.std.specs.Option.{option_map, option_map_or};
 ghost use Rattle.rule_book.specs.Refusals.{IsJudged};
 ghost use Rattle.season_book.specs.Book.{Book, last_number};
 ghost use Rattle.season_book.specs.Commands.{IsCommand};
 ghost use Rattle.season_book.specs.Doing.{IsOutLate, IsShown, IsStoreless};
 ghost use Rattle.season_book.specs.Hosts.{owner_of};
-ghost use Rattle.season_book.specs.Verdict.{fact_shown, number_refusal, unseen, view_answer};
+ghost use Rattle.season_book.specs.Verdict.{number_refusal, unseen, view_answer};
 ghost use Rattle.season_book.specs.declared.answer.Answer.TheVariants as answer_of;
 ghost use Rattle.season_book.specs.declared.request.Request.TheVariants as request_of;
 ghost use Rattle.season_records.specs.Touched.{batch, touched};
@@ -15,8 +15,7 @@ ghost use Rattle.season_running.specs.Accepting.{IsAccepted};
 ghost use Rattle.season_running.specs.EntryLaws.{IsOrderlyHost};
 ghost use Rattle.season_running.specs.Standing.{Follows, StandsIn, host_rows, keys_in, number_at, passed, players_in};
 ghost use Rattle.season_host.specs.Accepted.{MayEndIn, TellItemsBy, answer_from, change_from, locks_more, made_in, slots_from};
-ghost use Rattle.season_views.specs.Cells.{AreKeptOf};
-ghost use Rattle.season_views.specs.Reads.{reads_allowed, view_reads};
+ghost use Rattle.season_views.specs.Reads.{view_reads};
 ghost use Rattle.season_host.specs.Cells.{AreCellsOfHost, IsChange, lines_in, running_in};
 ghost use Rattle.season_host.specs.declared.change.Change.TheVariants as change_of;
 
@@ -27,10 +26,8 @@ use record_codec::Slot;
 use season_batches::batch_of;
 use season_book::{Answer, Command, Made, Shown, View, Window};
 use season_cells::KeptCells;
-use season_facts::Season;
-use season_graph::SeasonCells;
 use season_running::{Lasts, RunningSeason};
-use season_views::{show, window_before};
+use season_views::window_before;
 use std::alloc::Global;
 use std::marker::Model;
 use std::sync::ledger::Ledger;
@@ -227,9 +224,7 @@ impl House {
             View::Season
             | View::Player { .. }
             | View::PlayerGameweek { .. }
-            | View::Fixture { .. } => {
-                answer_shown(self.alloc, running.season(), cells, view, steps)
-            }
+            | View::Fixture { .. } => running.show(self.alloc, cells, view, steps),
         }
     }
 
@@ -335,25 +330,6 @@ fn answer_before(alloc: Global, caller: &Caller, last: u64, view: View) -> Answe
             Err(Memory) => Answer::Memory,
         },
         _ => Answer::Rule(Rule::NoSeason),
-    }
-}
-
-// What a view of a season gets.
-fn answer_shown<L: Ledger>(
-    alloc: Global,
-    season: &Season,
-    cells: &SeasonCells,
-    view: View,
-    steps: &mut Steps<L>,
-) -> Answer
-    requires { AreKeptOf season.now cells.now }
-    ensures shown { IsShown (fact_shown (Some season.now) view) result }
-    ensures cost { steps.new ≤ steps.old + reads_allowed (fact_shown (Some season.now) view) }
-{
-    match show(alloc, season, cells, view, steps) {
-        Ok(Some(shown)) => Answer::Shown(shown),
-        Ok(None) => Answer::Unknown,
-        Err(Memory) => Answer::Memory,
     }
 }
 

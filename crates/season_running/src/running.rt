@@ -1,5 +1,5 @@
 // A season with its entries.
-ghost use Rattle.std.specs.Prelude.{◌≡◌, ◌≤◌, ◌+◌, ℕ, List, [], Option, IfErr, IfOk, IsSome, OnOk, OnErr, None, length, if◌then◌else◌};
+ghost use Rattle.std.specs.Prelude.{◌≡◌, ◌≤◌, ◌+◌, ℕ, List, [], Option, IfErr, IfOk, IsSome, OnOk, OnErr, None, Some, length, if◌then◌else◌};
 ghost use Rattle.std.specs.Option.{option_map};
 ghost use Rattle.serde_json.specs.Data.{Data};
 ghost use Rattle.serde_json.specs.Written.{compact_text};
@@ -9,7 +9,7 @@ ghost use Rattle.manager_book.specs.Managers.{AreRisen, manager_in};
 ghost use Rattle.season_book.specs.Book.{Book, caller_number, last_number};
 ghost use Rattle.season_book.specs.Commands.{IsCommand, part_of};
 ghost use Rattle.season_book.specs.Doing.{IsGranted, IsShown, IsStoreless};
-ghost use Rattle.season_book.specs.Verdict.{locked_at, page_of, ruled, seen_in, shown_or_unknown};
+ghost use Rattle.season_book.specs.Verdict.{fact_shown, locked_at, page_of, ruled, seen_in, shown_or_unknown};
 ghost use Rattle.season_book.specs.declared.answer.Answer.TheVariants as answer;
 ghost use Rattle.season_book.specs.declared.part.Part.TheVariants as part;
 ghost use Rattle.season_book.specs.declared.request.View.TheVariants as view;
@@ -31,7 +31,7 @@ use classic_leagues::Leagues;
 use cup_rounds::Cups;
 use fpl_base::{Caller, CupId, EntryId, Key, LeagueId, Memory, Moment, Rule, Steps};
 use manager_book::ManagerBook;
-use season_book::{Answer, Command, Made, Page, Part, Shown, Window};
+use season_book::{Answer, Command, Made, Page, Part, Shown, View, Window};
 use season_competitions::{do_cup, do_league, judge_cup, judge_league, members_stay};
 use season_entries::{
     do_deed, do_key, early_is_in_time, entries_are_issued, facts_leave_entries, judge_deed,
@@ -39,7 +39,7 @@ use season_entries::{
 };
 use season_facts::Season;
 use season_graph::SeasonCells;
-use season_views::{Seen, cup, entry_gameweek, league, my_entry, window};
+use season_views::{Seen, SeenCells, cup, entry_gameweek, league, my_entry, show, window};
 use std::alloc::Global;
 use std::marker::Model;
 use std::sync::ledger::Ledger;
@@ -406,6 +406,29 @@ impl RunningSeason {
         do_cup(&self.season, &mut self.cups, command)
     }
 
+    /// What a view shows that asks for no entry, league, cup or window: the season, a player, his gameweek or a fixture.
+    pub fn show<L: Ledger>(
+        &self,
+        alloc: Global,
+        cells: &SeasonCells,
+        view: View,
+        steps: &mut Steps<L>,
+    ) -> Answer
+        requires { AreKeptBy self.now cells.now }
+        ensures seen { IsShown (fact_shown (Some self.now.facts) view) result }
+        ensures storeless { IsStoreless result }
+        ensures cost { steps.new
+            ≤ steps.old + reads_allowed (fact_shown (Some self.now.facts) view) }
+    {
+        let seen: Seen<L> = Seen::of(&self.season, &self.managers, &self.leagues, &self.cups);
+        let cells = SeenCells::of(cells);
+        match show(alloc, &seen, &cells, view, steps) {
+            Ok(Some(shown)) => Answer::Shown(shown),
+            Ok(None) => Answer::Unknown,
+            Err(Memory) => Answer::Memory,
+        }
+    }
+
     /// What a caller sees of his own entry, under the number of his last command. It is read of his rows and of the cells.
     pub fn my_entry<L: Ledger>(
         &self,
@@ -429,7 +452,14 @@ impl RunningSeason {
                 if entry.get() > self.managers.entries() {
                     return Answer::Unknown;
                 }
-                match my_entry(&self.season, &self.managers, cells, *entry, last, steps) {
+                let seen: Seen<L> = Seen::of(
+                    &self.season,
+                    &self.managers,
+                    &self.leagues,
+                    &self.cups,
+                );
+                let cells = SeenCells::of(cells);
+                match my_entry(&seen, &cells, *entry, last, steps) {
                     Some(shown) => Answer::Shown(Shown::Me(shown)),
                     None => Answer::Rule(Rule::NotRegistered),
                 }
@@ -451,7 +481,9 @@ impl RunningSeason {
         ensures storeless { IsStoreless result }
         ensures cost { steps.new ≤ steps.old + 2 }
     {
-        match entry_gameweek(&self.season, &self.managers, cells, entry, gameweek, steps) {
+        let seen: Seen<L> = Seen::of(&self.season, &self.managers, &self.leagues, &self.cups);
+        let cells = SeenCells::of(cells);
+        match entry_gameweek(&seen, &cells, entry, gameweek, steps) {
             Some(shown) => Answer::Shown(Shown::EntryGameweek(shown)),
             None => Answer::Unknown,
         }
@@ -476,16 +508,10 @@ impl RunningSeason {
         let Some(id) = LeagueId::new(number) else {
             return Answer::Unknown;
         };
+        let seen: Seen<L> = Seen::of(&self.season, &self.managers, &self.leagues, &self.cups);
+        let cells = SeenCells::of(cells);
         match self.leagues.get(id) {
-            Some(there) => answer_of(league(
-                alloc,
-                &self.season,
-                &self.managers,
-                cells,
-                id,
-                there,
-                steps,
-            )),
+            Some(there) => answer_of(league(alloc, &seen, &cells, id, there, steps)),
             None => Answer::Unknown,
         }
     }
@@ -509,8 +535,10 @@ impl RunningSeason {
         let Some(id) = CupId::new(number) else {
             return Answer::Unknown;
         };
+        let seen: Seen<L> = Seen::of(&self.season, &self.managers, &self.leagues, &self.cups);
+        let cells = SeenCells::of(cells);
         match self.cups.get(id) {
-            Some(there) => match cup(alloc, &self.season, &self.managers, cells, id, there, steps) {
+            Some(there) => match cup(alloc, &seen, &cells, id, there, steps) {
                 Ok(shown) => Answer::Shown(Shown::Cup(shown)),
                 Err(Memory) => Answer::Memory,
             },

@@ -10,63 +10,59 @@ ghost use Rattle.season_views.specs.Leagues.{AreIssued, classic_row_since};
 
 use crate::names::name_of;
 use crate::reading::total_held;
+use crate::seen::{Seen, SeenCells};
 use classic_leagues::{League, table};
 use fpl_base::{EntryId, Gw, ListOf, Memory, Steps};
-use manager_book::ManagerBook;
 use rule_book::{Ranked, tables_are_the_one};
 use season_book::{ShownClassic, ShownRanked};
-use season_facts::Season;
-use season_graph::SeasonCells;
 use season_ledger::rows_tell;
 use std::alloc::Global;
 use std::sync::ledger::Ledger;
 
 // An entry's row of a league that starts in a gameweek, from which it has a total.
 fn classic_row<L: Ledger>(
-    season: &Season,
-    managers: &ManagerBook,
-    cells: &SeasonCells,
+    seen: &Seen<L>,
+    cells: &SeenCells<L>,
     entry: EntryId,
     start: Gw,
     steps: &mut Steps<L>,
 ) -> (EntryId, i32, u32)
-    requires profile { managers.now.profile ≡ season.now.profile }
-    requires kept { AreKeptFrom season.now managers.now entry start cells.now }
-    ensures value { OfEachBook season.now managers.now
-        (λ entries. result ≡ classic_row_since season.now entries start entry) }
+    requires profile { seen.now.managers.profile ≡ seen.now.facts.profile }
+    requires kept { AreKeptFrom seen.now.facts seen.now.managers entry start cells.now }
+    ensures value { OfEachBook seen.now.facts seen.now.managers
+        (λ entries. result ≡ classic_row_since seen.now.facts entries start entry) }
     ensures entry { result.0 ≡ entry }
     ensures cost { steps.new ≡ steps.old + 2 }
 {
     // The law that rows tell what their histories do, and that the ids of players rise, for the prover.
     rows_tell();
-    let _count = season.players().len();
+    let _count = seen.players().len();
     let total = total_held(cells, entry, start, steps);
-    let counted = managers.counted_transfers(entry, season.calendar().locked(), steps);
+    let counted = seen.counted_transfers(entry, seen.calendar().locked(), steps);
     (entry, total, counted)
 }
 
 // A row for each member of a league.
 fn classic_rows<L: Ledger>(
     alloc: Global,
-    season: &Season,
-    managers: &ManagerBook,
-    cells: &SeasonCells,
+    seen: &Seen<L>,
+    cells: &SeenCells<L>,
     league: &League,
     steps: &mut Steps<L>,
 ) -> Result<Vec<(EntryId, i32, u32)>, Memory>
-    requires profile { managers.now.profile ≡ season.now.profile }
-    requires kept { AreKeptWith season.now managers.now league.now cells.now }
+    requires profile { seen.now.managers.profile ≡ seen.now.facts.profile }
+    requires kept { AreKeptWith seen.now.facts seen.now.managers league.now cells.now }
     requires kind { is_head league.now.kind ≡ false }
-    ensures value { IfOk result (λ rows. OfEachBook season.now managers.now
+    ensures value { IfOk result (λ rows. OfEachBook seen.now.facts seen.now.managers
         (λ entries. rows.items
-        ≡ map (classic_row_since season.now entries league.now.start) league.now.members)) }
+        ≡ map (classic_row_since seen.now.facts entries league.now.start) league.now.members)) }
     ensures entries { IfOk result (λ rows. map (λ row. row.0) rows.items ≡ league.now.members) }
     ensures differ { AllDiffer league.now.members }
     ensures cost { steps.new ≤ steps.old + 2 * length league.now.members }
 {
     let mut rows = Vec::with_capacity(alloc, league.members().len())?;
     for member in league.members() {
-        let row = classic_row(season, managers, cells, *member, league.start(), steps);
+        let row = classic_row(seen, cells, *member, league.start(), steps);
         rows.push(row)?;
     }
     Ok(rows)
@@ -85,31 +81,31 @@ fn classic_table(alloc: Global, rows: &[(EntryId, i32, u32)]) -> Result<Vec<Rank
 }
 
 // A row with the name of its entry.
-fn ranked_shown(managers: &ManagerBook, row: &Ranked) -> Result<ShownRanked, Memory>
-    requires { row.now.entry ≤ length managers.now.managers }
+fn ranked_shown<L: Ledger>(seen: &Seen<L>, row: &Ranked) -> Result<ShownRanked, Memory>
+    requires { row.now.entry ≤ length seen.now.managers.managers }
     ensures { IfOk result
-        (λ shown. OfEachNames managers.now (λ entries. shown ≡ ranked_shown entries row.now)) }
+        (λ shown. OfEachNames seen.now.managers (λ entries. shown ≡ ranked_shown entries row.now)) }
 {
     Ok(ShownRanked {
         row: *row,
-        name: name_of(managers, row.entry)?,
+        name: name_of(seen, row.entry)?,
     })
 }
 
 // The rows with the names of their entries.
-fn classic_named(
+fn classic_named<L: Ledger>(
     alloc: Global,
-    managers: &ManagerBook,
+    seen: &Seen<L>,
     table: &[Ranked],
 ) -> Result<ListOf<ShownRanked>, Memory>
-    requires { All (λ row. row.entry ≤ length managers.now.managers) table.now }
+    requires { All (λ row. row.entry ≤ length seen.now.managers.managers) table.now }
     ensures { IfOk result
-        (λ shown. OfEachNames managers.now
+        (λ shown. OfEachNames seen.now.managers
         (λ entries. shown ≡ map (ranked_shown entries) table.now)) }
 {
     let mut shown = ListOf::with_room(alloc, table.len())?;
     for row in table {
-        shown.push(ranked_shown(managers, row)?)?;
+        shown.push(ranked_shown(seen, row)?)?;
     }
     Ok(shown)
 }
@@ -117,25 +113,24 @@ fn classic_named(
 // A classic league with its table.
 pub(crate) fn classic<L: Ledger>(
     alloc: Global,
-    season: &Season,
-    managers: &ManagerBook,
-    cells: &SeasonCells,
+    seen: &Seen<L>,
+    cells: &SeenCells<L>,
     league: &League,
     steps: &mut Steps<L>,
 ) -> Result<ShownClassic, Memory>
-    requires profile { managers.now.profile ≡ season.now.profile }
-    requires kept { AreKeptWith season.now managers.now league.now cells.now }
+    requires profile { seen.now.managers.profile ≡ seen.now.facts.profile }
+    requires kept { AreKeptWith seen.now.facts seen.now.managers league.now cells.now }
     requires kind { is_head league.now.kind ≡ false }
-    requires issued { AreIssued managers.now league.now.members }
-    ensures value { IfOk result (λ shown. OfEachBook season.now managers.now
-        (λ entries. shown ≡ classic_shown season.now entries league.now)) }
+    requires issued { AreIssued seen.now.managers league.now.members }
+    ensures value { IfOk result (λ shown. OfEachBook seen.now.facts seen.now.managers
+        (λ entries. shown ≡ classic_shown seen.now.facts entries league.now)) }
     ensures cost { steps.new ≤ steps.old + 2 * length league.now.members }
 {
-    let rows = classic_rows(alloc, season, managers, cells, league, steps)?;
+    let rows = classic_rows(alloc, seen, cells, league, steps)?;
     let table = classic_table(alloc, &rows)?;
     Ok(ShownClassic {
         name: league.name().copy()?,
         start: league.start(),
-        rows: classic_named(alloc, managers, &table)?,
+        rows: classic_named(alloc, seen, &table)?,
     })
 }

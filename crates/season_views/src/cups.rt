@@ -14,13 +14,11 @@ ghost use Rattle.season_views.specs.Entries.{OfEachBook};
 ghost use Rattle.season_views.specs.Reads.{reads_of, ties_of};
 
 use crate::reading::tie_held;
+use crate::seen::{Seen, SeenCells};
 use cup_rounds::{rounds, rounds_follow};
 use fpl_base::{CupId, ListOf, Memory, Steps};
-use manager_book::ManagerBook;
 use rule_book::{Bracket, Slots};
 use season_book::ShownCup;
-use season_facts::Season;
-use season_graph::SeasonCells;
 use season_ledger::rows_tell;
 use std::alloc::Global;
 use std::sync::ledger::Ledger;
@@ -39,7 +37,7 @@ fn ties(bracket: &Bracket, round: u8) -> u16
 // Who goes on from each tie of the round after so many rounds, as the cells hold it.
 fn winners_held<L: Ledger>(
     alloc: Global,
-    cells: &SeasonCells,
+    cells: &SeenCells<L>,
     id: CupId,
     bracket: &Bracket,
     round: u8,
@@ -63,48 +61,47 @@ fn winners_held<L: Ledger>(
 }
 
 // Whether the gameweek of the round after so many rounds is locked.
-fn is_played(season: &Season, bracket: &Bracket, round: u8) -> bool
+fn is_played<L: Ledger>(seen: &Seen<L>, bracket: &Bracket, round: u8) -> bool
     requires { round < 10 }
     ensures value { result
-        ≡ nat_le (bracket.now.start + (round + 1)) (season.now.calendar.locked + 1) }
-    ensures gameweek { IsTrue result → bracket.now.start + round ≤ season.now.calendar.locked }
+        ≡ nat_le (bracket.now.start + (round + 1)) (seen.now.facts.calendar.locked + 1) }
+    ensures gameweek { IsTrue result → bracket.now.start + round ≤ seen.now.facts.calendar.locked }
     ensures first { 1 ≤ bracket.now.start }
 {
-    bracket.start.get() + round <= season.calendar().locked()
+    bracket.start.get() + round <= seen.calendar().locked()
 }
 
 // The winners of the round after so many rounds; `None` where its gameweek is open.
 fn winners_shown<L: Ledger>(
     alloc: Global,
-    season: &Season,
-    managers: &ManagerBook,
-    cells: &SeasonCells,
+    seen: &Seen<L>,
+    cells: &SeenCells<L>,
     id: CupId,
     bracket: &Bracket,
     round: u8,
     steps: &mut Steps<L>,
 ) -> Result<Option<Slots>, Memory>
-    requires profile { managers.now.profile ≡ season.now.profile }
-    requires kept { AreKeptAt season.now managers.now id bracket.now cells.now }
+    requires profile { seen.now.managers.profile ≡ seen.now.facts.profile }
+    requires kept { AreKeptAt seen.now.facts seen.now.managers id bracket.now cells.now }
     requires shape { HasShape bracket.now }
     requires round { round < 10 }
-    ensures value { IfOk result (λ winners. OfEachBook season.now managers.now
+    ensures value { IfOk result (λ winners. OfEachBook seen.now.facts seen.now.managers
         (λ entries. winners
-        ≡ locked_winners bracket.now (side_in season.now entries) season.now.calendar.locked
+        ≡ locked_winners bracket.now (side_in seen.now.facts entries) seen.now.facts.calendar.locked
         (round + 1))) }
-    ensures cost { OfEachBook season.now managers.now
+    ensures cost { OfEachBook seen.now.facts seen.now.managers
         (λ entries. steps.new
         ≤ steps.old
         + option_map_or length
-        (locked_winners bracket.now (side_in season.now entries) season.now.calendar.locked
+        (locked_winners bracket.now (side_in seen.now.facts entries) seen.now.facts.calendar.locked
         (round + 1)) 0) }
 {
     // The laws that rows tell what their histories do, how many winners a round has, and that the ids of players rise, for
     // the prover.
     rows_tell();
     rounds_follow();
-    let _count = season.players().len();
-    if is_played(season, bracket, round) {
+    let _count = seen.players().len();
+    if is_played(seen, bracket, round) {
         Ok(Some(winners_held(alloc, cells, id, bracket, round, steps)?))
     } else {
         Ok(None)
@@ -116,28 +113,27 @@ fn winners_shown<L: Ledger>(
 /// read (docs/RULES.md, "Cups").
 pub fn cup<L: Ledger>(
     alloc: Global,
-    season: &Season,
-    managers: &ManagerBook,
-    cells: &SeasonCells,
+    seen: &Seen<L>,
+    cells: &SeenCells<L>,
     id: CupId,
     bracket: &Bracket,
     steps: &mut Steps<L>,
 ) -> Result<ShownCup, Memory>
-    requires profile { managers.now.profile ≡ season.now.profile }
-    requires kept { AreKeptAt season.now managers.now id bracket.now cells.now }
+    requires profile { seen.now.managers.profile ≡ seen.now.facts.profile }
+    requires kept { AreKeptAt seen.now.facts seen.now.managers id bracket.now cells.now }
     requires shape { HasShape bracket.now }
-    ensures value { IfOk result (λ shown. OfEachBook season.now managers.now
-        (λ entries. shown ≡ cup_shown season.now entries bracket.now)) }
-    ensures each { OfEachBook season.now managers.now
+    ensures value { IfOk result (λ shown. OfEachBook seen.now.facts seen.now.managers
+        (λ entries. shown ≡ cup_shown seen.now.facts entries bracket.now)) }
+    ensures each { OfEachBook seen.now.facts seen.now.managers
         (λ entries. steps.new
-        ≤ steps.old + ties_of (cup_shown season.now entries bracket.now).rounds) }
-    ensures cost { OfEachBook season.now managers.now
+        ≤ steps.old + ties_of (cup_shown seen.now.facts entries bracket.now).rounds) }
+    ensures cost { OfEachBook seen.now.facts seen.now.managers
         (λ entries. steps.new
-        ≤ steps.old + reads_of (shown_as.Cup (cup_shown season.now entries bracket.now))) }
+        ≤ steps.old + reads_of (shown_as.Cup (cup_shown seen.now.facts entries bracket.now))) }
 {
     let mut shown = ListOf::with_room(alloc, 10)?;
     for round in 0..rounds(bracket) {
-        let winners = winners_shown(alloc, season, managers, cells, id, bracket, round, steps)?;
+        let winners = winners_shown(alloc, seen, cells, id, bracket, round, steps)?;
         shown.push(winners)?;
     }
     Ok(ShownCup {

@@ -15,14 +15,12 @@ ghost use Rattle.season_views.specs.Cells.{AreKeptIn};
 ghost use Rattle.season_views.specs.Entries.{OfEachHistory, me_with};
 
 use crate::reading::{score_held, total_held};
+use crate::seen::{Seen, SeenCells};
 use crate::views::locked_gameweek;
 use fpl_base::{EntryId, Gw, PlayerId, Steps, Tenths};
-use manager_book::ManagerBook;
 use player_prices::selling_price;
 use rule_book::{Pick, Team};
 use season_book::{ShownEntryGameweek, ShownMe, ShownPick};
-use season_facts::Season;
-use season_graph::SeasonCells;
 use season_ledger::rows_tell;
 use std::sync::ledger::Ledger;
 
@@ -31,35 +29,34 @@ use std::sync::ledger::Ledger;
 /// season is over, and nothing was done for the entry in a later one. Each row of an entry and each cell that it reads is
 /// a counted read, and it reads none of another entry (docs/RULES.md, "A team's score").
 pub fn my_entry<L: Ledger>(
-    season: &Season,
-    managers: &ManagerBook,
-    cells: &SeasonCells,
+    seen: &Seen<L>,
+    cells: &SeenCells<L>,
     entry: EntryId,
     last: u64,
     steps: &mut Steps<L>,
 ) -> Option<ShownMe>
-    requires profile { managers.now.profile ≡ season.now.profile }
-    requires kept { AreKeptIn season.now managers.now cells.now }
-    requires later { AllUpTo (gameweek_seen season.now.calendar) (season_of managers.now entry) }
+    requires profile { seen.now.managers.profile ≡ seen.now.facts.profile }
+    requires kept { AreKeptIn seen.now.facts seen.now.managers cells.now }
+    requires later { AllUpTo (gameweek_seen seen.now.facts.calendar) (season_of seen.now.managers entry) }
     ensures value { (h : List Event)
-        → StandsFor (position_in season.now.players) (season_of managers.now entry) h
-        → result ≡ (if is_started h then Some (me_shown season.now h entry last) else None) }
+        → StandsFor (position_in seen.now.facts.players) (season_of seen.now.managers entry) h
+        → result ≡ (if is_started h then Some (me_shown seen.now.facts h entry last) else None) }
     ensures cost { steps.new ≤ steps.old + 4 }
 {
     // The law that rows tell what their histories do, for the prover.
     rows_tell();
-    let _first = managers.first(entry)?;
-    let gameweek = gameweek_seen(season);
-    let team = managers.team_at(entry, gameweek, steps)?;
-    let free = managers.free(entry, gameweek, steps);
-    let cost = managers.cost(entry, gameweek, steps);
+    let _first = seen.first(entry)?;
+    let gameweek = gameweek_seen(seen);
+    let team = seen.team_at(entry, gameweek, steps)?;
+    let free = seen.free(entry, gameweek, steps);
+    let cost = seen.cost(entry, gameweek, steps);
     let total = total_held(cells, entry, Gw::new(1).unwrap(), steps);
-    Some(me_with(season, entry, last, &team, free, cost, total))
+    Some(me_with(seen, entry, last, &team, free, cost, total))
 }
 
 // What a manager sees of his entry, with this team, free transfers, cost and total.
-fn me_with(
-    season: &Season,
+fn me_with<L: Ledger>(
+    seen: &Seen<L>,
     entry: EntryId,
     last: u64,
     team: &Team,
@@ -67,13 +64,13 @@ fn me_with(
     cost: u32,
     total: i32,
 ) -> ShownMe
-    ensures { result ≡ me_with season.now entry last team.now free cost total }
+    ensures { result ≡ me_with seen.now.facts entry last team.now free cost total }
 {
     ShownMe {
         entry,
         last,
-        gameweek: season.calendar().next(),
-        players: picks_shown(season, team),
+        gameweek: seen.calendar().next(),
+        players: picks_shown(seen, team),
         captain: player_in_slot(team, team.captain),
         vice: player_in_slot(team, team.vice),
         bank: team.bank,
@@ -85,29 +82,29 @@ fn me_with(
 }
 
 // The gameweek whose team a manager sees of himself.
-fn gameweek_seen(season: &Season) -> Gw
-    ensures { result ≡ gameweek_seen season.now.calendar }
+fn gameweek_seen<L: Ledger>(seen: &Seen<L>) -> Gw
+    ensures { result ≡ gameweek_seen seen.now.facts.calendar }
 {
-    let next = season.calendar().locked() + 1;
-    Gw::new(next.min(season.calendar().gameweeks())).unwrap()
+    let next = seen.calendar().locked() + 1;
+    Gw::new(next.min(seen.calendar().gameweeks())).unwrap()
 }
 
 // The players of a team with their prices, by slot.
-fn picks_shown(season: &Season, team: &Team) -> [ShownPick; 15]
-    ensures { result ≡ map (pick_shown season.now.players) team.now.picks }
+fn picks_shown<L: Ledger>(seen: &Seen<L>, team: &Team) -> [ShownPick; 15]
+    ensures { result ≡ map (pick_shown seen.now.facts.players) team.now.picks }
 {
-    let mut shown = [pick_shown(season, &team.picks[0]); 15];
+    let mut shown = [pick_shown(seen, &team.picks[0]); 15];
     for place in 0..15usize {
-        shown[place] = pick_shown(season, &team.picks[place]);
+        shown[place] = pick_shown(seen, &team.picks[place]);
     }
     shown
 }
 
 // A player of a team, and what he would bring.
-fn pick_shown(season: &Season, pick: &Pick) -> ShownPick
-    ensures { result ≡ pick_shown season.now.players pick.now }
+fn pick_shown<L: Ledger>(seen: &Seen<L>, pick: &Pick) -> ShownPick
+    ensures { result ≡ pick_shown seen.now.facts.players pick.now }
 {
-    let price = price_of(season, pick.player);
+    let price = price_of(seen, pick.player);
     ShownPick {
         player: pick.player,
         bought: pick.bought,
@@ -117,10 +114,10 @@ fn pick_shown(season: &Season, pick: &Pick) -> ShownPick
 }
 
 // The present price of a player; 0 if he is not there, as no player of a team is.
-fn price_of(season: &Season, player: PlayerId) -> Tenths
-    ensures { result ≡ price_of season.now.players player }
+fn price_of<L: Ledger>(seen: &Seen<L>, player: PlayerId) -> Tenths
+    ensures { result ≡ price_of seen.now.facts.players player }
 {
-    match season.players().get(player) {
+    match seen.players().get(player) {
         Some(there) => there.price,
         None => Tenths::new(0).unwrap(),
     }
@@ -140,48 +137,46 @@ fn player_in_slot(team: &Team, slot: u8) -> PlayerId
 /// the gameweek, and where the gameweek is not locked. Each row of an entry and each cell that it reads is a
 /// counted read (docs/RULES.md, "A team's score").
 pub fn entry_gameweek<L: Ledger>(
-    season: &Season,
-    managers: &ManagerBook,
-    cells: &SeasonCells,
+    seen: &Seen<L>,
+    cells: &SeenCells<L>,
     entry: u32,
     gameweek: u32,
     steps: &mut Steps<L>,
 ) -> Option<ShownEntryGameweek>
-    requires profile { managers.now.profile ≡ season.now.profile }
-    requires kept { AreKeptIn season.now managers.now cells.now }
+    requires profile { seen.now.managers.profile ≡ seen.now.facts.profile }
+    requires kept { AreKeptIn seen.now.facts seen.now.managers cells.now }
     ensures value { (entries : List EntryFacts)
-        → AreEntries season.now.players managers.now.managers entries
-        → result ≡ entry_shown season.now entries entry gameweek }
+        → AreEntries seen.now.facts.players seen.now.managers.managers entries
+        → result ≡ entry_shown seen.now.facts entries entry gameweek }
     ensures cost { steps.new ≤ steps.old + 2 }
 {
     // That the ids of players rise, for the prover.
-    let _count = season.players().len();
-    let there = issued(managers, entry)?;
-    let locked = locked_gameweek(season, gameweek)?;
-    gameweek_of(season, managers, cells, there, locked, steps)
+    let _count = seen.players().len();
+    let there = issued(seen, entry)?;
+    let locked = locked_gameweek(seen, gameweek)?;
+    gameweek_of(seen, cells, there, locked, steps)
 }
 
 // What an entry's team scored in a locked gameweek; none before its first.
 fn gameweek_of<L: Ledger>(
-    season: &Season,
-    managers: &ManagerBook,
-    cells: &SeasonCells,
+    seen: &Seen<L>,
+    cells: &SeenCells<L>,
     entry: EntryId,
     gameweek: Gw,
     steps: &mut Steps<L>,
 ) -> Option<ShownEntryGameweek>
-    requires profile { managers.now.profile ≡ season.now.profile }
-    requires kept { AreKeptIn season.now managers.now cells.now }
-    requires locked { gameweek ≤ season.now.calendar.locked }
-    ensures value { OfEachHistory season.now managers.now entry
+    requires profile { seen.now.managers.profile ≡ seen.now.facts.profile }
+    requires kept { AreKeptIn seen.now.facts seen.now.managers cells.now }
+    requires locked { gameweek ≤ seen.now.facts.calendar.locked }
+    ensures value { OfEachHistory seen.now.facts seen.now.managers entry
         (λ h. result
-        ≡ (if is_begun h gameweek then Some (entry_gameweek_shown season.now h gameweek)
+        ≡ (if is_begun h gameweek then Some (entry_gameweek_shown seen.now.facts h gameweek)
         else None)) }
     ensures cost { steps.new ≤ steps.old + 2 }
 {
     // The law that rows tell what their histories do, for the prover.
     rows_tell();
-    let team = managers.team_at(entry, gameweek, steps)?;
+    let team = seen.team_at(entry, gameweek, steps)?;
     let score = score_held(cells, entry, gameweek, steps)?;
     Some(ShownEntryGameweek {
         players: players_of(&team),
@@ -191,12 +186,12 @@ fn gameweek_of<L: Ledger>(
 }
 
 // The entry of this number, if it was issued.
-fn issued(managers: &ManagerBook, number: u32) -> Option<EntryId>
+fn issued<L: Ledger>(seen: &Seen<L>, number: u32) -> Option<EntryId>
     ensures { result
-        ≡ (if number == 0 || nat_lt (length managers.now.managers) number then None
+        ≡ (if number == 0 || nat_lt (length seen.now.managers.managers) number then None
         else Some number) }
 {
-    if number == 0 || number > managers.entries() {
+    if number == 0 || number > seen.entries() {
         return None;
     }
     EntryId::new(number)

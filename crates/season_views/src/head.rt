@@ -14,14 +14,12 @@ ghost use Rattle.season_views.specs.Leagues.{AreIssued};
 
 use crate::names::name_of;
 use crate::reading::head_held;
+use crate::seen::{Seen, SeenCells};
 use classic_leagues::League;
 use fpl_base::{EntryId, LeagueId, ListOf, Memory, Steps};
 use head_to_head::table;
-use manager_book::ManagerBook;
 use rule_book::{HeadRanked, HeadScore, tables_are_the_one};
 use season_book::{ShownHead, ShownHeadRanked};
-use season_facts::Season;
-use season_graph::SeasonCells;
 use season_ledger::rows_tell;
 use std::alloc::Global;
 use std::sync::ledger::Ledger;
@@ -29,7 +27,7 @@ use std::sync::ledger::Ledger;
 // A row for each member, by what its cell has of its matches.
 fn head_rows<L: Ledger>(
     alloc: Global,
-    cells: &SeasonCells,
+    cells: &SeenCells<L>,
     id: LeagueId,
     league: &League,
     steps: &mut Steps<L>,
@@ -63,30 +61,30 @@ fn head_table(alloc: Global, rows: &[(EntryId, HeadScore)]) -> Result<Vec<HeadRa
 }
 
 // A row with the name of its entry.
-fn ranked_shown(managers: &ManagerBook, row: &HeadRanked) -> Result<ShownHeadRanked, Memory>
-    requires { row.now.entry ≤ length managers.now.managers }
+fn ranked_shown<L: Ledger>(seen: &Seen<L>, row: &HeadRanked) -> Result<ShownHeadRanked, Memory>
+    requires { row.now.entry ≤ length seen.now.managers.managers }
     ensures { IfOk result
-        (λ shown. OfEachNames managers.now (λ entries. shown ≡ head_ranked_shown entries row.now)) }
+        (λ shown. OfEachNames seen.now.managers (λ entries. shown ≡ head_ranked_shown entries row.now)) }
 {
     Ok(ShownHeadRanked {
         row: *row,
-        name: name_of(managers, row.entry)?,
+        name: name_of(seen, row.entry)?,
     })
 }
 
 // The rows with the names of their entries.
-fn head_named(
+fn head_named<L: Ledger>(
     alloc: Global,
-    managers: &ManagerBook,
+    seen: &Seen<L>,
     table: &[HeadRanked],
 ) -> Result<ListOf<ShownHeadRanked>, Memory>
-    requires { All (λ row. row.entry ≤ length managers.now.managers) table.now }
-    ensures { IfOk result (λ shown. OfEachNames managers.now
+    requires { All (λ row. row.entry ≤ length seen.now.managers.managers) table.now }
+    ensures { IfOk result (λ shown. OfEachNames seen.now.managers
         (λ entries. shown ≡ map (head_ranked_shown entries) table.now)) }
 {
     let mut shown = ListOf::with_room(alloc, table.len())?;
     for row in table {
-        shown.push(ranked_shown(managers, row)?)?;
+        shown.push(ranked_shown(seen, row)?)?;
     }
     Ok(shown)
 }
@@ -94,28 +92,27 @@ fn head_named(
 // A head-to-head league with its table.
 pub(crate) fn head<L: Ledger>(
     alloc: Global,
-    season: &Season,
-    managers: &ManagerBook,
-    cells: &SeasonCells,
+    seen: &Seen<L>,
+    cells: &SeenCells<L>,
     id: LeagueId,
     league: &League,
     steps: &mut Steps<L>,
 ) -> Result<ShownHead, Memory>
-    requires profile { managers.now.profile ≡ season.now.profile }
-    requires kept { AreKeptFor season.now managers.now id league.now cells.now }
-    requires issued { AreIssued managers.now league.now.members }
-    ensures value { IfOk result (λ shown. OfEachBook season.now managers.now
-        (λ entries. shown ≡ head_shown season.now entries league.now)) }
+    requires profile { seen.now.managers.profile ≡ seen.now.facts.profile }
+    requires kept { AreKeptFor seen.now.facts seen.now.managers id league.now cells.now }
+    requires issued { AreIssued seen.now.managers league.now.members }
+    ensures value { IfOk result (λ shown. OfEachBook seen.now.facts seen.now.managers
+        (λ entries. shown ≡ head_shown seen.now.facts entries league.now)) }
     ensures cost { steps.new ≤ steps.old + length league.now.members }
 {
     // The law that rows tell what their histories do, and that the ids of players rise, for the prover.
     rows_tell();
-    let _count = season.players().len();
+    let _count = seen.players().len();
     let rows = head_rows(alloc, cells, id, league, steps)?;
     let table = head_table(alloc, &rows)?;
     Ok(ShownHead {
         name: league.name().copy()?,
         start: league.start(),
-        rows: head_named(alloc, managers, &table)?,
+        rows: head_named(alloc, seen, &table)?,
     })
 }

@@ -8,13 +8,11 @@ ghost use Rattle.season_views.specs.Reads.{reads_of};
 
 use crate::classic::classic;
 use crate::head::head;
+use crate::seen::{Seen, SeenCells};
 use classic_leagues::League;
 use fpl_base::{LeagueId, Memory, Steps};
-use manager_book::ManagerBook;
 use rule_book::LeagueKind;
 use season_book::Shown;
-use season_facts::Season;
-use season_graph::SeasonCells;
 use std::alloc::Global;
 use std::sync::ledger::Ledger;
 
@@ -23,27 +21,22 @@ use std::sync::ledger::Ledger;
 /// cell that it reads is a counted read (docs/RULES.md, "Tables and ranks").
 pub fn league<L: Ledger>(
     alloc: Global,
-    season: &Season,
-    managers: &ManagerBook,
-    cells: &SeasonCells,
+    seen: &Seen<L>,
+    cells: &SeenCells<L>,
     id: LeagueId,
     league: &League,
     steps: &mut Steps<L>,
 ) -> Result<Shown, Memory>
-    requires profile { managers.now.profile ≡ season.now.profile }
-    requires kept { AreKeptFor season.now managers.now id league.now cells.now }
-    requires issued { AreIssued managers.now league.now.members }
-    ensures value { IfOk result (λ shown. OfEachBook season.now managers.now
-        (λ entries. shown ≡ league_shown season.now entries league.now)) }
-    ensures cost { OfEachBook season.now managers.now
-        (λ entries. steps.new ≤ steps.old + reads_of (league_shown season.now entries league.now)) }
+    requires profile { seen.now.managers.profile ≡ seen.now.facts.profile }
+    requires kept { AreKeptFor seen.now.facts seen.now.managers id league.now cells.now }
+    requires issued { AreIssued seen.now.managers league.now.members }
+    ensures value { IfOk result (λ shown. OfEachBook seen.now.facts seen.now.managers
+        (λ entries. shown ≡ league_shown seen.now.facts entries league.now)) }
+    ensures cost { OfEachBook seen.now.facts seen.now.managers
+        (λ entries. steps.new ≤ steps.old + reads_of (league_shown seen.now.facts entries league.now)) }
 {
     match league.kind() {
-        LeagueKind::Classic => Ok(Shown::Classic(classic(
-            alloc, season, managers, cells, league, steps,
-        )?)),
-        LeagueKind::Head => Ok(Shown::Head(head(
-            alloc, season, managers, cells, id, league, steps,
-        )?)),
+        LeagueKind::Classic => Ok(Shown::Classic(classic(alloc, seen, cells, league, steps)?)),
+        LeagueKind::Head => Ok(Shown::Head(head(alloc, seen, cells, id, league, steps)?)),
     }
 }

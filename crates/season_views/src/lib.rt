@@ -16,6 +16,6 @@ mod windows;
 pub use cups::cup;
 pub use entries::{entry_gameweek, my_entry};
 pub use leagues::league;
-pub use seen::Seen;
+pub use seen::{Seen, SeenCells};
 pub use views::show;
 pub use windows::{window, window_before};

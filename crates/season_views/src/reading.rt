@@ -8,16 +8,17 @@ ghost use Rattle.season_graph.specs.Told.{bonuses_told, gameweek_figures, gamewe
 ghost use Rattle.season_nodes.specs.Season.{SeasonFacts, is_live, line_worth, no_figures, no_worth};
 ghost use Rattle.season_nodes.specs.declared.nodes.Node.{Node};
 
+use crate::seen::SeenCells;
 use fpl_base::{CupId, EntryId, FixtureId, Gw, LeagueId, PlayerId, Steps};
 use rule_book::{Figures, HeadScore, TeamScore};
-use season_graph::{LineWorth, Node, SeasonCells, Value};
+use season_graph::{LineWorth, Node, Value};
 use season_rules::{figures_in, winner_in, worth_in};
 use std::sync::ledger::Ledger;
 
 // What a player's line in a fixture is worth without bonus, as its cell holds it; nothing where he has no line there. It
 // is one counted read, as each of these.
 pub(crate) fn line_held<L: Ledger>(
-    cells: &SeasonCells,
+    cells: &SeenCells<L>,
     fixture: FixtureId,
     player: PlayerId,
     steps: &mut Steps<L>,
@@ -35,7 +36,7 @@ pub(crate) fn line_held<L: Ledger>(
 
 // Who took part in a fixture, each with his bonus; nobody before it is finished, or where nobody has a line.
 pub(crate) fn bonuses_held<'a, L: Ledger>(
-    cells: &'a SeasonCells,
+    cells: &'a SeenCells<L>,
     fixture: FixtureId,
     steps: &mut Steps<L>,
 ) -> &'a [(PlayerId, u8)]
@@ -55,7 +56,7 @@ pub(crate) fn bonuses_held<'a, L: Ledger>(
 
 // What a player did in a gameweek; nothing where he is not there, and where the gameweek is not locked.
 pub(crate) fn gameweek_held<L: Ledger>(
-    cells: &SeasonCells,
+    cells: &SeenCells<L>,
     player: PlayerId,
     gameweek: Gw,
     steps: &mut Steps<L>,
@@ -74,7 +75,7 @@ pub(crate) fn gameweek_held<L: Ledger>(
 
 // What an entry's team scored in a gameweek; `None` before its first one, and where the gameweek is not locked.
 pub(crate) fn score_held<L: Ledger>(
-    cells: &SeasonCells,
+    cells: &SeenCells<L>,
     entry: EntryId,
     gameweek: Gw,
     steps: &mut Steps<L>,
@@ -94,7 +95,7 @@ pub(crate) fn score_held<L: Ledger>(
 // The points after deductions of an entry over the locked gameweeks from one on, or from its first; 0 where it has no total
 // from there.
 pub(crate) fn total_held<L: Ledger>(
-    cells: &SeasonCells,
+    cells: &SeenCells<L>,
     entry: EntryId,
     start: Gw,
     steps: &mut Steps<L>,
@@ -114,7 +115,7 @@ pub(crate) fn total_held<L: Ledger>(
 // it is not in the order of the league, or where there is no such league.
 #[tactic(auto, using(season_graph::proofs::ToldFacts::head_always))]
 pub(crate) fn head_held<L: Ledger>(
-    cells: &SeasonCells,
+    cells: &SeenCells<L>,
     league: LeagueId,
     entry: EntryId,
     steps: &mut Steps<L>,
@@ -132,7 +133,7 @@ pub(crate) fn head_held<L: Ledger>(
 // The number of the entry that goes on from a tie of a cup, after so many rounds; 0 where there is no such tie, and where
 // its gameweek is not locked.
 pub(crate) fn tie_held<L: Ledger>(
-    cells: &SeasonCells,
+    cells: &SeenCells<L>,
     cup: CupId,
     round: u8,
     place: u16,

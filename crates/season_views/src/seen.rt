@@ -1,24 +1,38 @@
 // A running season as a view sees it.
-ghost use Rattle.std.specs.Prelude.{◌≡◌, ◌≤◌, ◌+◌, Some, length};
+ghost use Rattle.std.specs.Prelude.{◌≡◌, ◌≤◌, ◌+◌, ℕ, IfOk, List, Some, length, option_copied};
 ghost use Rattle.std.specs.List.{zip};
+ghost use Rattle.fpl_base.specs.declared.kinds.Position.{Position};
 ghost use Rattle.rule_book.specs.Calendar.{fixture_of};
 ghost use Rattle.rule_book.specs.Entries.{entry_in};
-ghost use Rattle.rule_book.specs.MatchFacts.{is_finished, lines_of};
+ghost use Rattle.rule_book.specs.History.{Event};
+ghost use Rattle.rule_book.specs.HistoryRules.{FirstTold};
+ghost use Rattle.rule_book.specs.HistoryTeam.{TeamTold};
+ghost use Rattle.rule_book.specs.HistoryTransfers.{FreeTold, cost_at, counted_through};
+ghost use Rattle.rule_book.specs.MatchFacts.{is_finished, lines_of, players_in};
+ghost use Rattle.rule_book.specs.Players.{player_of};
 ghost use Rattle.rule_book.specs.UpTo.{start_of};
+ghost use Rattle.season_ledger.specs.Rows.{first_in};
+ghost use Rattle.season_ledger.specs.Stands.{StandsFor};
+ghost use Rattle.manager_book.specs.Managers.{name_of, season_of};
+ghost use Rattle.season_nodes.specs.Held.{held_values};
 ghost use Rattle.season_book.specs.Book.{EntryFacts};
 ghost use Rattle.season_views.specs.Seen.{OfEachSeen};
 
 use classic_leagues::Leagues;
 use cup_rounds::Cups;
-use fpl_base::{EntryId, FixtureId, Gw, Name, PlayerId, Steps};
+use fpl_base::{EntryId, FixtureId, Gw, Memory, Name, PlayerId, Profile, Steps};
 use manager_book::ManagerBook;
-use rule_book::{Fixture, Line};
+use player_prices::Players;
+use rule_book::{Fixture, Line, Player, Team};
+use season_book::SharedClubs;
+use season_calendar::Calendar;
 use season_facts::Season;
+use season_graph::{Node, SeasonCells, Value};
 use std::marker::{Model, PhantomData};
 use std::sync::ledger::Ledger;
 
 /// A running season as a view sees it: what is open in it, and what a view may read by the counter of its caller alone. A
-/// view has nothing else of the season, so it reads no line that is not counted.
+/// view has nothing else of the season, so it reads no line and no row of an entry that is not counted.
 #[derive(Drop)]
 pub struct Seen<'a, L: Ledger> {
     season: &'a Season,
@@ -74,6 +88,41 @@ impl<'a, L: Ledger> Seen<'a, L> {
         }
     }
 
+    /// By which rules the season is played.
+    pub(crate) fn profile(&self) -> Profile
+        ensures { result ≡ self.now.facts.profile }
+    {
+        self.season.profile()
+    }
+
+    /// Its calendar.
+    pub(crate) fn calendar(&self) -> &Calendar
+        ensures { result.now ≡ self.now.facts.calendar }
+    {
+        self.season.calendar()
+    }
+
+    /// The clubs.
+    pub(crate) fn clubs(&self) -> Result<SharedClubs, Memory>
+        ensures { IfOk result (λ clubs. clubs ≡ self.now.facts.clubs) }
+    {
+        self.season.clubs()
+    }
+
+    /// The players.
+    pub(crate) fn players(&self) -> &Players
+        ensures { result.now ≡ self.now.facts.players }
+    {
+        self.season.players()
+    }
+
+    /// The player of this number, if he is there.
+    pub(crate) fn player(&self, number: u32) -> Option<&Player>
+        ensures { option_copied result ≡ player_of self.now.facts.players number }
+    {
+        self.season.player(number)
+    }
+
     /// How many entries were made.
     pub(crate) fn entries(&self) -> u32
         ensures { result ≡ length self.now.managers.managers }
@@ -97,6 +146,63 @@ impl<'a, L: Ledger> Seen<'a, L> {
             },
             None => unreachable!(),
         }
+    }
+
+    /// The name of an entry; `None` where it was not issued.
+    pub(crate) fn name(&self, entry: EntryId) -> Option<&Name>
+        ensures { option_copied result ≡ name_of self.now.managers entry }
+    {
+        self.managers.name(entry)
+    }
+
+    /// The first gameweek of an entry; `None` where it is not registered.
+    pub(crate) fn first(&self, entry: EntryId) -> Option<Gw>
+        ensures rows { result ≡ first_in (season_of self.now.managers entry) }
+        ensures history { (position : ℕ → Position) (h : List Event)
+            → StandsFor position (season_of self.now.managers entry) h → FirstTold h result }
+    {
+        self.managers.first(entry)
+    }
+
+    /// An entry's team in a gameweek; `None` where it is not registered and before its first gameweek. It is a counted
+    /// read, as each of the next three.
+    pub(crate) fn team_at(&self, entry: EntryId, gameweek: Gw, steps: &mut Steps<L>) -> Option<Team>
+        ensures counted { steps.new ≡ steps.old + 1 }
+        ensures history { (position : ℕ → Position) (h : List Event)
+            → StandsFor position (season_of self.now.managers entry) h
+            → TeamTold position h gameweek result }
+    {
+        self.managers.team_at(entry, gameweek, steps)
+    }
+
+    /// An entry's free transfers in a gameweek; `None` where they have no number.
+    pub(crate) fn free(&self, entry: EntryId, gameweek: Gw, steps: &mut Steps<L>) -> Option<u8>
+        ensures counted { steps.new ≡ steps.old + 1 }
+        ensures history { (position : ℕ → Position) (h : List Event)
+            → StandsFor position (season_of self.now.managers entry) h
+            → FreeTold self.now.managers.profile h gameweek result }
+    {
+        self.managers.free(entry, gameweek, steps)
+    }
+
+    /// What an entry's transfers of a gameweek cost, in points.
+    pub(crate) fn cost(&self, entry: EntryId, gameweek: Gw, steps: &mut Steps<L>) -> u32
+        ensures counted { steps.new ≡ steps.old + 1 }
+        ensures history { (position : ℕ → Position) (h : List Event)
+            → StandsFor position (season_of self.now.managers entry) h
+            → result ≡ cost_at self.now.managers.profile h gameweek }
+    {
+        self.managers.cost(entry, gameweek, steps)
+    }
+
+    /// How many of an entry's transfers count in a table, in the gameweeks up to this one.
+    pub(crate) fn counted_transfers(&self, entry: EntryId, through: u8, steps: &mut Steps<L>) -> u32
+        ensures counted { steps.new ≡ steps.old + 1 }
+        ensures history { (position : ℕ → Position) (h : List Event)
+            → StandsFor position (season_of self.now.managers entry) h
+            → result ≡ counted_through h through }
+    {
+        self.managers.counted_transfers(entry, through, steps)
     }
 
     /// The leagues.
@@ -127,6 +233,13 @@ impl<'a, L: Ledger> Seen<'a, L> {
         self.season.is_finished(fixture)
     }
 
+    /// The players who have a line in a fixture, ascending.
+    pub(crate) fn players_of(&self, fixture: FixtureId) -> &[PlayerId]
+        ensures { result.now ≡ players_in (lines_of self.now.facts.matches fixture) }
+    {
+        self.season.matches().players_of(fixture)
+    }
+
     /// The players who have a line in a fixture, ascending, and beside them the line of each. Each line is one counted
     /// read.
     pub(crate) fn rows(&self, fixture: FixtureId, steps: &mut Steps<L>) -> (&[PlayerId], &[Line])
@@ -135,5 +248,40 @@ impl<'a, L: Ledger> Seen<'a, L> {
         ensures counted { steps.new ≡ steps.old + length (lines_of self.now.facts.matches fixture) }
     {
         self.season.rows(fixture, steps)
+    }
+}
+
+/// The cells of a season as a view reads them: by the counter of its caller alone.
+#[derive(Drop)]
+pub struct SeenCells<'a, L: Ledger> {
+    cells: &'a SeasonCells,
+    counter: PhantomData<L>,
+}
+
+impl<'a, L: Ledger> Model for SeenCells<'a, L> {
+    ghost use Rattle.season_nodes.specs.Held.{SeasonRows};
+
+    ghost Value = { SeasonRows };
+
+    ghost view = { λ s. s.cells.now };
+}
+
+impl<'a, L: Ledger> SeenCells<'a, L> {
+    /// These cells.
+    pub fn of(cells: &'a SeasonCells) -> Self
+        ensures { result ≡ cells.now }
+    {
+        SeenCells {
+            cells,
+            counter: PhantomData,
+        }
+    }
+
+    /// The value of a node, by a counted read; `None` where it is not live or was not evaluated yet.
+    pub(crate) fn get(&self, node: Node, steps: &mut Steps<L>) -> Option<&Value>
+        ensures value { option_copied result ≡ held_values self.now node }
+        ensures cost { steps.new ≡ steps.old + 1 }
+    {
+        self.cells.get(node, steps)
     }
 }

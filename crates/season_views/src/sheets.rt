@@ -10,10 +10,10 @@ ghost use Rattle.season_book.specs.Views.{line_shown};
 ghost use Rattle.season_views.specs.Cells.{AreKeptOf, line_with};
 
 use crate::reading::{bonuses_held, line_held};
+use crate::seen::{Seen, SeenCells};
 use fpl_base::{FixtureId, Memory, PlayerId, Steps};
 use season_book::{ShownLine, ShownLines};
-use season_facts::Season;
-use season_graph::{SeasonCells, lines_are_told};
+use season_graph::lines_are_told;
 use season_rules::bonus_among;
 use std::alloc::Global;
 use std::sync::ledger::Ledger;
@@ -21,21 +21,21 @@ use std::sync::ledger::Ledger;
 // The lines of a fixture by player, and what they are worth as their cells hold it.
 pub(crate) fn lines_shown<L: Ledger>(
     alloc: Global,
-    season: &Season,
-    cells: &SeasonCells,
+    seen: &Seen<L>,
+    cells: &SeenCells<L>,
     fixture: FixtureId,
     steps: &mut Steps<L>,
 ) -> Result<ShownLines, Memory>
-    requires { AreKeptOf season.now cells.now }
+    requires { AreKeptOf seen.now.facts cells.now }
     ensures value { IfOk result
         (λ lines. lines
-        ≡ map (line_shown season.now fixture) (lines_of season.now.matches fixture)) }
-    ensures cost { steps.new ≤ steps.old + (1 + length (lines_of season.now.matches fixture)) }
+        ≡ map (line_shown seen.now.facts fixture) (lines_of seen.now.facts.matches fixture)) }
+    ensures cost { steps.new ≤ steps.old + (1 + length (lines_of seen.now.facts.matches fixture)) }
 {
     // The law by which the lines of a fixture have what is told of their nodes, for the prover.
     lines_are_told();
     let bonuses = bonuses_held(cells, fixture, steps);
-    let players = season.matches().players_of(fixture);
+    let players = seen.players_of(fixture);
     let mut shown = ShownLines::with_room(alloc, players.len())?;
     for player in players {
         shown.push(line_shown(cells, fixture, bonuses, *player, steps))?;
@@ -45,7 +45,7 @@ pub(crate) fn lines_shown<L: Ledger>(
 
 // What a player's line in a fixture is worth as its cell holds it, with his bonus among those of the fixture.
 fn line_shown<L: Ledger>(
-    cells: &SeasonCells,
+    cells: &SeenCells<L>,
     fixture: FixtureId,
     bonuses: &[(PlayerId, u8)],
     player: PlayerId,

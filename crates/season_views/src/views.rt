@@ -8,13 +8,12 @@ ghost use Rattle.season_views.specs.Cells.{AreKeptOf};
 ghost use Rattle.season_views.specs.Reads.{reads_allowed};
 
 use crate::reading::gameweek_held;
+use crate::seen::{Seen, SeenCells};
 use crate::sheets::lines_shown;
 use fpl_base::{Gw, Memory, Moment, Steps};
 use rule_book::Player;
 use season_book::{Moments, Shown, ShownFixture, ShownSeason, View};
 use season_calendar::Calendar;
-use season_facts::Season;
-use season_graph::SeasonCells;
 use std::alloc::Global;
 use std::sync::ledger::Ledger;
 
@@ -22,24 +21,24 @@ use std::sync::ledger::Ledger;
 /// something is to be shown. Each cell that it reads is a counted read.
 pub fn show<L: Ledger>(
     alloc: Global,
-    season: &Season,
-    cells: &SeasonCells,
+    seen: &Seen<L>,
+    cells: &SeenCells<L>,
     view: View,
     steps: &mut Steps<L>,
 ) -> Result<Option<Shown>, Memory>
-    requires { AreKeptOf season.now cells.now }
-    ensures shown { IfOk result (λ shown. shown ≡ shown_of season.now view) }
-    ensures out { OnErr result (IsSome (shown_of season.now view)) }
+    requires { AreKeptOf seen.now.facts cells.now }
+    ensures shown { IfOk result (λ shown. shown ≡ shown_of seen.now.facts view) }
+    ensures out { OnErr result (IsSome (shown_of seen.now.facts view)) }
     ensures cost { steps.new
-        ≤ steps.old + reads_allowed (shown_or_unknown (shown_of season.now view)) }
+        ≤ steps.old + reads_allowed (shown_or_unknown (shown_of seen.now.facts view)) }
 {
     match view {
-        View::Season => Ok(Some(Shown::Season(season_shown(alloc, season)?))),
-        View::Player { player } => player_shown(season, player),
+        View::Season => Ok(Some(Shown::Season(season_shown(alloc, seen)?))),
+        View::Player { player } => player_shown(seen, player),
         View::PlayerGameweek { player, gameweek } => {
-            Ok(gameweek_shown(season, cells, player, gameweek, steps))
+            Ok(gameweek_shown(seen, cells, player, gameweek, steps))
         }
-        View::Fixture { fixture } => fixture_shown(alloc, season, cells, fixture, steps),
+        View::Fixture { fixture } => fixture_shown(alloc, seen, cells, fixture, steps),
         View::Me
         | View::EntryGameweek { .. }
         | View::League { .. }
@@ -48,15 +47,15 @@ pub fn show<L: Ledger>(
     }
 }
 
-fn season_shown(alloc: Global, season: &Season) -> Result<ShownSeason, Memory>
-    ensures { IfOk result (λ shown. shown ≡ season_shown season.now) }
+fn season_shown<L: Ledger>(alloc: Global, seen: &Seen<L>) -> Result<ShownSeason, Memory>
+    ensures { IfOk result (λ shown. shown ≡ season_shown seen.now.facts) }
 {
     Ok(ShownSeason {
-        clubs: season.clubs()?,
-        deadlines: deadlines_of(alloc, season.calendar())?,
-        locked: season.calendar().locked(),
-        profile: season.profile(),
-        split: season.calendar().split(),
+        clubs: seen.clubs()?,
+        deadlines: deadlines_of(alloc, seen.calendar())?,
+        locked: seen.calendar().locked(),
+        profile: seen.profile(),
+        split: seen.calendar().split(),
     })
 }
 
@@ -80,11 +79,11 @@ fn deadline_at(calendar: &Calendar, place: u8) -> Moment
     calendar.deadline(gameweek).unwrap()
 }
 
-fn player_shown(season: &Season, player: u32) -> Result<Option<Shown>, Memory>
-    ensures shown { IfOk result (λ shown. shown ≡ shown_of season.now (view.Player player)) }
-    ensures out { OnErr result (IsSome (shown_of season.now (view.Player player))) }
+fn player_shown<L: Ledger>(seen: &Seen<L>, player: u32) -> Result<Option<Shown>, Memory>
+    ensures shown { IfOk result (λ shown. shown ≡ shown_of seen.now.facts (view.Player player)) }
+    ensures out { OnErr result (IsSome (shown_of seen.now.facts (view.Player player))) }
 {
-    match season.player(player) {
+    match seen.player(player) {
         Some(there) => Ok(Some(Shown::Player(copy_of_player(there)?))),
         None => Ok(None),
     }
@@ -104,29 +103,29 @@ fn copy_of_player(player: &Player) -> Result<Player, Memory>
 }
 
 fn gameweek_shown<L: Ledger>(
-    season: &Season,
-    cells: &SeasonCells,
+    seen: &Seen<L>,
+    cells: &SeenCells<L>,
     player: u32,
     gameweek: u32,
     steps: &mut Steps<L>,
 ) -> Option<Shown>
-    requires { AreKeptOf season.now cells.now }
-    ensures shown { result ≡ shown_of season.now (view.PlayerGameweek player gameweek) }
+    requires { AreKeptOf seen.now.facts cells.now }
+    ensures shown { result ≡ shown_of seen.now.facts (view.PlayerGameweek player gameweek) }
     ensures cost { steps.new ≤ steps.old + 1 }
 {
-    let there = season.player(player)?;
+    let there = seen.player(player)?;
     let id = there.id;
-    let locked = locked_gameweek(season, gameweek)?;
+    let locked = locked_gameweek(seen, gameweek)?;
     let figures = gameweek_held(cells, id, locked, steps);
     Some(Shown::PlayerGameweek(figures))
 }
 
 // The gameweek of this number, if it is locked.
-pub(crate) fn locked_gameweek(season: &Season, number: u32) -> Option<Gw>
+pub(crate) fn locked_gameweek<L: Ledger>(seen: &Seen<L>, number: u32) -> Option<Gw>
     ensures { result
-        ≡ (if nat_le 1 number && is_locked season.now.calendar number then Some number else None) }
+        ≡ (if nat_le 1 number && is_locked seen.now.facts.calendar number then Some number else None) }
 {
-    if number >= 1 && number <= u32::from(season.calendar().locked()) {
+    if number >= 1 && number <= u32::from(seen.calendar().locked()) {
         Gw::new(number as u8)
     } else {
         None
@@ -135,23 +134,23 @@ pub(crate) fn locked_gameweek(season: &Season, number: u32) -> Option<Gw>
 
 fn fixture_shown<L: Ledger>(
     alloc: Global,
-    season: &Season,
-    cells: &SeasonCells,
+    seen: &Seen<L>,
+    cells: &SeenCells<L>,
     fixture: u32,
     steps: &mut Steps<L>,
 ) -> Result<Option<Shown>, Memory>
-    requires { AreKeptOf season.now cells.now }
-    ensures shown { IfOk result (λ shown. shown ≡ shown_of season.now (view.Fixture fixture)) }
-    ensures out { OnErr result (IsSome (shown_of season.now (view.Fixture fixture))) }
+    requires { AreKeptOf seen.now.facts cells.now }
+    ensures shown { IfOk result (λ shown. shown ≡ shown_of seen.now.facts (view.Fixture fixture)) }
+    ensures out { OnErr result (IsSome (shown_of seen.now.facts (view.Fixture fixture))) }
     ensures cost { steps.new
         ≤ steps.old
-        + reads_allowed (shown_or_unknown (shown_of season.now (view.Fixture fixture))) }
+        + reads_allowed (shown_or_unknown (shown_of seen.now.facts (view.Fixture fixture))) }
 {
-    match season.fixture(fixture) {
+    match seen.fixture(fixture) {
         Some(there) => Ok(Some(Shown::Fixture(ShownFixture {
             fixture: there,
-            finished: season.is_finished(there.id),
-            lines: lines_shown(alloc, season, cells, there.id, steps)?,
+            finished: seen.is_finished(there.id),
+            lines: lines_shown(alloc, seen, cells, there.id, steps)?,
         }))),
         None => Ok(None),
     }

@@ -6,7 +6,7 @@ use Rattle.season_views.proofs.classic.classic.Goals as goal
 
 pub returns-clause-value : goal.returns-clause-value
 returns-clause-value g c entries are =
-    let facts = c.args.season.now in
+    let facts = c.args.seen.now.facts in
     let league = c.args.league.now in
     let rows = c.deref.ensures.value ∙ c.in_ok-rows.ensures.value entries are in
     classic_made facts entries league c.in_ok-copy.field-0 c.start.result c.in_ok-classic_named.field-0 (c.in_ok-copy.ensures ∙ c.name.ensures) c.start.ensures

@@ -4,4 +4,4 @@ use Rattle.season_views.specs.Entries.{OfEachNames}
 use Rattle.season_views.proofs.classic.classic_named.Given as goal
 
 abbrev pub invariant-loop-row : goal.invariant-loop-row
-invariant-loop-row l = OfEachNames l.managers (λ entries. l.shown ≡ map (ranked_shown entries) (take l.row-index l.table))
+invariant-loop-row g l = OfEachNames l.seen.managers (λ entries. l.shown ≡ map (ranked_shown entries) (take l.row-index l.table))

@@ -13,8 +13,8 @@ use Rattle.season_views.proofs.classic.classic_row.Goals as goal
 
 pub returns-clause-value : goal.returns-clause-value
 returns-clause-value g c entries are =
-    let facts = c.args.season.now in
-    let managers = c.args.managers.now in
+    let facts = c.args.seen.now.facts in
+    let managers = c.args.seen.now.managers in
     let leagues = c.requires.kept.0 in
     let cups = c.requires.kept.1 in
     let e = c.args.entry in

@@ -7,8 +7,8 @@ use Rattle.season_views.proofs.classic.classic_rows.Goals as goal
 
 pub classic_row-row-requires-clause-kept : goal.classic_row-row-requires-clause-kept
 classic_row-row-requires-clause-kept g c =
-    let facts = c.args.season.now in
-    let managers = c.args.managers.now in
+    let facts = c.args.seen.now.facts in
+    let managers = c.args.seen.now.managers in
     let league = c.args.league.now in
     let members = c.members-member-items.ensures.value in
     let i = c.loop-member.member-index in
@@ -19,7 +19,7 @@ classic_row-row-requires-clause-kept g c =
 
 pub loop-member-preserved : goal.loop-member-preserved
 loop-member-preserved g c =
-    let facts = c.args.season.now in
+    let facts = c.args.seen.now.facts in
     let league = c.args.league.now in
     let members = c.members-member-items.ensures.value in
     let i = c.loop-member.member-index in

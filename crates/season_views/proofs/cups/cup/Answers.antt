@@ -7,7 +7,7 @@ use Rattle.season_views.proofs.cups.cup.Goals as goal
 
 pub loop-round-preserved : goal.loop-round-preserved
 loop-round-preserved g c =
-    let facts = c.args.season.now in
+    let facts = c.args.seen.now.facts in
     let b = c.args.bracket.now in
     let round = c.loop-round.round in
     let locked = facts.calendar.locked in
@@ -23,10 +23,10 @@ loop-round-preserved g c =
 pub returns-in_err-winners-clause-each : goal.returns-in_err-winners-clause-each
 returns-in_err-winners-clause-each g c entries are =
     let b = c.args.bracket.now in
-    let locked = c.args.season.now.calendar.locked in
+    let locked = c.args.seen.now.facts.calendar.locked in
     let round = c.loop-round.round in
-    rounds_read b (side_in c.args.season.now entries) locked (round + 1) _ _ (omega (arith, c.loop-round-test.true, c.rounds-round-end.ensures.value))
-    (round_read b (side_in c.args.season.now entries) locked round _ _ _ (c.loop-round.invariant.cost entries are) (c.winners_shown.ensures.cost entries are))
+    rounds_read b (side_in c.args.seen.now.facts entries) locked (round + 1) _ _ (omega (arith, c.loop-round-test.true, c.rounds-round-end.ensures.value))
+    (round_read b (side_in c.args.seen.now.facts entries) locked round _ _ _ (c.loop-round.invariant.cost entries are) (c.winners_shown.ensures.cost entries are))
 
 pub returns-in_err-winners-clause-cost : goal.returns-in_err-winners-clause-cost
 returns-in_err-winners-clause-cost g c entries are = ties_read _ _ _ (returns-in_err-winners-clause-each g c entries are)
@@ -34,10 +34,10 @@ returns-in_err-winners-clause-cost g c entries are = ties_read _ _ _ (returns-in
 pub returns-in_err-push-clause-each : goal.returns-in_err-push-clause-each
 returns-in_err-push-clause-each g c entries are =
     let b = c.args.bracket.now in
-    let locked = c.args.season.now.calendar.locked in
+    let locked = c.args.seen.now.facts.calendar.locked in
     let round = c.loop-round.round in
-    rounds_read b (side_in c.args.season.now entries) locked (round + 1) _ _ (omega (arith, c.loop-round-test.true, c.rounds-round-end.ensures.value))
-    (round_read b (side_in c.args.season.now entries) locked round _ _ _ (c.loop-round.invariant.cost entries are) (c.winners_shown.ensures.cost entries are))
+    rounds_read b (side_in c.args.seen.now.facts entries) locked (round + 1) _ _ (omega (arith, c.loop-round-test.true, c.rounds-round-end.ensures.value))
+    (round_read b (side_in c.args.seen.now.facts entries) locked round _ _ _ (c.loop-round.invariant.cost entries are) (c.winners_shown.ensures.cost entries are))
 
 pub returns-in_err-push-clause-cost : goal.returns-in_err-push-clause-cost
 returns-in_err-push-clause-cost g c entries are = ties_read _ _ _ (returns-in_err-push-clause-each g c entries are)

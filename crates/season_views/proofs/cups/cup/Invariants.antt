@@ -8,6 +8,6 @@ use Rattle.season_views.proofs.cups.cup.Given as goal
 
 abbrev pub invariant-loop-round : goal.invariant-loop-round
 invariant-loop-round g l = record {
-  shown : OfEachBook l.season l.managers (λ entries. l.shown ≡ map (locked_winners l.bracket (side_in l.season entries) l.season.calendar.locked) (range_with_len 1 l.round));
-  cost : OfEachBook l.season l.managers (λ entries. l.steps ≤ l.fn.steps + ties_until l.bracket (side_in l.season entries) l.season.calendar.locked l.round);
+  shown : OfEachBook l.seen.facts l.seen.managers (λ entries. l.shown ≡ map (locked_winners l.bracket (side_in l.seen.facts entries) l.seen.facts.calendar.locked) (range_with_len 1 l.round));
+  cost : OfEachBook l.seen.facts l.seen.managers (λ entries. l.steps ≤ l.fn.steps + ties_until l.bracket (side_in l.seen.facts entries) l.seen.facts.calendar.locked l.round);
 }

@@ -8,12 +8,12 @@ use Rattle.season_views.proofs.cups.winners_shown.Goals as goal
 
 pub returns-else-is_played-clause-value : goal.returns-else-is_played-clause-value
 returns-else-is_played-clause-value g c entries are =
-    open_shown c.args.bracket.now (side_in c.args.season.now entries) c.args.season.now.calendar.locked (c.args.round + 1) (sym c.is_played.ensures.value ∙ c.if-is_played.false)
+    open_shown c.args.bracket.now (side_in c.args.seen.now.facts entries) c.args.seen.now.facts.calendar.locked (c.args.round + 1) (sym c.is_played.ensures.value ∙ c.if-is_played.false)
 
 pub returns-in_ok-winners_held-clause-value : goal.returns-in_ok-winners_held-clause-value
 returns-in_ok-winners_held-clause-value g c entries are =
-    let facts = c.args.season.now in
-    let managers = c.args.managers.now in
+    let facts = c.args.seen.now.facts in
+    let managers = c.args.seen.now.managers in
     let leagues = c.requires.kept.0 in
     let cups = c.requires.kept.1 in
     let b = c.args.bracket.now in
@@ -25,12 +25,12 @@ returns-in_ok-winners_held-clause-value g c entries are =
 
 pub returns-in_ok-winners_held-clause-cost : goal.returns-in_ok-winners_held-clause-cost
 returns-in_ok-winners_held-clause-cost g c entries are =
-    let side = side_in c.args.season.now entries in
-    locked_read c.args.bracket.now side c.args.season.now.calendar.locked (c.args.round + 1) _ _ (sym c.is_played.ensures.value ∙ c.if-is_played.true)
+    let side = side_in c.args.seen.now.facts entries in
+    locked_read c.args.bracket.now side c.args.seen.now.facts.calendar.locked (c.args.round + 1) _ _ (sym c.is_played.ensures.value ∙ c.if-is_played.true)
     (c.rounds_follow.ensures.count c.args.bracket.now side (c.args.round + 1)) c.winners_held.ensures.cost
 
 pub returns-in_err-winners_held-clause-cost : goal.returns-in_err-winners_held-clause-cost
 returns-in_err-winners_held-clause-cost g c entries are =
-    let side = side_in c.args.season.now entries in
-    locked_read c.args.bracket.now side c.args.season.now.calendar.locked (c.args.round + 1) _ _ (sym c.is_played.ensures.value ∙ c.if-is_played.true)
+    let side = side_in c.args.seen.now.facts entries in
+    locked_read c.args.bracket.now side c.args.seen.now.facts.calendar.locked (c.args.round + 1) _ _ (sym c.is_played.ensures.value ∙ c.if-is_played.true)
     (c.rounds_follow.ensures.count c.args.bracket.now side (c.args.round + 1)) c.winners_held.ensures.cost

@@ -11,14 +11,14 @@ use Rattle.season_views.proofs.entries.gameweek_of.Goals as goal
 
 pub returns-in_err-team-clause-value : goal.returns-in_err-team-clause-value
 returns-in_err-team-clause-value g c h stands =
-    let facts = c.args.season.now in
+    let facts = c.args.seen.now.facts in
     let none : c.from_residual.result ≡ None = search rules in
     none ∙ passed_over (is_begun h c.args.gameweek) (Some (entry_gameweek_shown facts h c.args.gameweek)) None (c.in_err-team.ensures.history (position_in facts.players) h stands)
 
 pub returns-in_err-score-clause-value : goal.returns-in_err-score-clause-value
 returns-in_err-score-clause-value g c h stands =
-    let facts = c.args.season.now in
-    let managers = c.args.managers.now in
+    let facts = c.args.seen.now.facts in
+    let managers = c.args.seen.now.managers in
     let gw = c.args.gameweek in
     let issued : 1 ≤ c.args.entry = search rules in
     let one : 1 ≤ gw = search rules in
@@ -30,8 +30,8 @@ returns-in_err-score-clause-value g c h stands =
 
 pub returns-clause-value : goal.returns-clause-value
 returns-clause-value g c h stands =
-    let facts = c.args.season.now in
-    let managers = c.args.managers.now in
+    let facts = c.args.seen.now.facts in
+    let managers = c.args.seen.now.managers in
     let gw = c.args.gameweek in
     let issued : 1 ≤ c.args.entry = search rules in
     let one : 1 ≤ gw = search rules in

@@ -19,15 +19,15 @@ use Rattle.season_views.proofs.entries.my_entry.Goals as goal
 
 pub returns-in_err-_first-clause-value : goal.returns-in_err-_first-clause-value
 returns-in_err-_first-clause-value g c h stands =
-    let facts = c.args.season.now in
+    let facts = c.args.seen.now.facts in
     let none : c.from_residual.result ≡ None = search rules in
     none ∙ passed_over (is_started h) (Some (me_shown facts h c.args.entry c.args.last)) None (c.in_err-_first.ensures.history (position_in facts.players) h stands)
 
 pub returns-in_err-team-clause-value : goal.returns-in_err-team-clause-value
 returns-in_err-team-clause-value g c h stands =
-    let facts = c.args.season.now in
+    let facts = c.args.seen.now.facts in
     let gameweek = c.gameweek_seen-gameweek.result in
-    let rows = season_of c.args.managers.now c.args.entry in
+    let rows = season_of c.args.seen.now.managers c.args.entry in
     let up : AllUpTo gameweek rows = subst (λ w. AllUpTo w rows) (sym c.gameweek_seen-gameweek.ensures) c.requires.later in
     let from = first_up_to gameweek _ rows c.in_ok-_first.ensures.rows up in
     not_both (is_begun h gameweek) (c.in_err-team.ensures.history (position_in facts.players) h stands)
@@ -35,8 +35,8 @@ returns-in_err-team-clause-value g c h stands =
 
 pub returns-clause-value : goal.returns-clause-value
 returns-clause-value g c h stands =
-    let facts = c.args.season.now in
-    let managers = c.args.managers.now in
+    let facts = c.args.seen.now.facts in
+    let managers = c.args.seen.now.managers in
     let leagues = c.requires.kept.0 in
     let cups = c.requires.kept.1 in
     let e = c.args.entry in

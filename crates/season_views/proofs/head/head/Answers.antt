@@ -17,15 +17,15 @@ head_table-requires g c =
 
 pub head_named-requires : goal.head_named-requires
 head_named-requires g c =
-    let n = length c.args.managers.now.managers in
+    let n = length c.args.seen.now.managers.managers in
     let firsts = ap (map (λ (row : ℕ × HeadScore). row.0)) c.deref.ensures.value ∙ c.in_ok-rows.ensures.entries in
     subst (All (λ (row : HeadRanked). row.entry ≤ n)) (sym c.deref-2.ensures.value)
     (c.in_ok-table.ensures.entries n (subst (All (λ (e : ℕ). e ≤ n)) (sym firsts) c.requires.issued))
 
 pub returns-clause-value : goal.returns-clause-value
 returns-clause-value g c entries are =
-    let facts = c.args.season.now in
-    let managers = c.args.managers.now in
+    let facts = c.args.seen.now.facts in
+    let managers = c.args.seen.now.managers in
     let league = c.args.league.now in
     let leagues = c.requires.kept.0 in
     let cups = c.requires.kept.1 in

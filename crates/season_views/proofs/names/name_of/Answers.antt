@@ -5,7 +5,7 @@ use Rattle.season_views.proofs.Histories.{if_ok, name_in_books}
 use Rattle.season_views.proofs.names.name_of.Goals as goal
 
 pub returns : goal.returns
-returns c =
+returns g c =
     let one : 1 ≤ c.args.entry = search rules in
-    if_ok c.copy.result (λ name. name ≡ c.in-Some.name.now) (λ name. OfEachNames c.args.managers.now (λ entries. name ≡ name_of entries c.args.entry))
-    (λ name same players entries are. same ∙ name_in_books c.args.managers.now c.args.entry c.in-Some.name.now one c.in-Some.ensures players entries are) c.copy.ensures
+    if_ok c.copy.result (λ name. name ≡ c.in-Some.name.now) (λ name. OfEachNames c.args.seen.now.managers (λ entries. name ≡ name_of entries c.args.entry))
+    (λ name same players entries are. same ∙ name_in_books c.args.seen.now.managers c.args.entry c.in-Some.name.now one c.in-Some.ensures players entries are) c.copy.ensures

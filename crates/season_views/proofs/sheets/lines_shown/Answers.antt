@@ -14,7 +14,7 @@ use Rattle.season_views.proofs.sheets.lines_shown.Goals as goal
 
 pub loop-player-preserved : goal.loop-player-preserved
 loop-player-preserved g c =
-    let facts = c.args.season.now in
+    let facts = c.args.seen.now.facts in
     let managers = c.requires.0 in
     let leagues = c.requires.1 in
     let cups = c.requires.2 in
@@ -24,7 +24,7 @@ loop-player-preserved g c =
     let i = c.loop-player.player-index in
     let none : ℕ × Line = (0, record { figures = [] }) in
     let row : ℕ × Line = get_or lines i none in
-    let players : c.players_of-players.result.now ≡ players_in lines = c.players_of-players.ensures.players ∙ ap (λ m. players_in (lines_of m f)) c.matches.ensures in
+    let players : c.players_of-players.result.now ≡ players_in lines = c.players_of-players.ensures in
     let within : i < length lines = omega (arith, c.loop-player-test.true, ap length players, length-map lines (λ (r : ℕ × Line). r.0)) in
     let is : c.player-item.result ≡ row.0 = c.player-item.is ∙ ap (λ ps. get_or ps i c.player-item.result) players ∙ player_at lines i c.player-item.result none within in
     let told = c.lines_are_told.ensures b f row c.requires.3.season (among_at lines i none within) in
@@ -42,8 +42,8 @@ loop-player-preserved g c =
 
 pub returns-clause-value : goal.returns-clause-value
 returns-clause-value g c =
-    let lines : Lines = lines_of c.args.season.now.matches c.args.fixture in
+    let lines : Lines = lines_of c.args.seen.now.facts.matches c.args.fixture in
     let players : c.players_of-players.result.now ≡ players_in lines =
-    c.players_of-players.ensures.players ∙ ap (λ m. players_in (lines_of m c.args.fixture)) c.matches.ensures in
+    c.players_of-players.ensures in
     let past : length lines ≤ c.loop-player.player-index = omega (arith, c.loop-player-test.false, ap length players, length-map lines (λ (r : ℕ × Line). r.0)) in
-    c.loop-player.invariant.value ∙ ap (map (line_shown c.args.season.now c.args.fixture)) (take_all c.loop-player.player-index lines past)
+    c.loop-player.invariant.value ∙ ap (map (line_shown c.args.seen.now.facts c.args.fixture)) (take_all c.loop-player.player-index lines past)

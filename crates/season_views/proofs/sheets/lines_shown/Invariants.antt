@@ -5,6 +5,6 @@ use Rattle.season_views.proofs.sheets.lines_shown.Given as goal
 
 abbrev pub invariant-loop-player : goal.invariant-loop-player
 invariant-loop-player g l = record {
-  value : l.shown ≡ map (line_shown l.season l.fixture) (take l.player-index (lines_of l.season.matches l.fixture));
+  value : l.shown ≡ map (line_shown l.seen.facts l.fixture) (take l.player-index (lines_of l.seen.facts.matches l.fixture));
   cost : l.steps ≤ l.fn.steps + (1 + l.player-index);
 }

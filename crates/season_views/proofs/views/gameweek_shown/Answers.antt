@@ -4,7 +4,7 @@ use Rattle.season_views.proofs.views.gameweek_shown.Goals as goal
 
 pub returns-clause-shown : goal.returns-clause-shown
 returns-clause-shown g c =
-    let facts = c.args.season.now in
+    let facts = c.args.seen.now.facts in
     let managers = c.requires.0 in
     let leagues = c.requires.1 in
     let cups = c.requires.2 in

@@ -1,4 +1,4 @@
-use Rattle.std.proofs.Common.{◌≡◌, ◌∙◌, sym}
+use Rattle.std.proofs.Common.{◌∙◌, sym}
 use Rattle.season_book.specs.Windows.{window_data}
 use Rattle.season_views.proofs.Written.{no_text, on_err, text_is}
 use Rattle.season_views.proofs.windows.window.Goals as goal

@@ -1,8 +1,7 @@
-use Rattle.std.proofs.Common.{◌≡◌, ◌∙◌, [], None, ap}
-use Rattle.rule_book.specs.Entries.{entry_in}
+use Rattle.std.proofs.Common.{◌∙◌, [], ap}
 use Rattle.json_members.specs.Tokens.{tokens_of}
 use Rattle.json_members.proofs.AppendLemmas.{text_of}
-use Rattle.season_book.specs.Book.{EntryFacts, caller_number}
+use Rattle.season_book.specs.Book.{caller_number}
 use Rattle.season_book.specs.Windows.{me_window}
 use Rattle.season_views.proofs.Written.{me_nobody, nobody_at, retold}
 use Rattle.season_views.proofs.windows.window_before.Goals as goal

@@ -1,4 +1,3 @@
-use Rattle.std.proofs.Common.{◌≡◌, ◌≤◌, arith}
 use Rattle.json_members.proofs.AppendLemmas.{one, then}
 use Rattle.season_views.proofs.windows.write_sheet.Goals as goal
 

@@ -1,10 +1,8 @@
 use Rattle.std.proofs.Common.{arith, subst, sym}
 use Rattle.season_book.specs.declared.request.View.TheVariants as view
-use Rattle.season_book.specs.Book.{Facts}
 use Rattle.season_book.specs.Verdict.{view_answer}
-use Rattle.season_views.specs.Cells.{AreKept}
 use Rattle.season_views.proofs.Counted.{eight}
-use Rattle.season_running.specs.Changed.{played_by}
+use Rattle.season_running.specs.Kept.{AreKeptBy}
 use Rattle.season_running.proofs.HostFacts.{gameweek_shown, seen_answered, stood_for}
 use Rattle.season_host.proofs.Followed.{kept_of}
 use Rattle.season_host.proofs.ViewReads.{last_is, seen_reads, window_few}
@@ -32,18 +30,12 @@ returns-in-Cup-clause-shown g c =
     let plays = stood_for c.args.self.now c.self.inside.operator c.self.inside.running c.self.inside.lasts running book c.self.view_is c.in-Some.is stands in
     seen_answered book c.args.caller.now (view.Cup c.in-Cup.cup) running.facts c.cup.result plays.facts (c.cup.ensures.seen c.args.caller.now book plays))
 
-pub answer_shown-requires : goal.answer_shown-requires
-answer_shown-requires g c =
+pub show-requires : goal.show-requires
+show-requires g c =
     let running = c.in-Some.running in
-    let managers = played_by running.facts.profile running.managers in (
-      managers,
-      running.leagues,
-      running.cups,
-      subst (λ (f : Facts). AreKept f managers running.leagues running.cups c.cells-cells.result.now) (sym c.season.ensures)
-          (subst (λ cells. AreKept running.facts managers running.leagues running.cups cells) (sym c.cells-cells.ensures)
-          (kept_of c.self.inside.operator c.self.inside.lasts c.args.self.now c.self.inside.running running c.args.cells.now c.in-Some-cells.kept
-          c.self.view_is c.in-Some.is c.in-Some-cells.is c.requires)),
-    )
+    subst (λ cells. AreKeptBy running cells) (sym c.cells-cells.ensures)
+    (kept_of c.self.inside.operator c.self.inside.lasts c.args.self.now c.self.inside.running running c.args.cells.now c.in-Some-cells.kept
+    c.self.view_is c.in-Some.is c.in-Some-cells.is c.requires)
 
 pub returns-in-Me-clause-cost : goal.returns-in-Me-clause-cost
 returns-in-Me-clause-cost g c = λ book stands.

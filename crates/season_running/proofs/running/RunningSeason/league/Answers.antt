@@ -1,5 +1,5 @@
 use Rattle.std.proofs.Common.{◌≡◌, ◌≤◌, ◌+◌, ◌∙◌, ℕ, List, Some, ap, subst, sym}
-use Rattle.std.specs.Prelude.{option_copied}
+use Rattle.std.specs.Prelude.{IfOk, option_copied}
 use Rattle.std.specs.Option.{option_map}
 use Rattle.rule_book.specs.Entries.{entry_in}
 use Rattle.rule_book.specs.Leagues.{LeagueFacts}
@@ -9,7 +9,10 @@ use Rattle.season_book.specs.LeagueViews.{league_shown}
 use Rattle.season_book.specs.Verdict.{shown_or_unknown}
 use Rattle.season_book.specs.declared.shown.Shown.{Shown}
 use Rattle.season_entries.specs.Entries.{AreEntries}
-use Rattle.season_views.specs.Reads.{reads_allowed}
+use Rattle.season_views.specs.Cells.{AreKeptFor}
+use Rattle.season_views.specs.Entries.{OfEachBook}
+use Rattle.season_views.specs.Reads.{reads_allowed, reads_of}
+use Rattle.season_views.specs.Seen.{SeenSeason}
 use Rattle.season_running.specs.Kept.{AreKeptBy}
 use Rattle.season_running.specs.Standing.{Plays, Running}
 use Rattle.season_running.proofs.KeptFacts.{kept_for}
@@ -27,8 +30,9 @@ returns-in-Some-get-clause-seen g c = λ caller book plays.
     let at : entry_in book.leagues c.args.number ≡ Some league =
     ap (λ (l : List LeagueFacts). entry_in l c.args.number) here.leagues ∙ subst (λ (n : ℕ). entry_in c.self.inside.leagues n ≡ Some league) c.in-Some.ensures.value at_id in
     let due : Shown = league_shown season book.entries league in
+    let value = subst (λ (s : SeenSeason). IfOk c.league.result (λ shown. OfEachBook s.facts s.managers (λ entries. shown ≡ league_shown s.facts entries league))) c.of-seen.ensures c.league.ensures.value in
     let told = if_ok (λ (s : Shown). (entries : List EntryFacts) → AreEntries season.players managers entries → s ≡ league_shown season entries league) (λ (s : Shown). s ≡ due) c.league.result
-    (λ s each. each book.entries here.entries) c.league.ensures.value in
+    (λ s each. each book.entries here.entries) value in
     subst (λ (r : Running). IsShown (shown_or_unknown (option_map (league_shown r.facts book.entries) (entry_in book.leagues c.args.number))) c.answer_of.result) c.self.view_is
     (subst (λ o. IsShown (shown_or_unknown (option_map (league_shown season book.entries) o)) c.answer_of.result) (sym at) (c.answer_of.ensures.shown due told))
 
@@ -36,8 +40,14 @@ pub league-requires-clause-kept : goal.league-requires-clause-kept
 league-requires-clause-kept g c =
     let league : LeagueFacts = c.in-Some-get.there.now in
     let at_id : entry_in c.self.inside.leagues c.in-Some.id ≡ Some league = sym c.get.ensures ∙ ap option_copied c.in-Some-get.is in
-    kept_for c.self.inside.season c.self.inside.managers c.self.inside.leagues c.self.inside.cups c.in-Some.id league c.args.cells.now c.self.invariant.profile at_id
-    (subst (λ (r : Running). AreKeptBy r c.args.cells.now) (sym c.self.view_is) c.requires)
+    let kept = kept_for c.self.inside.season c.self.inside.managers c.self.inside.leagues c.self.inside.cups c.in-Some.id league c.args.cells.now c.self.invariant.profile at_id
+    (subst (λ (r : Running). AreKeptBy r c.args.cells.now) (sym c.self.view_is) c.requires) in
+    subst (λ (s : SeenSeason). AreKeptFor s.facts s.managers c.in-Some.id league c.of-cells.result) (sym c.of-seen.ensures)
+    (subst (λ rows. AreKeptFor c.self.inside.season c.self.inside.managers c.in-Some.id league rows) (sym c.of-cells.ensures) kept)
+
+pub league-requires-clause-profile : goal.league-requires-clause-profile
+league-requires-clause-profile g c =
+    subst (λ (s : SeenSeason). s.managers.profile ≡ s.facts.profile) (sym c.of-seen.ensures) c.self.invariant.profile
 
 pub returns-in-Some-get-clause-cost : goal.returns-in-Some-get-clause-cost
 returns-in-Some-get-clause-cost g c = λ caller book plays.
@@ -49,5 +59,6 @@ returns-in-Some-get-clause-cost g c = λ caller book plays.
     let at_id : entry_in c.self.inside.leagues c.in-Some.id ≡ Some league = sym c.get.ensures ∙ ap option_copied c.in-Some-get.is in
     let at : entry_in book.leagues c.args.number ≡ Some league =
     ap (λ (l : List LeagueFacts). entry_in l c.args.number) here.leagues ∙ subst (λ (n : ℕ). entry_in c.self.inside.leagues n ≡ Some league) c.in-Some.ensures.value at_id in
+    let cost = subst (λ (s : SeenSeason). OfEachBook s.facts s.managers (λ entries. c.league.new.steps ≤ c.args.steps.now + reads_of (league_shown s.facts entries league))) c.of-seen.ensures c.league.ensures.cost in
     subst (λ (r : Running). c.league.new.steps ≤ c.args.steps.now + reads_allowed (shown_or_unknown (option_map (league_shown r.facts book.entries) (entry_in book.leagues c.args.number)))) c.self.view_is
-    (subst (λ o. c.league.new.steps ≤ c.args.steps.now + reads_allowed (shown_or_unknown (option_map (league_shown season book.entries) o))) (sym at) (c.league.ensures.cost book.entries here.entries))
+    (subst (λ o. c.league.new.steps ≤ c.args.steps.now + reads_allowed (shown_or_unknown (option_map (league_shown season book.entries) o))) (sym at) (cost book.entries here.entries))

@@ -1,4 +1,4 @@
-use Rattle.std.proofs.Common.{◌≡◌, ◌≤◌, ap, rules, subst, sym}
+use Rattle.std.proofs.Common.{◌≤◌, rules, subst, sym}
 use Rattle.rule_book.specs.PlayerFigures.{position_in}
 use Rattle.rule_book.specs.Players.{ArePlayers}
 use Rattle.season_entries.specs.Entries.{AreEntries}

@@ -1,4 +1,4 @@
-use Rattle.std.proofs.Common.{◌≡◌, ◌∙◌, ◌+◌, ap, length, sym}
+use Rattle.std.proofs.Common.{◌∙◌, ◌+◌, ap, length, sym}
 use Rattle.rule_book.specs.MatchFacts.{lines_of}
 use Rattle.json_members.proofs.ListLemmas.{length-zip}
 use Rattle.season_views.specs.Seen.{SeenSeason}

@@ -1,0 +1,12 @@
+use Rattle.std.proofs.Common.{◌≡◌, ℕ, List, subst}
+use Rattle.fpl_base.specs.declared.kinds.Position.{Position}
+use Rattle.rule_book.specs.History.{Event}
+use Rattle.rule_book.specs.HistoryTransfers.{counted_through}
+use Rattle.season_ledger.specs.Stands.{StandsFor}
+use Rattle.manager_book.specs.Managers.{season_of}
+use Rattle.season_views.specs.Seen.{SeenSeason}
+use Rattle.season_views.proofs.seen.Seen.counted_transfers.Goals as goal
+
+pub returns-clause-history : goal.returns-clause-history
+returns-clause-history g c =
+    subst (λ (s : SeenSeason). (position : ℕ → Position) (h : List Event) → StandsFor position (season_of s.managers c.args.entry) h → c.counted_transfers.result ≡ counted_through h c.args.through) c.self.view_is c.counted_transfers.ensures.history
