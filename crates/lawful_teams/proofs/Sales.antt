@@ -1,5 +1,5 @@
 -- The transfers of a gameweek, as they are told and as events make them.
-use Rattle.std.proofs.Common.{◌≡◌, ◌≤◌, ◌+◌, ◌-◌, ℕ, zero, suc, Bool, true, false, cond, not, ◌&&◌, ◌||◌, List, [], ◌∷◌, ◌++◌, length, Option, Some, None, nat_eq, arith, refl, sym, ap, ◌∙◌}
+use Rattle.std.proofs.Common.{◌≡◌, ◌<◌, ◌≤◌, ◌+◌, ◌-◌, ℕ, zero, suc, Bool, true, false, cond, not, ◌&&◌, ◌||◌, List, [], ◌∷◌, ◌++◌, length, Option, Some, None, nat_eq, arith, refl, sym, ap, ◌∙◌}
 use Rattle.std.specs.Prelude.{slice_get}
 use Rattle.std.specs.List.{AllByRecursion as Each}
 use Rattle.std.specs.Option.{option_and_then, option_map}
@@ -20,23 +20,21 @@ use Rattle.season_ledger.proofs.InOrder.{events_of}
 use Rattle.season_records.specs.Records.{transfer_item}
 use Rattle.season_records.specs.Records as records
 use Rattle.stored_records.specs.EntryTold.{sale_in, sale_told}
-use Rattle.stored_records.specs.Sequels.{and_then_those, sales_from, sales_told}
+use Rattle.stored_records.specs.Sequels.{all_numbers, and_those, every_sale_told, sales_under}
 use Rattle.stored_records.specs.Stored.{told}
-use Rattle.stored_records.proofs.Trading.{none_ahead, one_ahead}
+use Rattle.stored_records.proofs.Numbers.{nothing_under, one_under, since_later}
 use Rattle.lawful_teams.specs.TeamsTold.{Tells}
 use Rattle.lawful_teams.proofs.SameSquads.{sold}
 
--- as many transfers as may be told, from a number on, are those of a list that is no longer
-from_list : (told : ℕ → Option Sale) (k n : ℕ) (sales : List Sale) → ((j : ℕ) → told (n + j) ≡ slice_get sales j) → length sales ≤ k → sales_from told k n ≡ sales
-from_list told zero n [] all few = none_ahead told n
-from_list told (suc k) n [] all few =
-    let none : told n ≡ None = ap told (omega arith) ∙ all 0 in one_ahead told k n ∙ ap (λ o. and_then_those o (sales_from told k (n + 1))) none
+-- the transfers under so many numbers, from one on, are those of a list that is no longer
+from_list : (told : ℕ → Option Sale) (k n : ℕ) (sales : List Sale) → ((j : ℕ) → told (n + j) ≡ slice_get sales j) → length sales ≤ k → sales_under told k n ≡ sales
+from_list told k n [] all few = nothing_under told k n (λ j le. ap told (omega (arith, le)) ∙ all (j - n))
 from_list told zero n (s ∷ sales) all few = absurd (omega arith)
 from_list told (suc k) n (s ∷ sales) all few =
     let some : told n ≡ Some s = ap told (omega arith) ∙ all 0 in
     let rest : (j : ℕ) → told (n + 1 + j) ≡ slice_get sales j = λ j. (ap told (let e : n + 1 + j ≡ n + suc j = omega arith in e) ∙ all (suc j)) in
-    let more : sales_from told k (n + 1) ≡ sales = from_list told k (n + 1) sales rest (omega arith) in
-    one_ahead told k n ∙ ap (λ o. and_then_those o (sales_from told k (n + 1))) some ∙ ap (λ r. s ∷ r) more
+    let more : sales_under told k (n + 1) ≡ sales = from_list told k (n + 1) sales rest (omega arith) in
+    one_under told k n ∙ ap (λ o. and_those o (sales_under told k (n + 1))) some ∙ ap (λ r. s ∷ r) more
 
 -- a gameweek has as many as its history counts
 sold_count : (h : List Event) (g : ℕ) → length (sold_in h g) ≡ swaps_in h g
@@ -56,24 +54,31 @@ limited true n few = few
 limited false n few = omega arith
 
 module _ (m : Map) (book : Book) (tells : Tells m book) (e : ℕ) (entry : EntryFacts) (there : entry_in book.entries e ≡ Some entry) (g : ℕ) where
-  sale_at : (j : ℕ) → sale_told m e g (1 + j) ≡ slice_get (sold_in entry.history g) j
-  sale_at j =
-      let some : nat_eq (1 + j) 0 ≡ false = grind (arith, nat_tests) in
-      let place : (1 + j) - 1 ≡ j = omega arith in
-      ap sale_in (tells (slot.Transfer e g (1 + j)) ∙ ap (option_and_then (λ (x : EntryFacts). records.transfer_told e g (1 + j) x.history)) there)
-      ∙ back (entry_in (sold_in entry.history g) (1 + j)) ∙ (rw (some, place) refl)
+  sale_of : (n : ℕ) → sale_told m e g n ≡ entry_in (sold_in entry.history g) n
+  sale_of n =
+      ap sale_in (tells (slot.Transfer e g n) ∙ ap (option_and_then (λ (x : EntryFacts). records.transfer_told e g n x.history)) there)
+      ∙ back (entry_in (sold_in entry.history g) n)
     where
-      back : (o : Option Sale) → sale_in (option_map (transfer_item e g (1 + j)) o) ≡ o
+      back : (o : Option Sale) → sale_in (option_map (transfer_item e g n) o) ≡ o
       back None = refl
       back (Some s) = refl
 
+  sale_at : (j : ℕ) → sale_told m e g (1 + j) ≡ slice_get (sold_in entry.history g) j
+  sale_at j =
+      let some : nat_eq (1 + j) 0 ≡ false = grind (arith, nat_tests) in
+      let place : (1 + j) - 1 ≡ j = omega arith in sale_of (1 + j) ∙ (rw (some, place) refl)
+
+  none_before : (j : ℕ) → j < 1 → sale_told m e g j ≡ None
+  none_before j less = ap (sale_told m e g) (let zero : j ≡ 0 = omega (arith, less) in zero) ∙ sale_of 0
+
   -- the transfers that are told are those of the history
-  pub sales_as : swaps_in entry.history g ≤ transfer_limit (starts_in entry.history g) (chip_at entry.history g) → sales_told m e g ≡ sold_in entry.history g
+  pub sales_as : swaps_in entry.history g ≤ transfer_limit (starts_in entry.history g) (chip_at entry.history g) → every_sale_told m e g ≡ sold_in entry.history g
   sales_as limit =
       let few : swaps_in entry.history g ≤ 1000
       = limited (starts_in entry.history g || makes_free (chip_at entry.history g)) (swaps_in entry.history g) limit in
       let count : length (sold_in entry.history g) ≡ swaps_in entry.history g = sold_count entry.history g in
-      from_list (sale_told m e g) 1000 1 (sold_in entry.history g) sale_at (omega arith)
+      since_later (sale_told m e g) 0 1 (omega arith) (omega arith) (λ j low high. none_before j high)
+      ∙ from_list (sale_told m e g) (all_numbers - 1) 1 (sold_in entry.history g) sale_at (omega (arith, few, count))
 
 -- those of a gameweek are those of its events
 pub sold_as : (h : List Event) (g : ℕ) → sold_in h g ≡ sold (events_of h g)

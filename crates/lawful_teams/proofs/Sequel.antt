@@ -23,7 +23,7 @@ use Rattle.season_ledger.proofs.Lists.{each_weaker, filter_none, map_map}
 use Rattle.season_ledger.proofs.Swaps.{earned-append, push_more, spent-append}
 use Rattle.season_records.specs.Records.{entry_item}
 use Rattle.stored_records.specs.EntryTold.{first_in, first_told, team_told}
-use Rattle.stored_records.specs.Sequels.{are_same_holdings, follows, goes_on, holdings_told, last_before, opens_with, sales_told}
+use Rattle.stored_records.specs.Sequels.{are_same_holdings, every_sale_told, follows, goes_on, holdings_told, last_before, opens_with}
 use Rattle.lawful_entries.specs.Histories.{IsLawfulDeed, IsLawfulHistory}
 use Rattle.lawful_teams.specs.TeamsTold.{RecordedTeam, TeamsToldGoOn}
 use Rattle.lawful_teams.proofs.Bases.{IsBase, base_is}
@@ -149,6 +149,6 @@ teams_told_go_on m book facts e entry g t tells own told =
     let h = entry.history in
     let is = team_is m book facts tells own.season e entry own.there g t told in
     let start : first_told m e ≡ start_of h = ap first_in (tells (slot.Entry e) ∙ ap (option_map (entry_item e)) own.there) in
-    let sales : sales_told m e g ≡ sold_in h g = sales_as m book tells e entry own.there g (own.lawful.limits g) in
+    let sales : every_sale_told m e g ≡ sold_in h g = sales_as m book tells e entry own.there g (own.lawful.limits g) in
     let on = goes_by facts h own.history own.lawful own.paid (team_told m e) (team_as m book facts tells own.season e entry own.there) g is.0 in
     subst (λ (u : RecordedTeam). goes_on m e g u ≡ true) (sym is.1) (rw (start, sales) on)

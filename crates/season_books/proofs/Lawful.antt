@@ -18,7 +18,7 @@ use Rattle.rule_book.specs.HistoryTransfers.{makes_free}
 use Rattle.stored_records.specs.declared.entry_told.RecordedTeam.{RecordedTeam}
 use Rattle.stored_records.specs.EntryTold.{chip_told, first_told, is_between_ends, is_first_of, is_in_time, last_open, sale_told, team_told}
 use Rattle.stored_records.specs.SeasonRules.{terms_told}
-use Rattle.stored_records.specs.Sequels.{are_same_holdings, base_told, follows, goes_on, holdings_told, opens_with, sales_told}
+use Rattle.stored_records.specs.Sequels.{are_same_holdings, base_told, every_sale_told, follows, goes_on, holdings_told, opens_with, sales_told}
 use Rattle.stored_records.proofs.Alike.{same_from}
 use Rattle.season_books.proofs.Picks.{different_from, holdings_at, priced_from}
 use Rattle.season_books.specs.EntryRules.{entry_breaks}
@@ -26,7 +26,7 @@ use Rattle.season_books.specs.TeamRules.{is_distinct, is_fit, is_lined_up, is_pl
 use Rattle.season_books.specs.TransferRules.{is_next_number, is_priced_sale, names_players, term_told, is_lawful_sale}
 use Rattle.season_books.specs.EntryLaws.{AreItsSales, AreItsTeams, IsLawfulEntry, LawfulEntriesAreRestored, NumberedSale, sales_of_rows, team_of_record}
 use Rattle.season_books.proofs.Listed.{all_from_one, found_first, before_as, first_is, none_before_first, none_is}
-use Rattle.season_books.proofs.Numbered.{IsGapless, few_from, nothing_told, of_each, sales_are}
+use Rattle.season_books.proofs.Numbered.{IsGapless, every_is, few_from, nothing_told, of_each, sales_are}
 
 -- Time: what the gameweek of a lawful record is.
 
@@ -197,6 +197,9 @@ gapless m e lawful g = record {
   few = λ n s found. (lawful_sale_at m e lawful g n s found).few;
 }
 
+every_as : (m : Map) (e : ℕ) → IsLawfulEntry m e → (g : ℕ) → every_sale_told m e g ≡ sales_told m e g
+every_as m e lawful g = every_is (sale_told m e g) (gapless m e lawful g)
+
 sales_as : (m : Map) (e : ℕ) (rows : List NumberedSale) → IsLawfulEntry m e → AreItsSales m e rows → (g : ℕ) → sales_in (sales_of_rows rows) g ≡ sales_told m e g
 sales_as m e rows lawful its g =
     sales_are (sale_told m e g) (gapless m e lawful g) g rows its.rise
@@ -244,16 +247,16 @@ nothing_before m e g lawful first =
     (λ time. let same : time.start ≡ g = same_some time.start g (first_told m e) time.first_is first in omega (arith, time.from_start)))
 
 sequel_of : (m : Map) (e g : ℕ) (t : RecordedTeam) → IsLawfulEntry m e → goes_on m e g t ≡ true
-    → FollowsOn (option_map (team_of_record m) (base_told m e g)) (sales_told m e g) (team_of_record m t)
+    → FollowsOn (option_map (team_of_record m) (base_told m e g)) (every_sale_told m e g) (team_of_record m t)
 sequel_of m e g t lawful on =
     elim (cases_Bool (is_first_of m e g)) [
       | inl holds ↦ (
           let none = nothing_before m e g lawful (first_from m e g (first_told m e) holds) in
-          let opens = sym (ap (λ b. cond b (opens_with (paid_for (sales_told m e g)) (earned_for (sales_told m e g)) t.bank) (follows (base_told m e g) (sales_told m e g) t)) holds) ∙ on in
-          subst (λ o. FollowsOn (option_map (team_of_record m) o) (sales_told m e g) (team_of_record m t)) (sym none) (opened m t (sales_told m e g) opens))
+          let opens = sym (ap (λ b. cond b (opens_with (paid_for (every_sale_told m e g)) (earned_for (every_sale_told m e g)) t.bank) (follows (base_told m e g) (every_sale_told m e g) t)) holds) ∙ on in
+          subst (λ o. FollowsOn (option_map (team_of_record m) o) (every_sale_told m e g) (team_of_record m t)) (sym none) (opened m t (every_sale_told m e g) opens))
       | inr fails ↦ (
-          let goes = sym (ap (λ b. cond b (opens_with (paid_for (sales_told m e g)) (earned_for (sales_told m e g)) t.bank) (follows (base_told m e g) (sales_told m e g) t)) fails) ∙ on in
-          followed m t (sales_told m e g) (base_told m e g) goes)
+          let goes = sym (ap (λ b. cond b (opens_with (paid_for (every_sale_told m e g)) (earned_for (every_sale_told m e g)) t.bank) (follows (base_told m e g) (every_sale_told m e g) t)) fails) ∙ on in
+          followed m t (every_sale_told m e g) (base_told m e g) goes)
     ]
 
 fifteen : (m : Map) (t : RecordedTeam) → is_distinct t.picks ≡ true → is_priced t.picks ≡ true → IsFifteen (team_of_record m t)
@@ -270,8 +273,11 @@ follows_at m e lawful g None is = nothing_told (sale_told m e g) (no_sale (sale_
     no_sale None none = none
     no_sale (Some s) some = absurd (true≢false (sym (lawful_sale_at m e lawful g 1 s some).team ∙ ap is_some is))
 follows_at m e lawful g (Some t) is =
-    let own = lawful_at m e lawful g t is in
-    (sequel_of m e g t lawful own.sequel, fifteen m t own.distinct own.priced)
+    let own = lawful_at m e lawful g t is in (
+      subst (λ sales. FollowsOn (option_map (team_of_record m) (base_told m e g)) sales (team_of_record m t)) (every_as m e lawful g)
+          (sequel_of m e g t lawful own.sequel),
+      fifteen m t own.distinct own.priced,
+    )
 
 follow : (m : Map) (e : ℕ) (teams : List (ℕ × Team)) (rows : List NumberedSale) → IsLawfulEntry m e → AreItsTeams m e teams → AreItsSales m e rows
     → (g : ℕ) → RecordFollows (team_before teams g) (sales_in (sales_of_rows rows) g) (team_recorded teams g)

@@ -5,7 +5,8 @@ use Rattle.std.specs.Option.{is_some}
 use Rattle.std.proofs.lemmas.Bool.{eqb-true, eq-eqb, ne_eqb, cases_order, cases_eq, cases_Bool, and_left, and_right, and_parts, true≢false}
 use Rattle.rule_book.specs.declared.transfers.Sale.{Sale}
 use Rattle.rule_book.specs.EntryRecords.{sales_in}
-use Rattle.stored_records.specs.Sequels.{and_then_those, sales_from}
+use Rattle.stored_records.specs.Sequels.{all_numbers, and_then_those, and_those, sales_from, sales_since}
+use Rattle.stored_records.proofs.Numbers.{nothing_under, since_later, since_next}
 use Rattle.stored_records.proofs.Trading.{none_ahead, one_ahead}
 use Rattle.season_books.specs.EntryLaws.{AllBehind, NumberedSale, SalesRise, sale_numbered, sales_of_rows}
 
@@ -161,6 +162,46 @@ pub sales_are : (told : ℕ → Option Sale) → IsGapless told → (g : ℕ) (r
     → ((n : ℕ) → sale_numbered rows g n ≡ told n) → sales_in (sales_of_rows rows) g ≡ sales_from told 1000 1
 sales_are told gapless g rows rise each same =
     runs_on told gapless g rows 1000 1 (omega arith) refl rise (from_one g rows each) (λ n up. same n)
+
+none_before_one : (told : ℕ → Option Sale) → IsGapless told → (n : ℕ) → n < 1 → told n ≡ None
+none_before_one told gapless n less = by (told n) refl
+  where
+    by : (o : Option Sale) → told n ≡ o → told n ≡ None
+    by None none = none
+    by (Some s) found = absurd (elim (gapless.behind n s found) [ inl one ↦ omega (arith, one, less) | inr more ↦ omega (arith, more.0, less) ])
+
+none_past : (told : ℕ → Option Sale) → IsGapless told → (k n : ℕ) → 1 ≤ k → told k ≡ None → k ≤ n → told n ≡ None
+none_past told gapless k n low none le = by (told n) refl
+  where
+    by : (o : Option Sale) → told n ≡ o → told n ≡ None
+    by None none = none
+    by (Some s) found =
+        let there = reached told gapless (n - k) n k s low (omega (arith, le)) found in
+        absurd (some_not_none there.0 (told k) there.1 none)
+
+none_past_last : (told : ℕ → Option Sale) → IsGapless told → (n : ℕ) → 1000 < n → told n ≡ None
+none_past_last told gapless n more = by (told n) refl
+  where
+    by : (o : Option Sale) → told n ≡ o → told n ≡ None
+    by None none = none
+    by (Some s) found = absurd (omega (arith, gapless.few n s found, more))
+
+since_is : (told : ℕ → Option Sale) → IsGapless told → (fuel k : ℕ) → 1 ≤ k → fuel + k ≡ 1001 → sales_since told k ≡ sales_from told fuel k
+since_is told gapless zero k low sum =
+    nothing_under told (all_numbers - k) k (λ n le. none_past_last told gapless n (omega (arith, sum, le))) ∙ sym (none_ahead told k)
+since_is told gapless (suc fuel) k low sum = by (told k) refl (λ less. since_is told gapless fuel (k + 1) (omega arith) (omega (arith, sum)))
+  where
+    by : (o : Option Sale) → told k ≡ o → (k < 1001 → sales_since told (k + 1) ≡ sales_from told fuel (k + 1)) → sales_since told k ≡ sales_from told (suc fuel) k
+    by None none rest =
+        nothing_under told (all_numbers - k) k (λ n le. none_past told gapless k n low none le) ∙ sym (nothing_from told (suc fuel) k none)
+    by (Some s) found rest =
+        since_next told k (omega (arith, sum)) ∙ ap (λ o. and_those o (sales_since told (k + 1))) found
+        ∙ ap (λ more. s ∷ more) (rest (omega (arith, sum))) ∙ sym (taken_from told fuel k s found)
+
+-- all transfers of a gameweek are those numbered from 1 on
+pub every_is : (told : ℕ → Option Sale) → IsGapless told → sales_since told 0 ≡ sales_from told 1000 1
+every_is told gapless =
+    since_later told 0 1 (omega arith) (omega arith) (λ n low high. none_before_one told gapless n high) ∙ since_is told gapless 1000 1 (omega arith) refl
 
 -- there are at most so many
 pub few_from : (told : ℕ → Option Sale) (fuel k : ℕ) → length (sales_from told fuel k) ≤ fuel

@@ -5,4 +5,5 @@ pub mod Found
 pub mod Loops
 pub mod Members
 pub mod Nearer
+pub mod Numbers
 pub mod Trading

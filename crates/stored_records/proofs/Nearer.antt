@@ -11,7 +11,7 @@ use Rattle.fpl_base.proofs.KeyLemmas.{precedes_trans}
 use Rattle.stored_records.specs.Stored.{Rows}
 
 -- a row behind one that is not before a key is not before it either
-not_before : (x y key : Key) → precedes x key ≡ false → precedes x y ≡ true → precedes y key ≡ false
+pub not_before : (x y key : Key) → precedes x key ≡ false → precedes x y ≡ true → precedes y key ≡ false
 not_before x y key away less = by (precedes y key) refl
   where
     by : (b : Bool) → precedes y key ≡ b → precedes y key ≡ false

@@ -1,5 +1,5 @@
 -- What the team of a gameweek follows from: the team before it, and the gameweek's transfers.
-use Rattle.std.specs.Prelude.{◌≡◌, ◌≤◌, ℕ, zero, suc, ◌+◌, Bool, true, false, ◌&&◌, ◌==◌, List, [], ◌∷◌, map, Option, Some, None, nat_le, if◌then◌else◌}
+use Rattle.std.specs.Prelude.{◌≡◌, ◌≤◌, ℕ, zero, suc, ◌+◌, ◌-◌, Bool, true, false, ◌&&◌, ◌==◌, List, [], ◌∷◌, map, Option, Some, None, nat_le, if◌then◌else◌}
 use Rattle.std.specs.List.{list_all}
 use Rattle.std.specs.Option.{option_or}
 use Rattle.fpl_base.specs.Keeping.{Map}
@@ -37,9 +37,31 @@ sales_from told (suc k) n = and_then_those (told n) (sales_from told k (n + 1))
 abbrev pub most_sales : ℕ
 most_sales = 1000
 
--- the transfers of a gameweek, in the order of their numbers
+-- those of a gameweek that are numbered 1, 2, 3 and so on
 abbrev pub sales_told : Map → ℕ → ℕ → List Sale
 sales_told m e g = sales_from (sale_told m e g) most_sales 1
+
+-- a transfer in front of others, where there is one
+abbrev pub and_those : Option Sale → List Sale → List Sale
+and_those None sales = sales
+and_those (Some sale) sales = sale ∷ sales
+
+-- the transfers that stand under so many numbers, from one on
+unfoldable pub sales_under : (ℕ → Option Sale) → ℕ → ℕ → List Sale
+sales_under told zero n = []
+sales_under told (suc k) n = and_those (told n) (sales_under told k (n + 1))
+
+-- a record has one of so many numbers, from 0 on
+abbrev pub all_numbers : ℕ
+all_numbers = 4294967296
+
+-- those that stand under a number or a greater one
+abbrev pub sales_since : (ℕ → Option Sale) → ℕ → List Sale
+sales_since told n = sales_under told (all_numbers - n) n
+
+-- all transfers of a gameweek in the order of their numbers, whatever these are
+abbrev pub every_sale_told : Map → ℕ → ℕ → List Sale
+every_sale_told m e g = sales_since (sale_told m e g) 0
 
 -- the players of a team with their prices
 abbrev pub holdings_told : List (ℕ × ℕ) → List Holding
@@ -71,23 +93,22 @@ follows (Some base) sales t =
 
 -- the same by what records tell of the entry
 abbrev pub follows_told : Map → ℕ → ℕ → RecordedTeam → Bool
-follows_told m e g t = follows (base_told m e g) (sales_told m e g) t
+follows_told m e g t = follows (base_told m e g) (every_sale_told m e g) t
 
 -- the team of a gameweek follows from what its entry has before it
 abbrev pub goes_on : Map → ℕ → ℕ → RecordedTeam → Bool
 goes_on m e g t =
-    if is_first_of m e g then opens_with (paid_for (sales_told m e g)) (earned_for (sales_told m e g)) t.bank else follows_told m e g t
+    if is_first_of m e g then opens_with (paid_for (every_sale_told m e g)) (earned_for (every_sale_told m e g)) t.bank else follows_told m e g t
 
 -- a pick after a transfer: the incomer takes the place of the one who goes
 abbrev pub pick_after : Sale → ℕ × ℕ → ℕ × ℕ
 pick_after s pick = if pick.0 == s.out then (s.into, s.bought) else pick
 
 -- a transfer is made, where there is one: its incomer takes the place of the one who goes, and it is paid and earned
-abbrev pub Trades : Option Sale → Bool → Traded → Traded → Type 0
-Trades None there old new = (there ≡ false) × (new ≡ old)
-Trades (Some s) there old new =
-    (there ≡ true) × (new.picks ≡ map (pick_after s) old.picks) × (new.paid ≡ old.paid + s.bought)
-    × (new.earned ≡ old.earned + s.sold)
+abbrev pub Trades : Option Sale → Traded → Traded → Type 0
+Trades None old new = new ≡ old
+Trades (Some s) old new =
+    (new.picks ≡ map (pick_after s) old.picks) × (new.paid ≡ old.paid + s.bought) × (new.earned ≡ old.earned + s.sold)
 
 -- what transfers make of these players, and what they pay and earn
 pub record IsTraded (sales : List Sale) (picks : List (ℕ × ℕ)) (t : Traded) : Type 0 where
@@ -95,10 +116,10 @@ pub record IsTraded (sales : List Sale) (picks : List (ℕ × ℕ)) (t : Traded)
   pub paid : t.paid ≡ paid_for sales
   pub earned : t.earned ≡ earned_for sales
 
--- what they pay and earn is of few transfers
+-- what they pay and earn is of no more transfers than there are numbers, each at 1,000,000.0 million at most
 pub record HasFew (t : Traded) : Type 0 where
-  pub paid : t.paid ≤ 10010000000
-  pub earned : t.earned ≤ 10010000000
+  pub paid : t.paid ≤ 42949672960000000
+  pub earned : t.earned ≤ 42949672960000000
 
 -- a team has the players, the prices and the bank that come of the one before it
 abbrev pub comes_of : Traded → ℕ → RecordedTeam → Bool

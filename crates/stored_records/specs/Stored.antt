@@ -1,5 +1,5 @@
 -- What the records of a store tell, and how many of them stand between two keys.
-use Rattle.std.specs.Prelude.{ℕ, Bool, not, ◌&&◌, ◌||◌, ◌==◌, List, [], Option, Some, is_some, nat_lt, count_by, length}
+use Rattle.std.specs.Prelude.{◌≡◌, ◌≤◌, ◌<◌, ℕ, Bool, not, ◌&&◌, ◌||◌, ◌==◌, List, [], Option, Some, None, is_some, nat_lt, count_by, length}
 use Rattle.std.specs.Option.{option_and_then}
 use Rattle.fpl_base.specs.Keeping.{Map, precedes}
 use Rattle.fpl_base.specs.declared.records.RecordKey.{RecordKey}
@@ -30,6 +30,14 @@ is_within low high key = not (precedes key low) && precedes key high
 -- how many records have a key not before the one, and before the other
 abbrev pub between : Rows → RecordKey → RecordKey → ℕ
 between rows low high = count_by (λ row. is_within low high row.0) rows
+
+-- a key of a transfer of an entry in a gameweek
+abbrev pub is_sale_of : ℕ → ℕ → RecordKey → Bool
+is_sale_of e g k = k.kind == 8 && (k.a == e && k.b == g)
+
+-- under the numbers from one on and before another there is no record of such a transfer
+abbrev pub NoneUnder : Map → ℕ → ℕ → ℕ → ℕ → Type 0
+NoneUnder m e g from end = (n : ℕ) → from ≤ n → n < end → m (key_of (slot.Transfer e g n)) ≡ None
 
 -- a record of a member of a league
 abbrev pub is_member_of : ℕ → RecordKey × List ℕ → Bool

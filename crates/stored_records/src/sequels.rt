@@ -1,12 +1,12 @@
 // What the team of a gameweek follows from.
-ghost use Rattle.std.specs.Prelude.{◌≡◌, ◌≤◌, ◌+◌, IfOk, Some, map, true};
+ghost use Rattle.std.specs.Prelude.{[], ◌≡◌, ◌≤◌, ◌+◌, IfOk, IfSome, None, OnOk, Some, map};
 ghost use Rattle.fpl_base.specs.Keeping.{map_of};
 ghost use Rattle.rule_book.specs.EntryRecords.{price_among};
 ghost use Rattle.rule_book.specs.History.{is_free_hit};
 ghost use Rattle.rule_book.specs.HistoryRules.{times};
 ghost use Rattle.stored_records.specs.EntryTold.{is_first_of, sale_told, team_told};
 ghost use Rattle.stored_records.specs.Sequels.{HasFew, IsTraded, Trades, are_alike, are_same_holdings, base_told, comes_of};
-ghost use Rattle.stored_records.specs.Sequels.{follows_told, goes_on, holdings_told, is_alike, lasting, opens_with, pick_after, sales_told};
+ghost use Rattle.stored_records.specs.Sequels.{every_sale_told, follows_told, goes_on, holdings_told, is_alike, lasting, opens_with, pick_after, sales_since};
 
 use crate::entry_told::{RecordedTeam, sale_of, team_of};
 use crate::stored::Stored;
@@ -14,8 +14,8 @@ use fpl_base::{Chip, EntryId, Gw, Memory};
 use rule_book::Sale;
 use std::alloc::Global;
 
-// A gameweek has at most so many transfers.
-const MOST_SALES: u32 = 1000;
+// A record has one of so many numbers, from 0 on.
+const ALL_NUMBERS: u64 = 4_294_967_296;
 
 // What transfers make of fifteen players, and what they pay and earn, in tenths of a million.
 #[derive(Clone, Copy)]
@@ -100,9 +100,8 @@ fn picks_after(sale: &Sale, picks: &[(u32, u32); 15]) -> [(u32, u32); 15]
 
 // A transfer is made.
 fn make(traded: &mut Traded, sale: &Sale)
-    requires paid { traded.old.paid ≤ 10000000000 }
-    requires earned { traded.old.earned ≤ 10000000000 }
-    ensures trades { Trades (Some sale.now) true traded.old traded.new }
+    requires { HasFew traded.old }
+    ensures trades { Trades (Some sale.now) traded.old traded.new }
     ensures paid_most { traded.new.paid ≤ traded.old.paid + 10000000 }
     ensures earned_most { traded.new.earned ≤ traded.old.earned + 10000000 }
 {
@@ -111,7 +110,7 @@ fn make(traded: &mut Traded, sale: &Sale)
     traded.earned += u64::from(sale.sold.get());
 }
 
-// The transfer of a number is made, if there is one; whether there is.
+// The transfer of a number is made, if there is one.
 fn trade(
     alloc: Global,
     stored: &Stored,
@@ -119,24 +118,36 @@ fn trade(
     gameweek: Gw,
     number: u32,
     traded: &mut Traded,
-) -> Result<bool, Memory>
-    requires paid { traded.old.paid ≤ 10000000000 }
-    requires earned { traded.old.earned ≤ 10000000000 }
+) -> Result<(), Memory>
+    requires { HasFew traded.old }
     ensures paid_most { traded.new.paid ≤ traded.old.paid + 10000000 }
     ensures earned_most { traded.new.earned ≤ traded.old.earned + 10000000 }
-    ensures trades { IfOk result (λ there.
-        Trades (sale_told (map_of stored.now) entry gameweek number) there traded.old traded.new) }
+    ensures trades { OnOk result
+        (Trades (sale_told (map_of stored.now) entry gameweek number) traded.old traded.new) }
 {
     match sale_of(alloc, stored, entry, gameweek, number)? {
-        Some(sale) => {
-            make(traded, &sale);
-            Ok(true)
-        }
-        None => Ok(false),
+        Some(sale) => make(traded, &sale),
+        None => {}
+    }
+    Ok(())
+}
+
+// The first number, from one on, under which a transfer stands.
+fn next_number(stored: &Stored, entry: EntryId, gameweek: Gw, from: u64) -> Option<u32>
+    ensures next { IfSome result (λ next. (from ≤ next)
+        × (sales_since (sale_told (map_of stored.now) entry gameweek) from
+        ≡ sales_since (sale_told (map_of stored.now) entry gameweek) next)) }
+    ensures end { result ≡ None
+        → sales_since (sale_told (map_of stored.now) entry gameweek) from ≡ [] }
+{
+    if from < ALL_NUMBERS {
+        stored.next_number(entry, gameweek, from as u32)
+    } else {
+        None
     }
 }
 
-// What the transfers of a gameweek make of fifteen players.
+// What all transfers of a gameweek make of fifteen players, in the order of their numbers.
 fn after_trades(
     alloc: Global,
     stored: &Stored,
@@ -145,7 +156,7 @@ fn after_trades(
     picks: [(u32, u32); 15],
 ) -> Result<Traded, Memory>
     ensures traded { IfOk result (λ traded.
-        IsTraded (sales_told (map_of stored.now) entry gameweek) picks traded) }
+        IsTraded (every_sale_told (map_of stored.now) entry gameweek) picks traded) }
     ensures few { IfOk result HasFew }
 {
     let mut traded = Traded {
@@ -153,9 +164,14 @@ fn after_trades(
         paid: 0,
         earned: 0,
     };
-    for number in 1..MOST_SALES + 1 {
-        if !trade(alloc, stored, entry, gameweek, number, &mut traded)? {
-            return Ok(traded);
+    let mut from = 0;
+    'numbers: for _ in 0..ALL_NUMBERS {
+        match next_number(stored, entry, gameweek, from) {
+            Some(number) => {
+                trade(alloc, stored, entry, gameweek, number, &mut traded)?;
+                from = u64::from(number) + 1;
+            }
+            None => return Ok(traded),
         }
     }
     Ok(traded)

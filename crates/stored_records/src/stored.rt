@@ -1,12 +1,12 @@
 // The records of a store, and what is found among them.
-ghost use Rattle.std.specs.Prelude.{◌≡◌, ◌<◌, ◌≤◌, ◌-◌, IfOk, IsTrue, drop, false, filter, length, take, true};
+ghost use Rattle.std.specs.Prelude.{◌≡◌, ◌<◌, ◌≤◌, ◌-◌, ℕ, IfOk, IfSome, IsTrue, None, drop, false, filter, length, take, true};
 ghost use Rattle.std.specs.List.{HoldsAt};
 ghost use Rattle.std.specs.Option.{option_map};
 ghost use Rattle.fpl_base.specs.Keeping.{KeysRise, is_same_key, map_of, precedes};
 ghost use Rattle.fpl_base.specs.Rows.{IsPlace};
-ghost use Rattle.stored_records.specs.Stored.{between, is_member_of, is_there, is_within, stands_before, told};
+ghost use Rattle.stored_records.specs.Stored.{NoneUnder, between, is_member_of, is_sale_of, is_there, is_within, stands_before, told};
 
-use fpl_base::{Bytes, LeagueId, Memory, RecordKey};
+use fpl_base::{Bytes, EntryId, Gw, LeagueId, Memory, RecordKey};
 use record_codec::{Item, Slot, decode};
 use std::alloc::Global;
 use std::cell::Cell;
@@ -44,6 +44,25 @@ fn stands_at(rows: &[(RecordKey, Bytes)], at: usize, key: RecordKey) -> bool
         → HoldsAt (λ row. is_same_key row.0 key ≡ false) rows.now at }
 {
     at < rows.len() && rows[at].0 == key
+}
+
+// The number of the transfer at a place, if one of this entry and gameweek stands there.
+fn number_at(rows: &[(RecordKey, Bytes)], at: usize, entry: u32, gameweek: u32) -> Option<u32>
+    ensures there { IfSome result (λ n. (at < length rows.now)
+        × HoldsAt (λ row. (is_sale_of entry gameweek row.0 ≡ true) × (row.0.c ≡ n)) rows.now at) }
+    ensures range { IfSome result (λ n. n < 4294967296) }
+    ensures away { result ≡ None → at < length rows.now
+        → HoldsAt (λ row. is_sale_of entry gameweek row.0 ≡ false) rows.now at }
+{
+    if at >= rows.len() {
+        return None;
+    }
+    let key = rows[at].0;
+    if key.kind == 8 && key.a == entry && key.b == gameweek {
+        Some(key.c)
+    } else {
+        None
+    }
 }
 
 // The records from one place on and before another.
@@ -204,6 +223,19 @@ impl<'a> Stored<'a> {
         let first = self.place_of(low);
         let end = self.place_of(high);
         cut(self.rows, first, end)
+    }
+
+    /// The first number, from one on, under which a transfer of an entry in a gameweek stands.
+    pub(crate) fn next_number(&self, entry: EntryId, gameweek: Gw, from: u32) -> Option<u32>
+        ensures next { IfSome result
+            (λ n. (from ≤ n) × NoneUnder (map_of self.now) entry gameweek from n) }
+        ensures range { IfSome result (λ n. n < 4294967296) }
+        ensures end { result ≡ None
+            → (n : ℕ) → NoneUnder (map_of self.now) entry gameweek from n }
+    {
+        let gameweek = u32::from(gameweek.get());
+        let place = self.place_of(Slot::Transfer(entry.get(), gameweek, from).key());
+        number_at(self.rows, place, entry.get(), gameweek)
     }
 
     /// The records of the members of a league.
