@@ -1,2 +1,2 @@
-pub mod Filing
 pub mod Finding
+pub mod Handing

@@ -3,8 +3,5 @@
 
 mod keeper;
 mod opened;
-mod opening;
 
-pub use keeper::{FileKeeper, Reopening, file_at, file_behind};
-pub use opened::Opened;
-pub use opening::{Opening, StoreFile};
+pub use keeper::{FileKeeper, file_at};

@@ -11,7 +11,7 @@ ghost use Rattle.std.specs.Prelude.{◌≡◌, None};
 use crate::causes::{tell, tell_port, tell_store};
 use crate::folder::pages_in;
 use crate::key_file::keyed;
-use file_keeper::{FileKeeper, file_at, file_behind};
+use file_keeper::{FileKeeper, file_at};
 use fpl_asking::status::{DOORS, KEEPER, MEMORY, SHELF};
 use fpl_base::{Doors, Memory, Shelf, Text};
 use fpl_doors::Listening;
@@ -147,7 +147,7 @@ fn loading(rt: &HostRuntime, alloc: Global, words: &[Text], store: Text) -> u8 {
     let Ok(path) = Text::new(alloc, store.text()) else {
         return MEMORY;
     };
-    let keeper = file_behind(rt, store);
+    let keeper = FileKeeper::shut(rt, store);
     let status = over_file(rt, alloc, words, keeper, &mut Quiet, &mut disk);
     if status == KEEPER {
         tell_store(rt, path.text());
