@@ -21,7 +21,7 @@ ENTRIES = 1000
 POSITIONS = "GDDDDMMMMFFGDMF"
 # Who is in the squad of everybody, by slot: three of each of five clubs.
 LUA = """
-local key, number, kind = nil, 1, "%(kind)s"
+local key, number, kind, is_tried = nil, 1, "%(kind)s", false
 local count = 0
 function setup(thread) count = count + 1; thread:set("which", count) end
 function init(args) key = string.format("manager%%04d", (which - 1) %% %(entries)d + 1) end
@@ -29,7 +29,8 @@ local starts = {"[1,2,3,4,5,6,7,8,9,10,11,12,13,14,15]", "[1,2,3,4,5,6,7,8,9,10,
 function request()
     local headers = {["Fpl-Key"] = key, ["Connection"] = %(connection)s}
     if kind == "me" then return wrk.format("GET", "/me", headers) end
-    number = number + 1
+    -- wrk asks the first thread for a request that it does not send.
+    if which == 1 and not is_tried then is_tried = true else number = number + 1 end
     local body = string.format('{"number":%%d,"players":%%s,"captain":10,"vice":7}', number, starts[number %% 2 + 1])
     return wrk.format("POST", "/lineup", headers, body)
 end
@@ -73,7 +74,7 @@ class Served:
             words = [PROGRAM, "serve", "--key", "operator1", "--port", str(self.port), "--clients", "1024", "--store", store]
         else:
             words = [sys.executable, top / "bench/plain_server.py", str(self.port), store, str(ENTRIES)]
-        self.process = subprocess.Popen(words, stdin=subprocess.DEVNULL)
+        self.process = subprocess.Popen(words, stdin=subprocess.DEVNULL, stderr=subprocess.DEVNULL)
 
     def __enter__(self):
         for _ in range(200):
