@@ -24,7 +24,7 @@ class Answering(BaseHTTPRequestHandler):
         body = json.loads(self.rfile.read(int(self.headers["Content-Length"])))
         with self.lock:
             if body["number"] != self.last[key] + 1:
-                return self.answer(409, {"error": "number"})
+                return self.answer(409, {"error": "number", "last": self.last[key]})
             self.store.execute("insert or replace into lineup values (?, ?, ?)", (key, body["number"], json.dumps(body["players"])))
             self.store.commit()
             self.last[key] += 1
