@@ -1,4 +1,5 @@
 """The plays: each a function that is given the stage, with a line that says what it shows."""
+import socket
 import time
 
 from looks import LOOKS, pictures
@@ -512,6 +513,33 @@ def odd_gameweeks(stage):
     page.go(f"points/{GAMEWEEKS}").sees(f"Gameweek {GAMEWEEKS}")
 
 
+def twenty_at_once(stage):
+    """Twenty loads at once, of pages and of views, beside clients that ask nothing or half a message: none waits for another."""
+    stage.open()
+    stage.serve()
+    Small(stage.served).make()
+    stage.driver.get(stage.served.url)
+    script = """
+      const [key, done] = arguments;
+      const load = async (target) => {
+        const begun = performance.now();
+        const answer = await fetch(target, { headers: { "Fpl-Key": key } });
+        await answer.text();
+        return [answer.status, performance.now() - begun];
+      };
+      const targets = [];
+      for (const page of ["style.css", "main.js", "parts.js", "team.js", "icons.svg"]) {
+        targets.push(`/${page}`, "/season", "/api/me/", "/api/entries/");
+      }
+      Promise.all(targets.map(load)).then(done);
+    """
+    with socket.create_connection(("127.0.0.1", stage.served.port)) as half, socket.create_connection(("127.0.0.1", stage.served.port)):
+        half.sendall(b"GET /season HTTP/1.1\r\nFpl-K")
+        found = stage.driver.execute_async_script(script, OPERATOR)
+    need(len(found) == 20 and all(status == 200 for status, _ in found), f"not all came: {found}")
+    need(max(took for _, took in found) < 5000, f"one waited: {found}")
+
+
 def generated_season(stage):
     """The season of `generate`: a key press in the list of 600 players is answered within a frame, a table of many rows."""
     stage.open()
@@ -561,6 +589,7 @@ PLAYS = {
             screen_reader,
             keyboard,
             odd_gameweeks,
+            twenty_at_once,
             generated_season,
         )
     },
