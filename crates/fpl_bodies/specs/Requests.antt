@@ -212,6 +212,18 @@ view_of seen.WindowLeagues ids = view.Window window.Leagues
 view_of seen.WindowMyLeagues ids = view.Window window.MyLeagues
 view_of seen.WindowCups ids = view.Window window.Cups
 view_of seen.WindowSheet ids = view.Window (window.Sheet (slice_index ids 0))
+view_of seen.WindowLive ids = view.Window (window.Live (slice_index ids 0))
+view_of seen.WindowHistory ids = view.Window (window.History (slice_index ids 0))
+view_of seen.WindowBootstrap ids = view.Window window.Bootstrap
+view_of seen.WindowFixtures ids = view.Window window.Fixtures
+view_of seen.WindowElement ids = view.Window (window.Element (slice_index ids 0))
+view_of seen.WindowDreamTeam ids = view.Window (window.DreamTeam (slice_index ids 0))
+view_of seen.WindowPicks ids = view.Window (window.Picks (slice_index ids 0) (slice_index ids 1))
+view_of seen.WindowTransfers ids = view.Window (window.Transfers (slice_index ids 0))
+view_of seen.WindowClassicStandings ids = view.Window (window.ClassicStandings (slice_index ids 0))
+view_of seen.WindowHeadStandings ids = view.Window (window.HeadStandings (slice_index ids 0))
+view_of seen.WindowHeadMatches ids = view.Window (window.HeadMatches (slice_index ids 0))
+view_of seen.WindowCup ids = view.Window (window.Cup (slice_index ids 0))
 
 -- the command that a body orders, under its number, which comes first
 abbrev pub ordered : CommandRoute → ℕ → List ℕ → Result Request FieldName

@@ -58,6 +58,23 @@ fn view_of(view: ViewRoute, ids: [u32; 2]) -> View
         ViewRoute::WindowMyLeagues => View::Window(Window::MyLeagues),
         ViewRoute::WindowCups => View::Window(Window::Cups),
         ViewRoute::WindowSheet => View::Window(Window::Sheet { fixture: ids[0] }),
+        ViewRoute::WindowLive => View::Window(Window::Live { gameweek: ids[0] }),
+        ViewRoute::WindowHistory => View::Window(Window::History { entry: ids[0] }),
+        ViewRoute::WindowBootstrap => View::Window(Window::Bootstrap),
+        ViewRoute::WindowFixtures => View::Window(Window::Fixtures),
+        ViewRoute::WindowElement => View::Window(Window::Element { player: ids[0] }),
+        ViewRoute::WindowDreamTeam => View::Window(Window::DreamTeam { gameweek: ids[0] }),
+        ViewRoute::WindowPicks => View::Window(Window::Picks {
+            entry: ids[0],
+            gameweek: ids[1],
+        }),
+        ViewRoute::WindowTransfers => View::Window(Window::Transfers { entry: ids[0] }),
+        ViewRoute::WindowClassicStandings => View::Window(Window::ClassicStandings {
+            league: ids[0],
+        }),
+        ViewRoute::WindowHeadStandings => View::Window(Window::HeadStandings { league: ids[0] }),
+        ViewRoute::WindowHeadMatches => View::Window(Window::HeadMatches { league: ids[0] }),
+        ViewRoute::WindowCup => View::Window(Window::Cup { cup: ids[0] }),
     }
 }
 

@@ -3,7 +3,7 @@ ghost use Rattle.std.specs.Prelude.{◌≡◌, [], IfOk};
 
 use crate::client::{Client, Turn};
 use crate::ends::{Asked, Told};
-use crate::shown::Shown;
+use crate::shown::{Fate, Shown, fate_of};
 use mio::net::TcpListener;
 use mio::{Events, Interest, Poll, Token};
 use slab::Slab;
@@ -127,14 +127,13 @@ impl Hall {
     // page, the client is let go.
     fn asked_by(&mut self, key: usize, shown: &mut Option<Shown>) -> Option<Asked> {
         let asked = self.hand_out(key)?;
-        let page = match shown {
-            Some(shown) => shown.answer(self.alloc, asked.bytes()),
-            None => return Some(asked),
+        let Some(shown) = shown else {
+            return Some(asked);
         };
-        match page {
-            Ok(None) => return Some(asked),
-            Ok(Some(text)) => self.answer(key, Some(text)),
-            Err(_) => self.answer(key, None),
+        match fate_of(self.alloc, shown, asked) {
+            Fate::Goes(asked) => return Some(asked),
+            Fate::Shows(text) => self.answer(key, Some(text)),
+            Fate::Lost => self.answer(key, None),
         }
         None
     }

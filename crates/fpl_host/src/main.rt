@@ -86,6 +86,9 @@ fn outside(rt: &HostRuntime, alloc: Global, words: &[Text]) -> u8 {
         Ok(Words::Events { store, .. }) => {
             kept(rt, alloc, words, &mut Quiet, &mut Quiet, Some(store))
         }
+        Ok(Words::Draft { store, .. }) => {
+            kept(rt, alloc, words, &mut Quiet, &mut Quiet, Some(store))
+        }
         Ok(Words::Pipe { store, .. }) => kept(rt, alloc, words, &mut Quiet, &mut Quiet, store),
         Ok(Words::Generate { store, .. }) => {
             kept(rt, alloc, words, &mut Quiet, &mut Quiet, store)

@@ -1,5 +1,5 @@
 // What is answered to a message whose target names a page.
-ghost use Rattle.std.specs.Prelude.{◌≡◌, ◌++◌, IfOk, codes, option_map, string_bytes};
+ghost use Rattle.std.specs.Prelude.{◌≡◌, ◌++◌, IfOk, IsSome, OnErr, codes, option_map, string_bytes};
 ghost use Rattle.fpl_http.specs.Responses.{closing_line, response_text};
 ghost use Rattle.fpl_http.specs.Seen.{request_seen};
 ghost use Rattle.fpl_pages.specs.Replies.{answered, guarding_fields, method_text, page_answer, page_head, page_text};
@@ -22,8 +22,9 @@ impl Pages {
     /// The bytes that answer a message, where its target names a page: the page with its type, or 405 where the method is
     /// another than GET. Each other message is none of theirs.
     pub fn answer(&self, alloc: Global, message: &Message<'_>) -> Result<Option<Vec<u8>>, Memory>
-        ensures { IfOk result (λ text. option_map (λ t. t.items) text
+        ensures answer { IfOk result (λ text. option_map (λ t. t.items) text
             ≡ page_answer self.now (request_seen message.now)) }
+        ensures out { OnErr result (IsSome (page_answer self.now (request_seen message.now))) }
     {
         match self.at(message.target) {
             Some(page) => Ok(Some(answered(alloc, page, message)?)),

@@ -17,7 +17,8 @@ use Rattle.season_book.specs.EntryViews.{entry_shown}
 use Rattle.season_book.specs.LeagueCommands.{cup_broken, cup_drawn, cup_made, cup_there, is_issued, is_registered, league_made, league_refusal, leagues_after, leagues_there}
 use Rattle.season_book.specs.LeagueViews.{cup_shown, league_shown}
 use Rattle.season_book.specs.Verdict.{IsVerdictIn, Outcome, Verdict, begun, cup_ruled, in_season, judged, key_refusal, keyed, my_answer, number_refusal, page_of, ruled, ruled_by, ruled_in, ruled_of, seen_in, settled, shown_or_unknown, unless_broken, unless_misnumbered, unless_refused, unseen, wants_no_season, with_entry, with_history}
-use Rattle.season_book.specs.Windows.{me_window, window_data}
+use Rattle.season_book.specs.AllWindows.{window_data}
+use Rattle.season_book.specs.Windows.{me_window}
 use Rattle.season_book.specs.Views.{shown_of}
 use Rattle.season_book.specs.declared.answer.Answer.{Answer}
 use Rattle.season_book.specs.declared.answer.Answer.TheVariants as answer

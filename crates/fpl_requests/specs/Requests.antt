@@ -21,6 +21,11 @@ use Rattle.event_sheet.specs.declared.row.EventRow.{EventRow}
 use Rattle.event_sheet.specs.declared.rows.RowFault.{RowFault}
 use Rattle.fpl_events.specs.Playing.{IsPlayed}
 use Rattle.fpl_events.specs.Telling.{TellsRowFault}
+use Rattle.draft_sheet.specs.Rows.{ExplainsRows as ExplainsDraft, HasDraftRows}
+use Rattle.draft_sheet.specs.declared.row.DraftRow.{DraftRow}
+use Rattle.draft_sheet.specs.declared.rows.RowFault.{RowFault as DraftFault}
+use Rattle.fpl_drafting.specs.Drafting.{IsDrafted}
+use Rattle.fpl_drafting.specs.Telling.{TellsRowFault as TellsDraftFault}
 use Rattle.fpl_serving.specs.Keeping.{IsUnopened, Runs}
 
 -- what is asked leads from each book to one: the keeper is not read again on the way
@@ -72,6 +77,15 @@ Plays tells serves holds passes faults old new key fixture minutes bytes moments
     ((why : RowFault) × ExplainsRows minutes bytes why × TellsRowFault why status before after × (new ≡ old) × (later ≡ moments))
     ⊎ ((rows : List EventRow) × HasEventRows minutes bytes rows
     × RunsThrough tells serves holds passes faults old new key moments later before after status (IsPlayed fixture minutes rows before after status))
+
+-- a run of `draft` for so many members: a row of the bytes is wrong, which is told, and nothing was opened; or they have rows, and
+-- these were done
+abbrev pub Drafts : {K : Type 0} → (K → Type 0) → (K → Type 0) → (K → Map → Type 0) → (K → Map → Type 0) → (K → ℕ) → K → K → List ℕ → ℕ → List ℕ
+    → Option Moments → Option Moments → Option (List ℕ) → Option (List ℕ) → ℕ → Type 0
+Drafts tells serves holds passes faults old new key members bytes moments later before after status =
+    ((why : DraftFault) × ExplainsDraft members bytes why × TellsDraftFault why status before after × (new ≡ old) × (later ≡ moments))
+    ⊎ ((rows : List DraftRow) × HasDraftRows members bytes rows
+    × RunsThrough tells serves holds passes faults old new key moments later before after status (IsDrafted members rows before after status))
 
 -- the operator of a made-up season has this key
 abbrev pub made_up_key : List ℕ

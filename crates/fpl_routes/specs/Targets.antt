@@ -61,6 +61,18 @@ served =
     ∷ (Get, codes "/api/my-leagues", Entry, View view.WindowMyLeagues)
     ∷ (Get, codes "/api/cups", Both, View view.WindowCups)
     ∷ (Get, codes "/api/fixtures/{f}/sheet", Both, View view.WindowSheet)
+    ∷ (Get, codes "/api/event/{g}/live", Both, View view.WindowLive)
+    ∷ (Get, codes "/api/entry/{e}/history", Both, View view.WindowHistory)
+    ∷ (Get, codes "/api/bootstrap-static", Both, View view.WindowBootstrap)
+    ∷ (Get, codes "/api/fixtures", Both, View view.WindowFixtures)
+    ∷ (Get, codes "/api/element-summary/{p}", Both, View view.WindowElement)
+    ∷ (Get, codes "/api/dream-team/{g}", Both, View view.WindowDreamTeam)
+    ∷ (Get, codes "/api/entry/{e}/event/{g}/picks", Both, View view.WindowPicks)
+    ∷ (Get, codes "/api/entry/{e}/transfers", Both, View view.WindowTransfers)
+    ∷ (Get, codes "/api/leagues-classic/{l}/standings", Both, View view.WindowClassicStandings)
+    ∷ (Get, codes "/api/leagues-h2h/{l}/standings", Both, View view.WindowHeadStandings)
+    ∷ (Get, codes "/api/leagues-h2h-matches/league/{l}", Both, View view.WindowHeadMatches)
+    ∷ (Get, codes "/api/cups/{c}", Both, View view.WindowCup)
     ∷ []
 
 abbrev pub is_method : Method → Method → Bool

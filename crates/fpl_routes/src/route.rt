@@ -55,6 +55,18 @@ pub enum ViewRoute {
     WindowMyLeagues,
     WindowCups,
     WindowSheet,
+    WindowLive,
+    WindowHistory,
+    WindowBootstrap,
+    WindowFixtures,
+    WindowElement,
+    WindowDreamTeam,
+    WindowPicks,
+    WindowTransfers,
+    WindowClassicStandings,
+    WindowHeadStandings,
+    WindowHeadMatches,
+    WindowCup,
 }
 
 /// What a route asks of the host.

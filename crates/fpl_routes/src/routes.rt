@@ -13,7 +13,10 @@ use crate::CommandRoute::{
 };
 use crate::ViewRoute::{
     ShowCup, ShowEntryGameweek, ShowFixture, ShowLeague, ShowMe, ShowPlayer, ShowPlayerGameweek,
-    ShowSeason, WindowCups, WindowEntries, WindowLeagues, WindowMe, WindowMyLeagues, WindowSheet,
+    ShowSeason, WindowBootstrap, WindowClassicStandings, WindowCup, WindowCups, WindowDreamTeam,
+    WindowElement, WindowEntries, WindowFixtures, WindowHeadMatches, WindowHeadStandings,
+    WindowHistory, WindowLeagues, WindowLive, WindowMe, WindowMyLeagues, WindowPicks, WindowSheet,
+    WindowTransfers,
 };
 use crate::route::Method::{self, Get, Post};
 use crate::{Asks, Callers, Found, Route};
@@ -39,7 +42,7 @@ struct Place {
 }
 
 // Each route: its method, the pattern of its targets with a name in braces for each id, who may ask it, what it asks.
-static SERVED: [(Method, &str, Callers, Asks); 36] = [
+static SERVED: [(Method, &str, Callers, Asks); 48] = [
     (Post, "/season", Operator, Command(Season)),
     (Post, "/deadlines", Operator, Command(Deadlines)),
     (Post, "/players", Operator, Command(Players)),
@@ -86,6 +89,38 @@ static SERVED: [(Method, &str, Callers, Asks); 36] = [
     (Get, "/api/my-leagues", Entry, View(WindowMyLeagues)),
     (Get, "/api/cups", Both, View(WindowCups)),
     (Get, "/api/fixtures/{f}/sheet", Both, View(WindowSheet)),
+    (Get, "/api/event/{g}/live", Both, View(WindowLive)),
+    (Get, "/api/entry/{e}/history", Both, View(WindowHistory)),
+    (Get, "/api/bootstrap-static", Both, View(WindowBootstrap)),
+    (Get, "/api/fixtures", Both, View(WindowFixtures)),
+    (Get, "/api/element-summary/{p}", Both, View(WindowElement)),
+    (Get, "/api/dream-team/{g}", Both, View(WindowDreamTeam)),
+    (
+        Get,
+        "/api/entry/{e}/event/{g}/picks",
+        Both,
+        View(WindowPicks),
+    ),
+    (Get, "/api/entry/{e}/transfers", Both, View(WindowTransfers)),
+    (
+        Get,
+        "/api/leagues-classic/{l}/standings",
+        Both,
+        View(WindowClassicStandings),
+    ),
+    (
+        Get,
+        "/api/leagues-h2h/{l}/standings",
+        Both,
+        View(WindowHeadStandings),
+    ),
+    (
+        Get,
+        "/api/leagues-h2h-matches/league/{l}",
+        Both,
+        View(WindowHeadMatches),
+    ),
+    (Get, "/api/cups/{c}", Both, View(WindowCup)),
 ];
 
 /// The table of all routes, ready for look-ups.

@@ -78,4 +78,4 @@ no_memory K tells serves holds passes faults (Some (order.Report key store shown
 no_memory K tells serves holds passes faults (Some (order.Generate seed store)) old = (inr (refl, (fault.Memory, refl, holds_still K tells serves holds passes old.keeper, (refl, refl))), refl, refl, refl, refl)
 no_memory K tells serves holds passes faults (Some (order.Dream key store gameweek)) old = (inr (refl, (fault.Memory, refl, holds_still K tells serves holds passes old.keeper, (refl, refl))), refl, refl, refl)
 no_memory K tells serves holds passes faults (Some (order.Events key store fixture minutes)) old = (inr (inr (inr refl), refl, refl, refl), refl, refl)
-no_memory K tells serves holds passes faults (Some (order.Draft key store members)) old = ((out_of_memory IsNotReadDue old.taken, inr (inr refl)), refl, (refl, refl, refl, refl))
+no_memory K tells serves holds passes faults (Some (order.Draft key store members)) old = (inr (inr (inr refl), refl, refl, refl), refl, refl)

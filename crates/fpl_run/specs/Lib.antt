@@ -1,3 +1,4 @@
+pub mod Drafts
 pub mod Events
 pub mod Input
 pub mod Laws

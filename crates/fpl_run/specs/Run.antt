@@ -13,6 +13,7 @@ use Rattle.fpl_run.specs.Input.{TakesAtMost}
 use Rattle.fpl_serving.specs.Pipe.{Pipes}
 use Rattle.fpl_requests.specs.Requests.{Dreams, Generates, Loads, Reports}
 use Rattle.fpl_serving.specs.Serve.{DoorState, Serves}
+use Rattle.fpl_run.specs.Drafts.{Drafted}
 use Rattle.fpl_run.specs.Events.{Recorded}
 
 -- the text for words that are not read
@@ -114,6 +115,7 @@ RunsAs tells serves holds passes faults (Some (order.Events key store fixture mi
     Recorded tells serves holds passes faults old.keeper new.keeper key fixture minutes old.left new.left old.moments new.moments old.taken new.taken status
     × LeavesDoors old new × LeavesFiles old new
 RunsAs tells serves holds passes faults (Some (order.Draft key store members)) old new status =
-    IsUnread old.taken new.taken status × LeavesInput old new × LeavesHost old new
+    Drafted tells serves holds passes faults old.keeper new.keeper key members old.left new.left old.moments new.moments old.taken new.taken status
+    × LeavesDoors old new × LeavesFiles old new
 RunsAs tells serves holds passes faults None old new status =
     IsUnread old.taken new.taken status × LeavesInput old new × LeavesHost old new

@@ -1,6 +1,7 @@
 //! What the words of the program order, over everything outside of it of any kind: `run`, and the scores of a match.
 #![tactic(auto)]
 
+mod drafts;
 mod events;
 mod here;
 mod input;

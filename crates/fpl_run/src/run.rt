@@ -7,6 +7,7 @@ ghost use Rattle.fpl_serving.specs.Serve.{doors_as};
 ghost use Rattle.fpl_run.specs.Input.{TakesAtMost};
 ghost use Rattle.fpl_run.specs.Run.{Ends, IsScoreDue, RunsAs, connections_in};
 
+use crate::drafts::draft;
 use crate::events::events;
 use crate::score::{Halt, score_due};
 use fpl_asking::print;
@@ -110,8 +111,9 @@ pub fn run<S: Source, W: Sink, C: Clock, K: Keeper, D: Doors, F: Shelf, L: Ledge
         ) => events(
             alloc, &key, fixture, minutes, input, output, clock, keeper, steps,
         ),
-        // This is not done yet.
-        Ok(Words::Draft { .. }) => print(output, NOT_READ.as_bytes(), WORDS),
+        Ok(Words::Draft { key, members, .. }) => draft(
+            alloc, &key, members, input, output, clock, keeper, steps,
+        ),
         Err(WordFault::Unread) => print(output, NOT_READ.as_bytes(), WORDS),
         Err(WordFault::Memory) => MEMORY,
     }

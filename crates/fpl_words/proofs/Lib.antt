@@ -1,4 +1,5 @@
 pub mod LineLemmas
+pub mod MemberLemmas
 pub mod NumberLemmas
 pub mod OptionLemmas
 pub mod OrderLemmas

@@ -1,5 +1,5 @@
 -- What words order.
-use Rattle.std.specs.Prelude.{◌^◌, ◌-◌, Bool, ◌||◌, List, codes, if◌then◌else◌, Option, Some, None}
+use Rattle.std.specs.Prelude.{◌≤◌, ◌^◌, ◌-◌, Bool, ◌||◌, List, codes, if◌then◌else◌, Option, Some, None, ⊤}
 use Rattle.std.specs.List.{list_any}
 use Rattle.std.specs.Str.{bytes_eq}
 use Rattle.clap.specs.Words.{Row, Text}
@@ -77,3 +77,8 @@ read line = order_of (entered_in line)
 -- what words order: none of them is dashes alone, clap finds no fault in them, and the values say something
 abbrev pub ordered : List Text → Option Words
 ordered line = if list_any is_dash line then None else read line
+
+-- a draft has from 2 to 8 members
+abbrev pub HasFewMembers : Words → Type 0
+HasFewMembers (words.Draft k kept members) = (2 ≤ members) × (members ≤ 8)
+HasFewMembers said = ⊤

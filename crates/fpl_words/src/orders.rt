@@ -2,7 +2,7 @@
 ghost use Rattle.std.specs.Prelude.{◌≡◌, IfOk, map};
 ghost use Rattle.std.specs.List.{list_any};
 ghost use Rattle.clap.specs.Words.{found_of, rows_of, subcommand_rows_of};
-ghost use Rattle.fpl_words.specs.Orders.{draft, dream, events, further_named, generate, is_dash, load, order_named, order_of, ordered, pipe, read, report, score, serve};
+ghost use Rattle.fpl_words.specs.Orders.{HasFewMembers, draft, dream, events, further_named, generate, is_dash, load, order_named, order_of, ordered, pipe, read, report, score, serve};
 ghost use Rattle.fpl_words.specs.Values.{Answers};
 
 use crate::options::{entered, parse};
@@ -19,6 +19,7 @@ use std::alloc::Global;
 /// words of no command, `Memory` where memory ran out.
 pub fn words_of(alloc: Global, words: &[Text]) -> Result<Words, WordFault>
     ensures ordered { Answers (ordered words.now) result }
+    ensures few { IfOk result HasFewMembers }
 {
     if has_dash(words) {
         return Err(WordFault::Unread);

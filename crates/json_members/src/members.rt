@@ -2,7 +2,7 @@
 ghost use Rattle.std.specs.Prelude.{◌≡◌};
 ghost use Rattle.std.specs.Option.{option_copied};
 ghost use Rattle.serde_json.specs.Data.{boolean, null, string};
-ghost use Rattle.json_members.specs.Members.{count, count_or_null, integer, text_or_null};
+ghost use Rattle.json_members.specs.Members.{count, count_or_null, integer, integer_or_null, no_list, text_or_null};
 ghost use Rattle.json_members.specs.Tokens.{Appends, member_tokens};
 
 use fpl_base::{Code, Name};
@@ -37,6 +37,17 @@ pub fn write_integer(out: &mut Writer, name: &str, n: i32) -> Result<(), AllocEr
 {
     out.key(name)?;
     out.i64(i64::from(n))
+}
+
+/// A whole number, or `null`.
+#[inline(always)]
+pub fn write_integer_or_null(out: &mut Writer, name: &str, n: Option<i32>) -> Result<(), AllocError>
+    ensures { Appends result out.old out.new (member_tokens name.now (integer_or_null n)) }
+{
+    match n {
+        Some(n) => write_integer(out, name, n),
+        None => write_nothing(out, name),
+    }
 }
 
 /// Whether something is so.
@@ -79,6 +90,16 @@ pub fn write_nothing(out: &mut Writer, name: &str) -> Result<(), AllocError>
 {
     out.key(name)?;
     out.null()
+}
+
+/// A list of nothing.
+#[inline(always)]
+pub fn write_no_list(out: &mut Writer, name: &str) -> Result<(), AllocError>
+    ensures { Appends result out.old out.new (member_tokens name.now no_list) }
+{
+    out.key(name)?;
+    out.begin_array()?;
+    out.end_array()
 }
 
 /// A name as text, which it always is.

@@ -29,7 +29,8 @@ use Rattle.season_book.specs.LeagueViews.{cup_shown, league_shown}
 use Rattle.season_book.specs.Once.{Acted, Acts, CommandsActOnce, Rests, RiseByOne, WasDone, acted_numbers, number_asked}
 use Rattle.season_book.specs.Runs.{Asked}
 use Rattle.season_book.specs.Verdict.{Failures, IsVerdictIn, MayAnswer, MayBeLeft, Outcome, Verdict, accepted, begun, cup_ruled, cups_ruled, in_season, judged, key_refusal, keyed, leagues_ruled, my_answer, number_refusal, pass, ruled, ruled_by, ruled_in, ruled_of, page_of, seen_in, settled, shown_or_unknown, unless_broken, unless_misnumbered, unless_refused, unseen, view_answer, wants_no_season, with_entry, with_history}
-use Rattle.season_book.specs.Windows.{me_window, window_data}
+use Rattle.season_book.specs.AllWindows.{window_data}
+use Rattle.season_book.specs.Windows.{me_window}
 use Rattle.season_book.specs.Views.{shown_of}
 use Rattle.season_book.specs.declared.answer.Answer.{Answer}
 use Rattle.season_book.specs.declared.answer.Answer.TheVariants as answer

@@ -23,7 +23,8 @@ use Rattle.season_book.specs.Hosts.{caller_with, keys_of}
 use Rattle.season_book.specs.LeagueCommands.{cup_broken, cup_drawn, cup_made, cup_there, is_issued, is_registered, league_made, league_refusal, leagues_after, leagues_there}
 use Rattle.season_book.specs.LeagueViews.{cup_shown, league_shown}
 use Rattle.season_book.specs.Views.{shown_of}
-use Rattle.season_book.specs.Windows.{me_window, window_data}
+use Rattle.season_book.specs.AllWindows.{window_data}
+use Rattle.season_book.specs.Windows.{me_window}
 use Rattle.season_book.specs.declared.part.Part.{Part}
 use Rattle.season_book.specs.declared.part.Part.TheVariants as part
 use Rattle.season_book.specs.declared.answer.Answer.{Answer}

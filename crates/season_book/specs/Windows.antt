@@ -19,8 +19,6 @@ use Rattle.rule_book.specs.Leagues.{LeagueFacts}
 use Rattle.rule_book.specs.MatchFacts.{is_finished, lines_of}
 use Rattle.rule_book.specs.UpTo.{start_of}
 use Rattle.season_book.specs.Book.{EntryFacts, Facts, caller_number}
-use Rattle.season_book.specs.declared.request.Window.{Window}
-use Rattle.season_book.specs.declared.request.Window.TheVariants as window
 
 -- things in the order of making, each with its number from 1
 abbrev pub numbered : {X : Type 0} → List X → List (ℕ × X)
@@ -133,14 +131,3 @@ sheet_data facts fixture = object
 
 abbrev pub sheet_window : Facts → ℕ → Option Data
 sheet_window facts f = option_map (sheet_data facts) (fixture_of facts.calendar f)
-
--- All windows.
-
--- what a window shows a caller whose last accepted command has this number; none where an id is not there
-abbrev pub window_data : Facts → List EntryFacts → List LeagueFacts → List Bracket → Caller → ℕ → Window → Option Data
-window_data facts entries leagues cups caller last window.Me = Some (me_window entries caller last)
-window_data facts entries leagues cups caller last window.Entries = Some (entries_window entries)
-window_data facts entries leagues cups caller last window.Leagues = Some (leagues_window leagues)
-window_data facts entries leagues cups caller last window.MyLeagues = Some (my_leagues_window leagues (caller_number caller))
-window_data facts entries leagues cups caller last window.Cups = Some (cups_window cups)
-window_data facts entries leagues cups caller last (window.Sheet f) = sheet_window facts f

@@ -39,6 +39,30 @@ pub enum Window {
     Cups,
     /// What was handed in on a fixture: its lines, and whether it is finished.
     Sheet { fixture: u32 },
+    /// The season at a glance: positions, players, gameweeks and clubs.
+    Bootstrap,
+    /// The fixtures, by kick-off, then id.
+    Fixtures,
+    /// What each player did in a gameweek, and what his points are for.
+    Live { gameweek: u32 },
+    /// A player: the fixtures before him and the lines behind him.
+    Element { player: u32 },
+    /// The team of the week of a gameweek.
+    DreamTeam { gameweek: u32 },
+    /// The gameweeks of an entry.
+    History { entry: u32 },
+    /// The team of an entry in a locked gameweek.
+    Picks { entry: u32, gameweek: u32 },
+    /// The transfers of an entry, the latest first.
+    Transfers { entry: u32 },
+    /// The table of a classic league, with movement.
+    ClassicStandings { league: u32 },
+    /// The table of a head-to-head league, with movement.
+    HeadStandings { league: u32 },
+    /// The matches of a head-to-head league.
+    HeadMatches { league: u32 },
+    /// The rounds of a cup, with their ties.
+    Cup { cup: u32 },
 }
 
 /// What a caller asks.

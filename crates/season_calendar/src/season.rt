@@ -140,6 +140,13 @@ impl Calendar {
         }
     }
 
+    /// The fixtures, by ascending id.
+    pub fn fixtures(&self) -> &[Fixture]
+        ensures { result.now ≡ self.now.fixtures }
+    {
+        self.fixtures.as_slice()
+    }
+
     /// The gameweek in which a fixture stands; `None` where it stands nowhere, or is not there.
     pub fn stands_in(&self, f: FixtureId) -> Option<Gw>
         ensures { result ≡ stands_in self.now f }

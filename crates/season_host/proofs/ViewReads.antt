@@ -22,10 +22,10 @@ seen_reads book caller view facts old new is few =
 
 -- what a window speaks of is allowed
 pub window_few : (book : Book) (caller : Caller) (w : Window) (facts : Facts) (old new : ℕ) → book.facts ≡ Some facts
-    → new ≤ old + window_reads facts w → new ≤ old + view_reads book caller (view.Window w)
+    → new ≤ old + window_reads facts book.entries book.leagues book.cups w → new ≤ old + view_reads book caller (view.Window w)
 window_few book caller w facts old new is few =
     let spoken : new ≤ old + spoken_of book (view.Window w) =
-    subst (λ o. new ≤ old + option_map_or (λ facts. window_reads facts w) o 0) (sym is) few in
+    subst (λ o. new ≤ old + option_map_or (λ facts. window_reads facts book.entries book.leagues book.cups w) o 0) (sym is) few in
     omega (arith, spoken)
 
 -- the number of a caller's last command is that of each book that a host stands for

@@ -27,7 +27,7 @@ use season_batches::batch_of;
 use season_book::{Answer, Command, Made, Shown, View, Window};
 use season_cells::KeptCells;
 use season_running::{Lasts, RunningSeason};
-use season_views::window_before;
+use season_windows::window_before;
 use std::alloc::Global;
 use std::marker::Model;
 use std::sync::ledger::Ledger;
@@ -219,7 +219,14 @@ impl House {
             View::League { league } => running.league(self.alloc, cells, league, steps),
             View::Cup { cup } => running.cup(self.alloc, cells, cup, steps),
             View::Window(window) => {
-                running.window(self.alloc, caller, self.lasts.number(caller), window, steps)
+                running.window(
+                    self.alloc,
+                    cells,
+                    caller,
+                    self.lasts.number(caller),
+                    window,
+                    steps,
+                )
             }
             View::Season
             | View::Player { .. }

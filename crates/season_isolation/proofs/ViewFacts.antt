@@ -88,7 +88,7 @@ seen_alike caller book other a facts is (view.Cup c) =
     let rounds = cup_alike facts book.entries other.entries (subst (λ f. EntriesAlike f book.entries other.entries) is a.entries) in
     λ i. shown_or_unknown (option_map (λ b. shown.Cup (rounds b i)) (entry_in (a.cups i) c))
 seen_alike caller book other a facts is (view.Window w) =
-    ap (λ d. shown_or_unknown (option_map page_of d)) (window_alike caller book other a facts w)
+    ap (λ d. shown_or_unknown (option_map page_of d)) (window_alike caller book other a facts is w)
 seen_alike caller book other a facts is view.Season = refl
 seen_alike caller book other a facts is (view.Player p) = refl
 seen_alike caller book other a facts is (view.PlayerGameweek p g) = refl

@@ -10,6 +10,7 @@ use Rattle.season_nodes.specs.Held.{SeasonRows}
 use Rattle.season_nodes.specs.Season.{IsSeason, SeasonFacts}
 use Rattle.season_book.specs.Book.{Facts}
 use Rattle.season_views.specs.Cells.{AreKept, AreKeptAt, AreKeptFor, AreKeptIn, books_seen}
+use Rattle.season_views.specs.Seen.{IsKept}
 use Rattle.season_running.specs.Changed.{played_by}
 
 kept : (facts : Facts) (managers : Managers) (leagues : List LeagueFacts) (cups : List Bracket) (cells : SeasonRows) → managers.profile ≡ facts.profile
@@ -35,3 +36,9 @@ kept_for facts managers leagues cups l league cells profile at those = (leagues,
 pub kept_at : (facts : Facts) (managers : Managers) (leagues : List LeagueFacts) (cups : List Bracket) (number : ℕ) (bracket : Bracket) (cells : SeasonRows) → managers.profile ≡ facts.profile
     → entry_in cups number ≡ Some bracket → AreKept facts (played_by facts.profile managers.managers) leagues cups cells → AreKeptAt facts managers number bracket cells
 kept_at facts managers leagues cups number bracket cells profile at those = (leagues, cups, at, kept facts managers leagues cups cells profile those)
+
+-- so is all that is seen of the season
+pub kept_whole : (facts : Facts) (managers : Managers) (leagues : List LeagueFacts) (cups : List Bracket) (cells : SeasonRows) → managers.profile ≡ facts.profile
+    → AreKept facts (played_by facts.profile managers.managers) leagues cups cells
+    → IsKept (record { facts = facts; managers = managers; leagues = leagues; cups = cups }) cells
+kept_whole facts managers leagues cups cells profile those = record { profile = profile; kept = kept facts managers leagues cups cells profile those }

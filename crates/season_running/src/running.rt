@@ -39,7 +39,8 @@ use season_entries::{
 };
 use season_facts::Season;
 use season_graph::SeasonCells;
-use season_views::{Seen, SeenCells, cup, entry_gameweek, league, my_entry, show, window};
+use season_views::{Seen, SeenCells, cup, entry_gameweek, league, my_entry, show};
+use season_windows::window;
 use std::alloc::Global;
 use std::marker::Model;
 use std::sync::ledger::Ledger;
@@ -546,22 +547,27 @@ impl RunningSeason {
         }
     }
 
-    /// What a window shows a caller, under the number of his last command.
+    /// What a window shows a caller, under the number of his last command. It is read of the facts, of rows and of the cells.
     pub fn window<L: Ledger>(
         &self,
         alloc: Global,
+        cells: &SeasonCells,
         caller: &Caller,
         last: u64,
         asked: Window,
         steps: &mut Steps<L>,
     ) -> Answer
+        requires { AreKeptBy self.now cells.now }
         ensures seen { (book : Book) → Plays self.now book → last ≡ last_number book caller.now
             → IsShown (seen_in book caller.now (view.Window asked) self.now.facts) result }
         ensures storeless { IsStoreless result }
-        ensures cost { steps.new ≤ steps.old + window_reads self.now.facts asked }
+        ensures cost { (book : Book) → Plays self.now book
+            → steps.new
+            ≤ steps.old + window_reads self.now.facts book.entries book.leagues book.cups asked }
     {
         let seen: Seen<L> = Seen::of(&self.season, &self.managers, &self.leagues, &self.cups);
-        page_answer(window(alloc, &seen, caller, last, asked, steps))
+        let cells = SeenCells::of(cells);
+        page_answer(window(alloc, &seen, &cells, caller, last, asked, steps))
     }
 }
 

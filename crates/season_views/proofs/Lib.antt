@@ -1,16 +1,16 @@
 pub mod Counted
-mod CupRounds
-mod EntryRows
-mod Found
-mod Gameweeks
-mod Histories
-mod Lists
-mod Matches
-mod Numbered
-mod ShownLeagues
-mod Scores
-mod ShownLines
-mod Tables
-mod Told
-mod Totals
-mod Written
+pub mod CupRounds
+pub mod EntryRows
+pub mod Found
+pub mod Gameweeks
+pub mod Histories
+pub mod Lists
+pub mod Matches
+pub mod Numbered
+pub mod ShownLeagues
+pub mod Scores
+pub mod ShownLines
+pub mod Tables
+pub mod Told
+pub mod Totals
+pub mod Written

@@ -1,5 +1,16 @@
+pub mod BootstrapReads
 pub mod Cells
+pub mod CupWindowReads
+pub mod DreamTeamWindowReads
+pub mod ElementSummaryReads
 pub mod Entries
+pub mod EntryReads
+pub mod FixturesReads
+pub mod HeadMatchesReads
 pub mod Leagues
+pub mod LiveWindowReads
 pub mod Reads
 pub mod Seen
+pub mod StandingsReads
+pub mod Ties
+pub mod TransfersWindowReads

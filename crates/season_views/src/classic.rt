@@ -19,8 +19,8 @@ use season_ledger::rows_tell;
 use std::alloc::Global;
 use std::sync::ledger::Ledger;
 
-// An entry's row of a league that starts in a gameweek, from which it has a total.
-fn classic_row<L: Ledger>(
+/// An entry's row of a league that starts in a gameweek, from which it has a total.
+pub fn classic_row<L: Ledger>(
     seen: &Seen<L>,
     cells: &SeenCells<L>,
     entry: EntryId,
@@ -42,8 +42,8 @@ fn classic_row<L: Ledger>(
     (entry, total, counted)
 }
 
-// A row for each member of a league.
-fn classic_rows<L: Ledger>(
+/// A row for each member of a league.
+pub fn classic_rows<L: Ledger>(
     alloc: Global,
     seen: &Seen<L>,
     cells: &SeenCells<L>,
@@ -68,8 +68,8 @@ fn classic_rows<L: Ledger>(
     Ok(rows)
 }
 
-// The rows with their ranks, by rank, then entry.
-fn classic_table(alloc: Global, rows: &[(EntryId, i32, u32)]) -> Result<Vec<Ranked>, Memory>
+/// The rows with their ranks, by rank, then entry.
+pub fn classic_table(alloc: Global, rows: &[(EntryId, i32, u32)]) -> Result<Vec<Ranked>, Memory>
     requires { AllDiffer (map (λ row. row.0) rows.now) }
     ensures value { IfOk result (λ table. table.items ≡ classic_table_of rows.now) }
     ensures entries { (n : ℕ) → All (λ e. e ≤ n) (map (λ row. row.0) rows.now)
@@ -110,8 +110,8 @@ fn classic_named<L: Ledger>(
     Ok(shown)
 }
 
-// A classic league with its table.
-pub(crate) fn classic<L: Ledger>(
+/// A classic league with its table.
+pub fn classic<L: Ledger>(
     alloc: Global,
     seen: &Seen<L>,
     cells: &SeenCells<L>,

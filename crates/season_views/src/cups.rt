@@ -23,8 +23,8 @@ use season_ledger::rows_tell;
 use std::alloc::Global;
 use std::sync::ledger::Ledger;
 
-// How many ties the round after so many rounds has.
-fn ties(bracket: &Bracket, round: u8) -> u16
+/// How many ties the round after so many rounds has.
+pub fn ties(bracket: &Bracket, round: u8) -> u16
     requires shape { HasShape bracket.now }
     requires round { round < 10 }
     ensures { result ≡ length bracket.now.slots / 2 ^ (round + 1) }
@@ -34,8 +34,8 @@ fn ties(bracket: &Bracket, round: u8) -> u16
     (bracket.slots.as_slice().len() >> (round + 1)) as u16
 }
 
-// Who goes on from each tie of the round after so many rounds, as the cells hold it.
-fn winners_held<L: Ledger>(
+/// Who goes on from each tie of the round after so many rounds, as the cells hold it.
+pub fn winners_held<L: Ledger>(
     alloc: Global,
     cells: &SeenCells<L>,
     id: CupId,
@@ -60,8 +60,8 @@ fn winners_held<L: Ledger>(
     Ok(winners)
 }
 
-// Whether the gameweek of the round after so many rounds is locked.
-fn is_played<L: Ledger>(seen: &Seen<L>, bracket: &Bracket, round: u8) -> bool
+/// Whether the gameweek of the round after so many rounds is locked.
+pub fn is_played<L: Ledger>(seen: &Seen<L>, bracket: &Bracket, round: u8) -> bool
     requires { round < 10 }
     ensures value { result
         ≡ nat_le (bracket.now.start + (round + 1)) (seen.now.facts.calendar.locked + 1) }

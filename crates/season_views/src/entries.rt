@@ -157,8 +157,8 @@ pub fn entry_gameweek<L: Ledger>(
     gameweek_of(seen, cells, there, locked, steps)
 }
 
-// What an entry's team scored in a locked gameweek; none before its first.
-fn gameweek_of<L: Ledger>(
+/// What an entry's team scored in a locked gameweek; none before its first.
+pub fn gameweek_of<L: Ledger>(
     seen: &Seen<L>,
     cells: &SeenCells<L>,
     entry: EntryId,
@@ -185,8 +185,8 @@ fn gameweek_of<L: Ledger>(
     })
 }
 
-// The entry of this number, if it was issued.
-fn issued<L: Ledger>(seen: &Seen<L>, number: u32) -> Option<EntryId>
+/// The entry of this number, if it was issued.
+pub fn issued<L: Ledger>(seen: &Seen<L>, number: u32) -> Option<EntryId>
     ensures { result
         ≡ (if number == 0 || nat_lt (length seen.now.managers.managers) number then None
         else Some number) }

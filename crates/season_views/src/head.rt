@@ -24,8 +24,8 @@ use season_ledger::rows_tell;
 use std::alloc::Global;
 use std::sync::ledger::Ledger;
 
-// A row for each member, by what its cell has of its matches.
-fn head_rows<L: Ledger>(
+/// A row for each member, by what its cell has of its matches.
+pub fn head_rows<L: Ledger>(
     alloc: Global,
     cells: &SeenCells<L>,
     id: LeagueId,
@@ -48,8 +48,8 @@ fn head_rows<L: Ledger>(
     Ok(rows)
 }
 
-// The rows with their ranks, by rank, then entry.
-fn head_table(alloc: Global, rows: &[(EntryId, HeadScore)]) -> Result<Vec<HeadRanked>, Memory>
+/// The rows with their ranks, by rank, then entry.
+pub fn head_table(alloc: Global, rows: &[(EntryId, HeadScore)]) -> Result<Vec<HeadRanked>, Memory>
     requires { AllDiffer (map (λ row. row.0) rows.now) }
     ensures value { IfOk result (λ table. table.items ≡ head_table_of rows.now) }
     ensures entries { (n : ℕ) → All (λ e. e ≤ n) (map (λ row. row.0) rows.now)
@@ -89,8 +89,8 @@ fn head_named<L: Ledger>(
     Ok(shown)
 }
 
-// A head-to-head league with its table.
-pub(crate) fn head<L: Ledger>(
+/// A head-to-head league with its table.
+pub fn head<L: Ledger>(
     alloc: Global,
     seen: &Seen<L>,
     cells: &SeenCells<L>,

@@ -11,11 +11,16 @@ mod reading;
 mod seen;
 mod sheets;
 mod views;
-mod windows;
 
-pub use cups::cup;
-pub use entries::{entry_gameweek, my_entry};
+pub use classic::{classic_row, classic_rows, classic_table};
+pub use cups::{cup, is_played, ties, winners_held};
+pub use entries::{entry_gameweek, gameweek_of, issued, my_entry};
+pub use head::{head_rows, head_table};
 pub use leagues::league;
-pub use seen::{Seen, SeenCells};
-pub use views::show;
-pub use windows::{window, window_before};
+pub use names::name_of;
+pub use reading::{
+    bonuses_held, gameweek_held, head_held, line_held, score_held, tie_held, total_held,
+};
+pub use seen::{Seen, SeenCells, SeenEntry};
+pub use sheets::{line_shown, lines_shown};
+pub use views::{deadline_at, locked_gameweek, show};

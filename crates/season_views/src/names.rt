@@ -7,8 +7,8 @@ use crate::seen::Seen;
 use fpl_base::{EntryId, Memory, Name};
 use std::sync::ledger::Ledger;
 
-// The name of an entry that was issued.
-pub(crate) fn name_of<L: Ledger>(seen: &Seen<L>, entry: EntryId) -> Result<Name, Memory>
+/// The name of an entry that was issued.
+pub fn name_of<L: Ledger>(seen: &Seen<L>, entry: EntryId) -> Result<Name, Memory>
     requires { entry ≤ length seen.now.managers.managers }
     ensures { IfOk result
         (λ name. OfEachNames seen.now.managers (λ entries. name ≡ name_of entries entry)) }

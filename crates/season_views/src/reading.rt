@@ -15,9 +15,9 @@ use season_graph::{LineWorth, Node, Value};
 use season_rules::{figures_in, winner_in, worth_in};
 use std::sync::ledger::Ledger;
 
-// What a player's line in a fixture is worth without bonus, as its cell holds it; nothing where he has no line there. It
-// is one counted read, as each of these.
-pub(crate) fn line_held<L: Ledger>(
+/// What a player's line in a fixture is worth without bonus, as its cell holds it; nothing where he has no line there. It
+/// is one counted read, as each of these.
+pub fn line_held<L: Ledger>(
     cells: &SeenCells<L>,
     fixture: FixtureId,
     player: PlayerId,
@@ -34,8 +34,8 @@ pub(crate) fn line_held<L: Ledger>(
     worth_in(cells.get(Node::Line(fixture, player), steps))
 }
 
-// Who took part in a fixture, each with his bonus; nobody before it is finished, or where nobody has a line.
-pub(crate) fn bonuses_held<'a, L: Ledger>(
+/// Who took part in a fixture, each with his bonus; nobody before it is finished, or where nobody has a line.
+pub fn bonuses_held<'a, L: Ledger>(
     cells: &'a SeenCells<L>,
     fixture: FixtureId,
     steps: &mut Steps<L>,
@@ -54,8 +54,8 @@ pub(crate) fn bonuses_held<'a, L: Ledger>(
     }
 }
 
-// What a player did in a gameweek; nothing where he is not there, and where the gameweek is not locked.
-pub(crate) fn gameweek_held<L: Ledger>(
+/// What a player did in a gameweek; nothing where he is not there, and where the gameweek is not locked.
+pub fn gameweek_held<L: Ledger>(
     cells: &SeenCells<L>,
     player: PlayerId,
     gameweek: Gw,
@@ -73,8 +73,8 @@ pub(crate) fn gameweek_held<L: Ledger>(
     figures_in(cells.get(Node::PlayerGw(player, gameweek), steps))
 }
 
-// What an entry's team scored in a gameweek; `None` before its first one, and where the gameweek is not locked.
-pub(crate) fn score_held<L: Ledger>(
+/// What an entry's team scored in a gameweek; `None` before its first one, and where the gameweek is not locked.
+pub fn score_held<L: Ledger>(
     cells: &SeenCells<L>,
     entry: EntryId,
     gameweek: Gw,
@@ -92,9 +92,9 @@ pub(crate) fn score_held<L: Ledger>(
     }
 }
 
-// The points after deductions of an entry over the locked gameweeks from one on, or from its first; 0 where it has no total
-// from there.
-pub(crate) fn total_held<L: Ledger>(
+/// The points after deductions of an entry over the locked gameweeks from one on, or from its first; 0 where it has no total
+/// from there.
+pub fn total_held<L: Ledger>(
     cells: &SeenCells<L>,
     entry: EntryId,
     start: Gw,
@@ -111,10 +111,10 @@ pub(crate) fn total_held<L: Ledger>(
     }
 }
 
-// What an entry has of its matches in a head-to-head league, over the locked gameweeks from its start on; nothing where
-// it is not in the order of the league, or where there is no such league.
+/// What an entry has of its matches in a head-to-head league, over the locked gameweeks from its start on; nothing where
+/// it is not in the order of the league, or where there is no such league.
 #[tactic(auto, using(season_graph::proofs::ToldFacts::head_always))]
-pub(crate) fn head_held<L: Ledger>(
+pub fn head_held<L: Ledger>(
     cells: &SeenCells<L>,
     league: LeagueId,
     entry: EntryId,
@@ -130,9 +130,9 @@ pub(crate) fn head_held<L: Ledger>(
     }
 }
 
-// The number of the entry that goes on from a tie of a cup, after so many rounds; 0 where there is no such tie, and where
-// its gameweek is not locked.
-pub(crate) fn tie_held<L: Ledger>(
+/// The number of the entry that goes on from a tie of a cup, after so many rounds; 0 where there is no such tie, and where
+/// its gameweek is not locked.
+pub fn tie_held<L: Ledger>(
     cells: &SeenCells<L>,
     cup: CupId,
     round: u8,

@@ -7,13 +7,13 @@ ghost use Rattle.rule_book.specs.Entries.{entry_in};
 ghost use Rattle.rule_book.specs.History.{Event};
 ghost use Rattle.rule_book.specs.HistoryRules.{FirstTold};
 ghost use Rattle.rule_book.specs.HistoryTeam.{TeamTold};
-ghost use Rattle.rule_book.specs.HistoryTransfers.{FreeTold, cost_at, counted_through};
-ghost use Rattle.rule_book.specs.MatchFacts.{is_finished, lines_of, players_in};
+ghost use Rattle.rule_book.specs.HistoryTransfers.{FreeTold, cost_at, counted_through, swaps_in};
+ghost use Rattle.rule_book.specs.MatchFacts.{has_facts, is_finished, lines_of, players_in};
 ghost use Rattle.rule_book.specs.Players.{player_of};
 ghost use Rattle.rule_book.specs.UpTo.{start_of};
 ghost use Rattle.season_ledger.specs.Rows.{first_in};
 ghost use Rattle.season_ledger.specs.Stands.{StandsFor};
-ghost use Rattle.manager_book.specs.Managers.{name_of, season_of};
+ghost use Rattle.manager_book.specs.Managers.{name_of, sales_of, season_of};
 ghost use Rattle.season_nodes.specs.Held.{held_values};
 ghost use Rattle.season_book.specs.Book.{EntryFacts};
 ghost use Rattle.season_views.specs.Seen.{OfEachSeen};
@@ -23,7 +23,7 @@ use cup_rounds::Cups;
 use fpl_base::{EntryId, FixtureId, Gw, Memory, Name, PlayerId, Profile, Steps};
 use manager_book::ManagerBook;
 use player_prices::Players;
-use rule_book::{Fixture, Line, Player, Team};
+use rule_book::{Fixture, Line, Player, Sale, Team};
 use season_book::SharedClubs;
 use season_calendar::Calendar;
 use season_facts::Season;
@@ -56,11 +56,11 @@ impl<'a, L: Ledger> Model for Seen<'a, L> {
         } };
 }
 
-// What is open of an entry.
+/// What is open of an entry: its name, and its first gameweek, or `None` where it is not registered.
 #[derive(Drop)]
-pub(crate) struct SeenEntry<'a> {
-    pub(crate) name: &'a Name,
-    pub(crate) first: Option<Gw>,
+pub struct SeenEntry<'a> {
+    pub name: &'a Name,
+    pub first: Option<Gw>,
 }
 
 impl<'a, L: Ledger> Seen<'a, L> {
@@ -89,49 +89,49 @@ impl<'a, L: Ledger> Seen<'a, L> {
     }
 
     /// By which rules the season is played.
-    pub(crate) fn profile(&self) -> Profile
+    pub fn profile(&self) -> Profile
         ensures { result ≡ self.now.facts.profile }
     {
         self.season.profile()
     }
 
     /// Its calendar.
-    pub(crate) fn calendar(&self) -> &Calendar
+    pub fn calendar(&self) -> &Calendar
         ensures { result.now ≡ self.now.facts.calendar }
     {
         self.season.calendar()
     }
 
     /// The clubs.
-    pub(crate) fn clubs(&self) -> Result<SharedClubs, Memory>
+    pub fn clubs(&self) -> Result<SharedClubs, Memory>
         ensures { IfOk result (λ clubs. clubs ≡ self.now.facts.clubs) }
     {
         self.season.clubs()
     }
 
     /// The players.
-    pub(crate) fn players(&self) -> &Players
+    pub fn players(&self) -> &Players
         ensures { result.now ≡ self.now.facts.players }
     {
         self.season.players()
     }
 
     /// The player of this number, if he is there.
-    pub(crate) fn player(&self, number: u32) -> Option<&Player>
+    pub fn player(&self, number: u32) -> Option<&Player>
         ensures { option_copied result ≡ player_of self.now.facts.players number }
     {
         self.season.player(number)
     }
 
     /// How many entries were made.
-    pub(crate) fn entries(&self) -> u32
+    pub fn entries(&self) -> u32
         ensures { result ≡ length self.now.managers.managers }
     {
         self.managers.entries()
     }
 
     /// The name of an entry that was made, and its first gameweek, if it is registered.
-    pub(crate) fn entry(&self, entry: EntryId) -> SeenEntry<'_>
+    pub fn entry(&self, entry: EntryId) -> SeenEntry<'_>
         requires { entry ≤ length self.now.managers.managers }
         ensures { OfEachSeen self.now
             (λ entries. (row : EntryFacts) → entry_in entries entry ≡ Some row
@@ -149,14 +149,14 @@ impl<'a, L: Ledger> Seen<'a, L> {
     }
 
     /// The name of an entry; `None` where it was not issued.
-    pub(crate) fn name(&self, entry: EntryId) -> Option<&Name>
+    pub fn name(&self, entry: EntryId) -> Option<&Name>
         ensures { option_copied result ≡ name_of self.now.managers entry }
     {
         self.managers.name(entry)
     }
 
     /// The first gameweek of an entry; `None` where it is not registered.
-    pub(crate) fn first(&self, entry: EntryId) -> Option<Gw>
+    pub fn first(&self, entry: EntryId) -> Option<Gw>
         ensures rows { result ≡ first_in (season_of self.now.managers entry) }
         ensures history { (position : ℕ → Position) (h : List Event)
             → StandsFor position (season_of self.now.managers entry) h → FirstTold h result }
@@ -166,7 +166,7 @@ impl<'a, L: Ledger> Seen<'a, L> {
 
     /// An entry's team in a gameweek; `None` where it is not registered and before its first gameweek. It is a counted
     /// read, as each of the next three.
-    pub(crate) fn team_at(&self, entry: EntryId, gameweek: Gw, steps: &mut Steps<L>) -> Option<Team>
+    pub fn team_at(&self, entry: EntryId, gameweek: Gw, steps: &mut Steps<L>) -> Option<Team>
         ensures counted { steps.new ≡ steps.old + 1 }
         ensures history { (position : ℕ → Position) (h : List Event)
             → StandsFor position (season_of self.now.managers entry) h
@@ -176,7 +176,7 @@ impl<'a, L: Ledger> Seen<'a, L> {
     }
 
     /// An entry's free transfers in a gameweek; `None` where they have no number.
-    pub(crate) fn free(&self, entry: EntryId, gameweek: Gw, steps: &mut Steps<L>) -> Option<u8>
+    pub fn free(&self, entry: EntryId, gameweek: Gw, steps: &mut Steps<L>) -> Option<u8>
         ensures counted { steps.new ≡ steps.old + 1 }
         ensures history { (position : ℕ → Position) (h : List Event)
             → StandsFor position (season_of self.now.managers entry) h
@@ -186,7 +186,7 @@ impl<'a, L: Ledger> Seen<'a, L> {
     }
 
     /// What an entry's transfers of a gameweek cost, in points.
-    pub(crate) fn cost(&self, entry: EntryId, gameweek: Gw, steps: &mut Steps<L>) -> u32
+    pub fn cost(&self, entry: EntryId, gameweek: Gw, steps: &mut Steps<L>) -> u32
         ensures counted { steps.new ≡ steps.old + 1 }
         ensures history { (position : ℕ → Position) (h : List Event)
             → StandsFor position (season_of self.now.managers entry) h
@@ -196,7 +196,7 @@ impl<'a, L: Ledger> Seen<'a, L> {
     }
 
     /// How many of an entry's transfers count in a table, in the gameweeks up to this one.
-    pub(crate) fn counted_transfers(&self, entry: EntryId, through: u8, steps: &mut Steps<L>) -> u32
+    pub fn counted_transfers(&self, entry: EntryId, through: u8, steps: &mut Steps<L>) -> u32
         ensures counted { steps.new ≡ steps.old + 1 }
         ensures history { (position : ℕ → Position) (h : List Event)
             → StandsFor position (season_of self.now.managers entry) h
@@ -205,36 +205,71 @@ impl<'a, L: Ledger> Seen<'a, L> {
         self.managers.counted_transfers(entry, through, steps)
     }
 
+    /// How many transfers an entry made in a gameweek; 0 where it is not registered. It is a counted read.
+    pub fn made(&self, entry: EntryId, gameweek: Gw, steps: &mut Steps<L>) -> u16
+        ensures counted { steps.new ≡ steps.old + 1 }
+        ensures history { (position : ℕ → Position) (h : List Event)
+            → StandsFor position (season_of self.now.managers entry) h
+            → result ≡ swaps_in h gameweek }
+    {
+        steps.tick();
+        match self.managers.manager(entry) {
+            Some(manager) => manager.season.made(gameweek),
+            None => 0,
+        }
+    }
+
+    /// The transfers that an entry made, each with its gameweek, in the order of making. Each is one counted read.
+    pub fn sales(&self, entry: EntryId, steps: &mut Steps<L>) -> &[(Gw, Sale)]
+        ensures sales { result.now ≡ sales_of self.now.managers entry }
+        ensures counted { steps.new ≡ steps.old + length (sales_of self.now.managers entry) }
+    {
+        match self.managers.manager(entry) {
+            Some(manager) => {
+                count_reads(manager.sales.count(), steps);
+                manager.sales.as_slice()
+            }
+            None => &[],
+        }
+    }
+
     /// The leagues.
-    pub(crate) fn leagues(&self) -> &Leagues
+    pub fn leagues(&self) -> &Leagues
         ensures { result.now ≡ self.now.leagues }
     {
         self.leagues
     }
 
     /// The cups.
-    pub(crate) fn cups(&self) -> &Cups
+    pub fn cups(&self) -> &Cups
         ensures { result.now ≡ self.now.cups }
     {
         self.cups
     }
 
     /// The fixture of this number, if it is there.
-    pub(crate) fn fixture(&self, number: u32) -> Option<Fixture>
+    pub fn fixture(&self, number: u32) -> Option<Fixture>
         ensures { result ≡ fixture_of self.now.facts.calendar number }
     {
         self.season.fixture(number)
     }
 
+    /// Whether a fixture has facts: a line, or the finished mark.
+    pub fn has_facts(&self, fixture: FixtureId) -> bool
+        ensures { result ≡ has_facts self.now.facts.matches fixture }
+    {
+        self.season.matches().has_facts(fixture)
+    }
+
     /// Whether a fixture is finished.
-    pub(crate) fn is_finished(&self, fixture: FixtureId) -> bool
+    pub fn is_finished(&self, fixture: FixtureId) -> bool
         ensures { result ≡ is_finished self.now.facts.matches fixture }
     {
         self.season.is_finished(fixture)
     }
 
     /// The players who have a line in a fixture, ascending.
-    pub(crate) fn players_of(&self, fixture: FixtureId) -> &[PlayerId]
+    pub fn players_of(&self, fixture: FixtureId) -> &[PlayerId]
         ensures { result.now ≡ players_in (lines_of self.now.facts.matches fixture) }
     {
         self.season.matches().players_of(fixture)
@@ -242,12 +277,21 @@ impl<'a, L: Ledger> Seen<'a, L> {
 
     /// The players who have a line in a fixture, ascending, and beside them the line of each. Each line is one counted
     /// read.
-    pub(crate) fn rows(&self, fixture: FixtureId, steps: &mut Steps<L>) -> (&[PlayerId], &[Line])
+    pub fn rows(&self, fixture: FixtureId, steps: &mut Steps<L>) -> (&[PlayerId], &[Line])
         ensures rows { zip result.0.now result.1.now ≡ lines_of self.now.facts.matches fixture }
         ensures paired { length result.1.now ≡ length result.0.now }
         ensures counted { steps.new ≡ steps.old + length (lines_of self.now.facts.matches fixture) }
     {
         self.season.rows(fixture, steps)
+    }
+}
+
+// Counts so many reads.
+fn count_reads<L: Ledger>(count: usize, steps: &mut Steps<L>)
+    ensures { steps.new ≡ steps.old + count }
+{
+    'reads: for _ in 0..count {
+        steps.tick();
     }
 }
 
@@ -278,7 +322,7 @@ impl<'a, L: Ledger> SeenCells<'a, L> {
     }
 
     /// The value of a node, by a counted read; `None` where it is not live or was not evaluated yet.
-    pub(crate) fn get(&self, node: Node, steps: &mut Steps<L>) -> Option<&Value>
+    pub fn get(&self, node: Node, steps: &mut Steps<L>) -> Option<&Value>
         ensures value { option_copied result ≡ held_values self.now node }
         ensures cost { steps.new ≡ steps.old + 1 }
     {

@@ -18,8 +18,8 @@ use season_rules::bonus_among;
 use std::alloc::Global;
 use std::sync::ledger::Ledger;
 
-// The lines of a fixture by player, and what they are worth as their cells hold it.
-pub(crate) fn lines_shown<L: Ledger>(
+/// The lines of a fixture by player, and what they are worth as their cells hold it.
+pub fn lines_shown<L: Ledger>(
     alloc: Global,
     seen: &Seen<L>,
     cells: &SeenCells<L>,
@@ -43,8 +43,8 @@ pub(crate) fn lines_shown<L: Ledger>(
     Ok(shown)
 }
 
-// What a player's line in a fixture is worth as its cell holds it, with his bonus among those of the fixture.
-fn line_shown<L: Ledger>(
+/// What a player's line in a fixture is worth as its cell holds it, with his bonus among those of the fixture.
+pub fn line_shown<L: Ledger>(
     cells: &SeenCells<L>,
     fixture: FixtureId,
     bonuses: &[(PlayerId, u8)],

@@ -69,8 +69,8 @@ fn deadlines_of(alloc: Global, calendar: &Calendar) -> Result<Moments, Memory>
     Ok(deadlines)
 }
 
-// The deadline at a place, from 0, of which there are at most 38.
-fn deadline_at(calendar: &Calendar, place: u8) -> Moment
+/// The deadline at a place, from 0, of which there are at most 38.
+pub fn deadline_at(calendar: &Calendar, place: u8) -> Moment
     requires there { place < length calendar.now.deadlines }
     requires at_most_38 { length calendar.now.deadlines ≤ 38 }
     ensures { slice_get calendar.now.deadlines place ≡ Some result }
@@ -120,8 +120,8 @@ fn gameweek_shown<L: Ledger>(
     Some(Shown::PlayerGameweek(figures))
 }
 
-// The gameweek of this number, if it is locked.
-pub(crate) fn locked_gameweek<L: Ledger>(seen: &Seen<L>, number: u32) -> Option<Gw>
+/// The gameweek of this number, if it is locked.
+pub fn locked_gameweek<L: Ledger>(seen: &Seen<L>, number: u32) -> Option<Gw>
     ensures { result
         ≡ (if nat_le 1 number && is_locked seen.now.facts.calendar number then Some number else None) }
 {

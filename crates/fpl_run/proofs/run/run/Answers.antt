@@ -1,5 +1,5 @@
 use Rattle.std.proofs.Common.{◌≡◌, Some, refl, subst}
-use Rattle.fpl_words.specs.Orders.{ordered}
+use Rattle.fpl_words.specs.Orders.{HasFewMembers, ordered}
 use Rattle.fpl_words.specs.declared.words.Words.{Words}
 use Rattle.fpl_words.specs.declared.words.Words.TheVariants as order
 use Rattle.fpl_run.proofs.RunLemmas.{no_memory, not_read_ends, runs_as, runs_none, unread_statuses}
@@ -54,17 +54,21 @@ returns-in-Ok-Events-clause-runs g c =
     let said = subst (λ (w : Words). ordered c.args.words.now ≡ Some w) one.field-0-is one.ensures.ordered in
     runs_as _ g.K.Keeper.tells g.K.Keeper.serves g.K.Keeper.holds g.K.Keeper.passes g.K.Keeper.faults (ordered c.args.words.now) (order.Events one.key one.field-0-1 one.fixture one.minutes) _ _ _ said (c.events.ensures.recorded, refl, refl)
 
+pub draft-requires : goal.draft-requires
+draft-requires g c =
+    let one = c.in-Ok-Draft in
+    record { few = subst (λ (w : Words). HasFewMembers w) one.field-0-is one.ensures.few }
+
 pub returns-in-Ok-Draft-clause-runs : goal.returns-in-Ok-Draft-clause-runs
 returns-in-Ok-Draft-clause-runs g c =
     let one = c.in-Ok-Draft in
     let said = subst (λ (w : Words). ordered c.args.words.now ≡ Some w) one.field-0-is one.ensures.ordered in
-    runs_as _ g.K.Keeper.tells g.K.Keeper.serves g.K.Keeper.holds g.K.Keeper.passes g.K.Keeper.faults (ordered c.args.words.now) (order.Draft one.field-0-0 one.field-0-1 one.field-0-2) _ _ _ said
-    ((not_read_ends _ _ _ _ (c.as_bytes.ensures.value) c.print.ensures.printed, unread_statuses _ c.print.ensures.statuses), refl, (refl, refl, refl, refl))
+    runs_as _ g.K.Keeper.tells g.K.Keeper.serves g.K.Keeper.holds g.K.Keeper.passes g.K.Keeper.faults (ordered c.args.words.now) (order.Draft one.key one.field-0-1 one.members) _ _ _ said (c.draft.ensures.drafted, refl, refl)
 
 pub returns-in-Err-Unread-clause-runs : goal.returns-in-Err-Unread-clause-runs
 returns-in-Err-Unread-clause-runs g c =
     runs_none _ g.K.Keeper.tells g.K.Keeper.serves g.K.Keeper.holds g.K.Keeper.passes g.K.Keeper.faults (ordered c.args.words.now) _ _ _ (c.in-Err-Unread.ensures.ordered c.in-Err-Unread.field-0-is)
-    ((not_read_ends _ _ _ _ (c.as_bytes-in-Err-Unread.ensures.value) c.print-in-Err-Unread.ensures.printed, unread_statuses _ c.print-in-Err-Unread.ensures.statuses), refl, (refl, refl, refl, refl))
+    ((not_read_ends _ _ _ _ (c.as_bytes.ensures.value) c.print.ensures.printed, unread_statuses _ c.print.ensures.statuses), refl, (refl, refl, refl, refl))
 
 pub returns-clause-runs : goal.returns-clause-runs
 returns-clause-runs g c = no_memory _ g.K.Keeper.tells g.K.Keeper.serves g.K.Keeper.holds g.K.Keeper.passes g.K.Keeper.faults (ordered c.args.words.now) _

@@ -37,6 +37,13 @@ show-requires g c =
     (kept_of c.self.inside.operator c.self.inside.lasts c.args.self.now c.self.inside.running running c.args.cells.now c.in-Some-cells.kept
     c.self.view_is c.in-Some.is c.in-Some-cells.is c.requires)
 
+pub window-requires : goal.window-requires
+window-requires g c =
+    let running = c.in-Some.running in
+    subst (λ cells. AreKeptBy running cells) (sym c.cells-cells.ensures)
+    (kept_of c.self.inside.operator c.self.inside.lasts c.args.self.now c.self.inside.running running c.args.cells.now c.in-Some-cells.kept
+    c.self.view_is c.in-Some.is c.in-Some-cells.is c.requires)
+
 pub returns-in-Me-clause-cost : goal.returns-in-Me-clause-cost
 returns-in-Me-clause-cost g c = λ book stands.
     let most = eight (view_answer book c.args.caller.now c.args.view) in
@@ -76,4 +83,4 @@ returns-in-Window-clause-cost g c =
     rw c.in-Window.is (λ book stands.
     let running = c.in-Some.running in
     let plays = stood_for c.args.self.now c.self.inside.operator c.self.inside.running c.self.inside.lasts running book c.self.view_is c.in-Some.is stands in
-    window_few book c.args.caller.now c.in-Window.window running.facts c.args.steps.now c.window.new.steps plays.facts c.window.ensures.cost)
+    window_few book c.args.caller.now c.in-Window.window running.facts c.args.steps.now c.window.new.steps plays.facts (c.window.ensures.cost book plays))

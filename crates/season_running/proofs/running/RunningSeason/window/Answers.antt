@@ -6,11 +6,13 @@ use Rattle.serde_json.specs.Written.{compact_text}
 use Rattle.season_book.specs.Book.{EntryFacts, last_number}
 use Rattle.season_book.specs.Doing.{IsShown}
 use Rattle.season_book.specs.Verdict.{page_of, shown_or_unknown}
-use Rattle.season_book.specs.Windows.{window_data}
+use Rattle.season_book.specs.AllWindows.{window_data}
 use Rattle.season_entries.specs.Entries.{AreEntries}
 use Rattle.season_views.specs.Reads.{window_reads}
-use Rattle.season_views.specs.Seen.{OfEachSeen, SeenSeason}
+use Rattle.season_views.specs.Seen.{IsKept, OfEachSeen, SeenSeason}
+use Rattle.season_running.specs.Kept.{AreKeptBy}
 use Rattle.season_running.specs.Standing.{Plays, Running}
+use Rattle.season_running.proofs.KeptFacts.{kept_whole}
 use Rattle.season_running.proofs.HostFacts.{if_ok}
 use Rattle.season_running.proofs.running.RunningSeason.window.Goals as goal
 
@@ -36,7 +38,21 @@ returns-clause-seen g c = λ book plays is_last.
     (c.page_answer.ensures.shown due told (out book.entries here.entries))
 
 pub returns-clause-cost : goal.returns-clause-cost
-returns-clause-cost g c =
+returns-clause-cost g c = λ book plays.
+    let season = c.self.inside.season in
+    let running : Running = record { facts = season; managers = c.self.inside.managers.managers; leagues = c.self.inside.leagues; cups = c.self.inside.cups } in
+    let here : Plays running book = subst (λ r. Plays r book) (sym c.self.view_is) plays in
+    let cost = subst (λ (s : SeenSeason). OfEachSeen s (λ entries. c.window.new.steps ≤ c.args.steps.now + window_reads s.facts entries s.leagues s.cups c.args.asked)) c.of-seen.ensures c.window.ensures.cost in
     let facts = ap (λ (r : Running). r.facts) c.self.view_is in
-    let of : c.of-seen.result.facts ≡ c.args.self.now.facts = ap (λ (s : SeenSeason). s.facts) c.of-seen.ensures ∙ facts in
-    subst (λ f. c.window.new.steps ≤ c.args.steps.now + window_reads f c.args.asked) of c.window.ensures.cost
+    let leagues = sym here.leagues in
+    let cups = sym here.cups in
+    let same : window_reads season book.entries running.leagues running.cups c.args.asked ≡ window_reads c.args.self.now.facts book.entries book.leagues book.cups c.args.asked =
+    λ i. window_reads (facts i) book.entries (leagues i) (cups i) c.args.asked in
+    subst (λ n. c.window.new.steps ≤ c.args.steps.now + n) same (cost book.entries here.entries)
+
+pub window-requires : goal.window-requires
+window-requires g c =
+    let kept = kept_whole c.self.inside.season c.self.inside.managers c.self.inside.leagues c.self.inside.cups c.args.cells.now c.self.invariant.profile
+    (subst (λ (r : Running). AreKeptBy r c.args.cells.now) (sym c.self.view_is) c.requires) in
+    subst (λ (s : SeenSeason). IsKept s c.of-cells.result) (sym c.of-seen.ensures)
+    (subst (λ rows. IsKept (record { facts = c.self.inside.season; managers = c.self.inside.managers; leagues = c.self.inside.leagues; cups = c.self.inside.cups }) rows) (sym c.of-cells.ensures) kept)

@@ -1,0 +1,13 @@
+mod Counting
+mod Grosses
+mod HeldFacts
+mod Letters
+mod LinesHeld
+mod PicksHeld
+mod PlayersFound
+mod Quotients
+mod Retold
+mod Rows
+mod ScoreFacts
+mod TableFacts
+mod TotalFacts

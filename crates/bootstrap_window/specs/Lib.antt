@@ -1,0 +1,4 @@
+pub mod EventRows
+pub mod Parts
+pub mod Tables
+pub mod Told

@@ -1,0 +1,6 @@
+pub mod HoldingLemmas
+pub mod Keeping
+pub mod Settlings
+pub mod Squads
+pub mod Tables
+mod Worked

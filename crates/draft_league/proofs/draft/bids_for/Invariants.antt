@@ -1,0 +1,7 @@
+use Rattle.std.proofs.Common.{◌≡◌, eqb, take}
+use Rattle.std.specs.List.{filter}
+use Rattle.draft_league.specs.declared.kinds.Bid.{Bid}
+use Rattle.draft_league.proofs.draft.bids_for.Given as goal
+
+abbrev pub invariant-loop-bid : goal.invariant-loop-bid
+invariant-loop-bid l = l.found.items ≡ filter (λ (bid : Bid). eqb bid.gw l.g) (take l.bid-index l.bids)

@@ -1,0 +1,3 @@
+pub mod Elevens
+pub mod RowLemmas
+pub mod TotalLemmas

@@ -1,0 +1,13 @@
+mod ComersTold
+mod LockedShown
+mod MatchHeld
+mod MatchesWritten
+mod NetShown
+mod NoNumber
+mod RowsWritten
+mod SalesCounted
+mod SalesWritten
+mod SidesWritten
+mod TiesRead
+mod TransfersDue
+mod WindowShown

@@ -1,0 +1,12 @@
+pub mod Greatest
+pub mod HistoryFacts
+pub mod ListFacts
+pub mod MatchFacts
+pub mod MemberFacts
+pub mod PlaceFacts
+pub mod RowFacts
+pub mod ScoreFacts
+pub mod SomeFacts
+pub mod StatFacts
+pub mod SummaryFacts
+pub mod WrittenRows

@@ -1,0 +1,5 @@
+pub mod Appeared
+pub mod MatchRows
+pub mod RowParts
+pub mod Scores
+pub mod Sides

@@ -1,0 +1,16 @@
+mod Bench
+mod Better
+mod Compared
+mod Counted
+mod Due
+mod Ended
+mod HistoryShown
+mod LawFacts
+mod MultiplierFacts
+mod Own
+mod Places
+mod Players
+mod Ranges
+mod ReadsWithin
+mod Shown
+mod Through

@@ -1,0 +1,4 @@
+pub mod Courses
+pub mod EntryLaws
+pub mod Races
+pub mod Told

@@ -1,0 +1,10 @@
+pub mod Better
+pub mod BestOf
+pub mod Counts
+pub mod DreamIs
+pub mod Formations
+pub mod Legal
+pub mod Members
+pub mod PlayedRows
+pub mod ShownOnce
+pub mod Tops

@@ -1,0 +1,9 @@
+use Rattle.std.proofs.Common.{◌≡◌, rules, to_z, of_z, w32}
+use Rattle.json_members.proofs.AppendLemmas.{one, then}
+use Rattle.live_windows.proofs.team.write_top_row.Goals as goal
+
+pub returns : goal.returns
+returns c =
+    let whole : to_z w32 (of_z w32 c.args.row.now.2) ≡ c.args.row.now.2 = search rules in
+    rw (c.from.ensures, c.get.ensures.value, whole) at
+    (then (one c.in_ok-begin_object.ensures) (then c.in_ok-write_count.ensures (then c.in_ok-write_integer.ensures (one c.end_object.ensures))))

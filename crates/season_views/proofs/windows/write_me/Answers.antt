@@ -1,8 +1,0 @@
-use Rattle.json_members.proofs.AppendLemmas.{one, then}
-use Rattle.season_views.proofs.windows.write_me.Goals as goal
-
-pub returns : goal.returns
-returns c =
-    rw (c.own_number.ensures, c.number_of.ensures) at
-    (then (one c.in_ok-begin_object.ensures) (then c.in_ok-write_count_or_null.ensures (then c.in_ok-write_count.ensures
-    (then c.in_ok-write_text_or_null.ensures (then c.in_ok-write_count_or_null-2.ensures (one c.end_object.ensures))))))

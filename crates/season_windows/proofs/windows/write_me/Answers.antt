@@ -1,0 +1,8 @@
+use Rattle.json_members.proofs.AppendLemmas.{one, then}
+use Rattle.season_windows.proofs.windows.write_me.Goals as goal
+
+pub returns : goal.returns
+returns c =
+    rw (c.own_number.ensures, c.number_of.ensures) at
+    (then (one c.in_ok-begin_object.ensures) (then c.in_ok-write_count_or_null.ensures (then c.in_ok-write_count.ensures
+    (then c.in_ok-write_text_or_null.ensures (then c.in_ok-write_count_or_null-2.ensures (one c.end_object.ensures))))))

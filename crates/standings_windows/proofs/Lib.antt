@@ -1,0 +1,15 @@
+mod Added
+mod AverageFacts
+mod EntryNames
+mod MatchesBefore
+mod MemberPlaces
+mod OpeningFacts
+mod RanksBefore
+mod RowMembers
+mod ScoreParts
+mod Shown
+mod StandingFacts
+mod StandingsBefore
+mod TableMembers
+mod TotalsBefore
+mod Widths

@@ -1,0 +1,2 @@
+# 65,537 bytes, the first row of which is wrong
+print('pick\n' + 'pick,1\n' * 9361 + '\n' * 5, end='')
