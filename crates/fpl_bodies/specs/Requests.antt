@@ -212,6 +212,7 @@ view_of seen.WindowLeagues ids = view.Window window.Leagues
 view_of seen.WindowMyLeagues ids = view.Window window.MyLeagues
 view_of seen.WindowCups ids = view.Window window.Cups
 view_of seen.WindowSheet ids = view.Window (window.Sheet (slice_index ids 0))
+view_of seen.WindowEntry ids = view.Window (window.Entry (slice_index ids 0))
 view_of seen.WindowLive ids = view.Window (window.Live (slice_index ids 0))
 view_of seen.WindowHistory ids = view.Window (window.History (slice_index ids 0))
 view_of seen.WindowBootstrap ids = view.Window window.Bootstrap

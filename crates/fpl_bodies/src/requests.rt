@@ -58,6 +58,7 @@ fn view_of(view: ViewRoute, ids: [u32; 2]) -> View
         ViewRoute::WindowMyLeagues => View::Window(Window::MyLeagues),
         ViewRoute::WindowCups => View::Window(Window::Cups),
         ViewRoute::WindowSheet => View::Window(Window::Sheet { fixture: ids[0] }),
+        ViewRoute::WindowEntry => View::Window(Window::Entry { entry: ids[0] }),
         ViewRoute::WindowLive => View::Window(Window::Live { gameweek: ids[0] }),
         ViewRoute::WindowHistory => View::Window(Window::History { entry: ids[0] }),
         ViewRoute::WindowBootstrap => View::Window(Window::Bootstrap),

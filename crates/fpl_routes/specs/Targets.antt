@@ -61,6 +61,7 @@ served =
     ∷ (Get, codes "/api/my-leagues", Entry, View view.WindowMyLeagues)
     ∷ (Get, codes "/api/cups", Both, View view.WindowCups)
     ∷ (Get, codes "/api/fixtures/{f}/sheet", Both, View view.WindowSheet)
+    ∷ (Get, codes "/api/entry/{e}", Both, View view.WindowEntry)
     ∷ (Get, codes "/api/event/{g}/live", Both, View view.WindowLive)
     ∷ (Get, codes "/api/entry/{e}/history", Both, View view.WindowHistory)
     ∷ (Get, codes "/api/bootstrap-static", Both, View view.WindowBootstrap)

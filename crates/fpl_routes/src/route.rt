@@ -55,6 +55,7 @@ pub enum ViewRoute {
     WindowMyLeagues,
     WindowCups,
     WindowSheet,
+    WindowEntry,
     WindowLive,
     WindowHistory,
     WindowBootstrap,

@@ -14,9 +14,9 @@ use crate::CommandRoute::{
 use crate::ViewRoute::{
     ShowCup, ShowEntryGameweek, ShowFixture, ShowLeague, ShowMe, ShowPlayer, ShowPlayerGameweek,
     ShowSeason, WindowBootstrap, WindowClassicStandings, WindowCup, WindowCups, WindowDreamTeam,
-    WindowElement, WindowEntries, WindowFixtures, WindowHeadMatches, WindowHeadStandings,
-    WindowHistory, WindowLeagues, WindowLive, WindowMe, WindowMyLeagues, WindowPicks, WindowSheet,
-    WindowTransfers,
+    WindowElement, WindowEntries, WindowEntry, WindowFixtures, WindowHeadMatches,
+    WindowHeadStandings, WindowHistory, WindowLeagues, WindowLive, WindowMe, WindowMyLeagues,
+    WindowPicks, WindowSheet, WindowTransfers,
 };
 use crate::route::Method::{self, Get, Post};
 use crate::{Asks, Callers, Found, Route};
@@ -42,7 +42,7 @@ struct Place {
 }
 
 // Each route: its method, the pattern of its targets with a name in braces for each id, who may ask it, what it asks.
-static SERVED: [(Method, &str, Callers, Asks); 48] = [
+static SERVED: [(Method, &str, Callers, Asks); 49] = [
     (Post, "/season", Operator, Command(Season)),
     (Post, "/deadlines", Operator, Command(Deadlines)),
     (Post, "/players", Operator, Command(Players)),
@@ -89,6 +89,7 @@ static SERVED: [(Method, &str, Callers, Asks); 48] = [
     (Get, "/api/my-leagues", Entry, View(WindowMyLeagues)),
     (Get, "/api/cups", Both, View(WindowCups)),
     (Get, "/api/fixtures/{f}/sheet", Both, View(WindowSheet)),
+    (Get, "/api/entry/{e}", Both, View(WindowEntry)),
     (Get, "/api/event/{g}/live", Both, View(WindowLive)),
     (Get, "/api/entry/{e}/history", Both, View(WindowHistory)),
     (Get, "/api/bootstrap-static", Both, View(WindowBootstrap)),

@@ -2,15 +2,15 @@ mod Bench
 mod Better
 mod Compared
 mod Counted
-mod Due
+pub mod Due
 mod Ended
-mod HistoryShown
+pub mod HistoryShown
 mod LawFacts
 mod MultiplierFacts
-mod Own
-mod Places
+pub mod Own
+pub mod Places
 mod Players
 mod Ranges
 mod ReadsWithin
-mod Shown
+pub mod Shown
 mod Through

@@ -12,3 +12,6 @@ mod writing;
 pub use history::write_history;
 pub use laws::{multipliers_add_up, totals_add_up};
 pub use picks::write_picks;
+pub use ranks::race;
+pub use rows::played;
+pub use shapes::{Course, Played, Race};

@@ -10,6 +10,7 @@ use Rattle.season_book.specs.ClassicStandings.{classic_standings_window}
 use Rattle.season_book.specs.CupWindow.{cup_window}
 use Rattle.season_book.specs.DreamTeamWindow.{dream_team_window}
 use Rattle.season_book.specs.ElementSummary.{element_summary_window}
+use Rattle.season_book.specs.EntryWindow.{entry_window}
 use Rattle.season_book.specs.FixturesWindow.{fixtures_window}
 use Rattle.season_book.specs.HeadMatches.{head_matches_window}
 use Rattle.season_book.specs.HeadStandings.{head_standings_window}
@@ -34,6 +35,7 @@ window_data facts entries leagues cups caller last window.Fixtures = fixtures_wi
 window_data facts entries leagues cups caller last (window.Live g) = live_window facts g
 window_data facts entries leagues cups caller last (window.Element p) = element_summary_window facts p
 window_data facts entries leagues cups caller last (window.DreamTeam g) = dream_team_window facts g
+window_data facts entries leagues cups caller last (window.Entry e) = entry_window facts entries leagues e
 window_data facts entries leagues cups caller last (window.History e) = history_window facts entries e
 window_data facts entries leagues cups caller last (window.Picks e g) = picks_window facts entries e g
 window_data facts entries leagues cups caller last (window.Transfers e) = transfers_window facts entries e

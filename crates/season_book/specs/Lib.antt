@@ -15,6 +15,7 @@ pub mod EntryCommands
 pub mod EntryRows
 pub mod EntryTotals
 pub mod EntryViews
+pub mod EntryWindow
 pub mod Events
 pub mod Explained
 pub mod FixturesWindow

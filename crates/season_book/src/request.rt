@@ -49,6 +49,8 @@ pub enum Window {
     Element { player: u32 },
     /// The team of the week of a gameweek.
     DreamTeam { gameweek: u32 },
+    /// An entry: its points, its ranks and its leagues.
+    Entry { entry: u32 },
     /// The gameweeks of an entry.
     History { entry: u32 },
     /// The team of an entry in a locked gameweek.

@@ -5,6 +5,7 @@ pub mod CommandFacts
 pub mod CupWindowAlike
 pub mod EntriesFacts
 pub mod EntriesInAlike
+pub mod EntryWindowAlike
 pub mod EntryWindowsAlike
 pub mod HeadMatchesAlike
 pub mod LockFacts

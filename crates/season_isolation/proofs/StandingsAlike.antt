@@ -83,17 +83,17 @@ module _ (facts : Facts) (entries others : List EntryFacts) (a : EntriesAlike (S
       λ i. if nat_le 1 locked && begun i then (score i).gross else pos 0
 
   module _ (league : LeagueFacts) where
-    classic_row_alike : (g e : ℕ) → g ≤ locked → classic_row_through facts entries league g e ≡ classic_row_through facts others league g e
+    pub classic_row_alike : (g e : ℕ) → g ≤ locked → classic_row_through facts entries league g e ≡ classic_row_through facts others league g e
     classic_row_alike g e le =
         let total = totals_agree (net_in facts entries e) (net_in facts others e) league.start g (first_of entries e) (λ k low. net_alike e k (omega (arith, low, le)))
         ∙ ap (λ first. total_from (net_in facts others e) league.start first g) (first_alike e) in
         let transfers = transfers_alike g e le in
         λ i. (e, total i, transfers i)
 
-    classic_rows_alike : (g : ℕ) → g ≤ locked → classic_rows_through facts entries league g ≡ classic_rows_through facts others league g
+    pub classic_rows_alike : (g : ℕ) → g ≤ locked → classic_rows_through facts entries league g ≡ classic_rows_through facts others league g
     classic_rows_alike g le = λ i. map (λ e. classic_row_alike g e le i) league.members
 
-    classic_last_alike : (e : ℕ) → classic_last_rank facts entries league e ≡ classic_last_rank facts others league e
+    pub classic_last_alike : (e : ℕ) → classic_last_rank facts entries league e ≡ classic_last_rank facts others league e
     classic_last_alike e =
         let before : locked - 1 ≤ locked = omega arith in
         let rows = classic_rows_alike (locked - 1) before in
@@ -106,16 +106,16 @@ module _ (facts : Facts) (entries others : List EntryFacts) (a : EntriesAlike (S
         λ i. standings_told l league (array (items_of (map (λ row. classic_row_told (name_alike row.1.entry i) (points_alike row.1.entry i) (classic_last_alike row.1.entry i) row)
         (numbered (classic_table_of (rows i))))))
 
-    head_rows_alike : (g : ℕ) → g ≤ locked → head_rows_through facts entries league g ≡ head_rows_through facts others league g
+    pub head_rows_alike : (g : ℕ) → g ≤ locked → head_rows_through facts entries league g ≡ head_rows_through facts others league g
     head_rows_alike g le = (rows_agree (net_in facts entries) (net_in facts others) g league (λ e k low. net_alike e k (omega (arith, low, le)))).head
 
     -- a row is that of a league with one member
-    head_row_alike : (g e : ℕ) → g ≤ locked → head_row_through facts entries league g e ≡ head_row_through facts others league g e
+    pub head_row_alike : (g e : ℕ) → g ≤ locked → head_row_through facts entries league g e ≡ head_row_through facts others league g e
     head_row_alike g e le =
         let none : ℕ × HeadScore = head_row_through facts entries league g e in
         ap (λ rows. get_or rows 0 none) (rows_agree (net_in facts entries) (net_in facts others) g (record league { members = e ∷ [] }) (λ x k low. net_alike x k (omega (arith, low, le)))).head
 
-    head_last_alike : (e : ℕ) → head_last_rank facts entries league e ≡ head_last_rank facts others league e
+    pub head_last_alike : (e : ℕ) → head_last_rank facts entries league e ≡ head_last_rank facts others league e
     head_last_alike e =
         let before : locked - 1 ≤ locked = omega arith in
         let rows = head_rows_alike (locked - 1) before in

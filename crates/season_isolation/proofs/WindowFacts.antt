@@ -14,6 +14,7 @@ use Rattle.season_book.specs.declared.request.Window.TheVariants as window
 use Rattle.season_isolation.specs.Agree.{Alike, EntriesAlike}
 use Rattle.season_isolation.proofs.BootstrapAlike.{bootstrap_window_alike}
 use Rattle.season_isolation.proofs.CupWindowAlike.{cup_window_alike}
+use Rattle.season_isolation.proofs.EntryWindowAlike.{entry_alike}
 use Rattle.season_isolation.proofs.EntryWindowsAlike.{history_alike, picks_alike}
 use Rattle.season_isolation.proofs.HeadMatchesAlike.{head_matches_alike}
 use Rattle.season_isolation.proofs.StandingsAlike.{classic_standings_alike, head_standings_alike}
@@ -53,6 +54,7 @@ window_alike caller book other a facts there window.Bootstrap = ap Some (bootstr
 window_alike caller book other a facts there window.Fixtures = refl
 window_alike caller book other a facts there (window.Element p) = refl
 window_alike caller book other a facts there (window.DreamTeam g) = refl
+window_alike caller book other a facts there (window.Entry e) = entry_alike caller book other a facts there e
 window_alike caller book other a facts there (window.Picks e g) = picks_alike caller book other a facts there e g
 window_alike caller book other a facts there (window.Transfers e) = transfers_window_alike caller book other a facts there e
 window_alike caller book other a facts there (window.ClassicStandings l) = classic_standings_alike caller book other a facts there l

@@ -5,6 +5,7 @@ pub mod DreamTeamWindowReads
 pub mod ElementSummaryReads
 pub mod Entries
 pub mod EntryReads
+pub mod EntryWindowReads
 pub mod FixturesReads
 pub mod HeadMatchesReads
 pub mod Leagues

@@ -21,6 +21,7 @@ use Rattle.season_views.specs.CupWindowReads.{cup_window_reads}
 use Rattle.season_views.specs.DreamTeamWindowReads.{dream_team_reads}
 use Rattle.season_views.specs.ElementSummaryReads.{element_summary_reads}
 use Rattle.season_views.specs.EntryReads.{history_reads, picks_reads}
+use Rattle.season_views.specs.EntryWindowReads.{entry_window_reads}
 use Rattle.season_views.specs.FixturesReads.{fixtures_reads}
 use Rattle.season_views.specs.HeadMatchesReads.{head_matches_reads}
 use Rattle.season_views.specs.LiveWindowReads.{live_reads}
@@ -49,6 +50,7 @@ window_reads facts entries leagues cups window.Bootstrap = bootstrap_reads facts
 window_reads facts entries leagues cups window.Fixtures = fixtures_reads facts
 window_reads facts entries leagues cups (window.Element p) = element_summary_reads facts p
 window_reads facts entries leagues cups (window.DreamTeam g) = dream_team_reads facts
+window_reads facts entries leagues cups (window.Entry e) = entry_window_reads facts entries leagues e
 window_reads facts entries leagues cups (window.Picks e g) = picks_reads entries g
 window_reads facts entries leagues cups (window.Transfers e) = transfers_window_reads entries e
 window_reads facts entries leagues cups (window.ClassicStandings l) = classic_standings_reads leagues l

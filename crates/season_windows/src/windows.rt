@@ -22,6 +22,7 @@ ghost use Rattle.season_views.specs.Seen.{IsKept, OfEachSeen, ShowsEach, WritesE
 use bootstrap_window::write_bootstrap;
 use classic_leagues::League;
 use draw_windows::{write_cup_window, write_head_matches, write_transfers};
+use entry_windows::write_entry;
 use fixture_windows::{write_element_summary, write_fixtures};
 use fpl_base::{Caller, CupId, EntryId, Gw, LeagueId, Memory, Name, PlayerId, Steps};
 use history_windows::{write_history, write_picks};
@@ -118,6 +119,7 @@ fn write_window<L: Ledger>(
         Window::DreamTeam { gameweek } => write_dream_team(
             out, alloc, seen, cells, gameweek, steps,
         ),
+        Window::Entry { entry } => write_entry(out, alloc, seen, cells, entry, steps),
         Window::History { entry } => write_history(out, seen, cells, entry, steps),
         Window::Picks { entry, gameweek } => write_picks(out, seen, cells, entry, gameweek, steps),
         Window::Transfers { entry } => write_transfers(out, seen, entry, steps),

@@ -2,14 +2,14 @@ mod Added
 mod AverageFacts
 mod EntryNames
 mod MatchesBefore
-mod MemberPlaces
+pub mod MemberPlaces
 mod OpeningFacts
 mod RanksBefore
 mod RowMembers
 mod ScoreParts
-mod Shown
+pub mod Shown
 mod StandingFacts
-mod StandingsBefore
+pub mod StandingsBefore
 mod TableMembers
 mod TotalsBefore
 mod Widths

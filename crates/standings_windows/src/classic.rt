@@ -88,8 +88,8 @@ fn standings_before<L: Ledger>(
     Ok(standings)
 }
 
-// The last rank of each member, by the rows of now, in the order of the members.
-fn last_ranks<L: Ledger>(
+/// The last rank of each member, by the rows of now, in the order of the members.
+pub fn last_ranks<L: Ledger>(
     alloc: Global,
     seen: &Seen<L>,
     cells: &SeenCells<L>,

@@ -129,8 +129,8 @@ fn standing_before<L: Ledger>(
     }
 }
 
-// The last rank of each member, by the rows of now, in the order of the members.
-fn last_ranks<L: Ledger>(
+/// The last rank of each member, by the rows of now, in the order of the members.
+pub fn last_ranks<L: Ledger>(
     alloc: Global,
     seen: &Seen<L>,
     cells: &SeenCells<L>,

@@ -8,5 +8,9 @@ mod pages;
 mod places;
 mod scores;
 
-pub use classic::write_classic_standings;
-pub use head::write_head_standings;
+pub use classic::{last_ranks as classic_last_ranks, write_classic_standings};
+pub use head::{last_ranks as head_last_ranks, write_head_standings};
+pub use names::name_text;
+pub use pages::{bound_told, scoring_of};
+pub use places::rank_of;
+pub use scores::{last_gameweek, score};

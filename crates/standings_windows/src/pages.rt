@@ -15,7 +15,8 @@ use json_members::{
 use rule_book::LeagueKind;
 use std::alloc::AllocError;
 
-fn scoring_of(kind: LeagueKind) -> &'static str
+/// How a league is decided, as windows tell it.
+pub fn scoring_of(kind: LeagueKind) -> &'static str
     ensures { result.now ≡ scoring_of kind }
 {
     match kind {
@@ -24,7 +25,8 @@ fn scoring_of(kind: LeagueKind) -> &'static str
     }
 }
 
-fn bound_told(kind: LeagueKind) -> Option<u64>
+/// How many members a league of this kind is said to have at most; `None` where no bound is told.
+pub fn bound_told(kind: LeagueKind) -> Option<u64>
     ensures { result ≡ bound_told kind }
 {
     match kind {

@@ -3,8 +3,8 @@ ghost use Rattle.std.specs.Prelude.{◌≡◌, ◌<◌, ℕ, AllPairs, Contains,
 
 use fpl_base::EntryId;
 
-// The rank of a member, by the ranks of all members.
-pub(crate) fn rank_of(members: &[EntryId], ranks: &[u32], entry: EntryId) -> u32
+/// The rank of a member, by the ranks of all members.
+pub fn rank_of(members: &[EntryId], ranks: &[u32], entry: EntryId) -> u32
     requires rise { AllPairs (λ a b. a < b) members.now }
     requires member { Contains members.now entry }
     requires each { length ranks.now ≡ length members.now }

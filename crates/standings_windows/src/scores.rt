@@ -13,8 +13,8 @@ use season_ledger::rows_tell;
 use season_views::{Seen, SeenCells, score_held};
 use std::sync::ledger::Ledger;
 
-// The gameweek that was locked last; `None` where none is.
-pub(crate) fn last_gameweek<L: Ledger>(seen: &Seen<L>) -> Option<Gw>
+/// The gameweek that was locked last; `None` where none is.
+pub fn last_gameweek<L: Ledger>(seen: &Seen<L>) -> Option<Gw>
     ensures { result
         ≡ (if nat_le 1 seen.now.facts.calendar.locked then Some seen.now.facts.calendar.locked
         else None) }
@@ -37,8 +37,8 @@ pub(crate) fn last_behind<L: Ledger>(seen: &Seen<L>, start: Gw) -> Option<Gw>
     }
 }
 
-// What an entry's team scored in a locked gameweek; `None` before its first one. It is a counted read.
-pub(crate) fn score<L: Ledger>(
+/// What an entry's team scored in a locked gameweek; `None` before its first one. It is a counted read.
+pub fn score<L: Ledger>(
     seen: &Seen<L>,
     cells: &SeenCells<L>,
     entry: EntryId,

@@ -6,6 +6,7 @@ TARGETS = [
     "event/ID/live",
     "element-summary/ID",
     "dream-team/ID",
+    "entry/ID",
     "entry/ID/history",
     "entry/ID/event/ID/picks",
     "entry/ID/transfers",

@@ -72,6 +72,12 @@ returns-in-Cup-clause-value g c = rw c.in-Cup.is c.write_cup_window.ensures.valu
 pub returns-in-Cup-clause-cost : goal.returns-in-Cup-clause-cost
 returns-in-Cup-clause-cost g c = rw c.in-Cup.is c.write_cup_window.ensures.cost
 
+pub returns-in-Entry-clause-value : goal.returns-in-Entry-clause-value
+returns-in-Entry-clause-value g c = rw c.in-Entry.is c.write_entry.ensures.value
+
+pub returns-in-Entry-clause-cost : goal.returns-in-Entry-clause-cost
+returns-in-Entry-clause-cost g c = rw c.in-Entry.is c.write_entry.ensures.cost
+
 pub returns-in-History-clause-value : goal.returns-in-History-clause-value
 returns-in-History-clause-value g c = rw c.in-History.is c.write_history.ensures.value
 

@@ -1,0 +1,6 @@
+mod Appending
+mod EventRanks
+mod LeagueMembers
+mod Summaries
+mod Transfers
+mod WindowShown

@@ -1,0 +1,2 @@
+pub mod EntrySummary
+pub mod EntryTokens
