@@ -118,6 +118,7 @@ def asked(stream):
         (f"/api/event/{last}/live/", 8),
         (f"/api/element-summary/{stream.squads[entry][0]}/", None),
         (f"/api/dream-team/{last}/", None),
+        (f"/api/entry/{entry}/", None),
         (f"/api/entry/{entry}/history/", 20),
         (f"/api/entry/{entry}/event/{last}/picks/", None),
         (f"/api/entry/{entry}/transfers/", None),
