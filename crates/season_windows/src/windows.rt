@@ -217,12 +217,12 @@ fn write_entries<L: Ledger>(out: &mut Writer, seen: &Seen<L>) -> Result<(), Allo
     for place in 0..seen.entries() {
         let id = EntryId::new(place + 1).unwrap();
         let there = seen.entry(id);
-        write_entry(out, id, there.name, there.first)?;
+        write_listed_entry(out, id, there.name, there.first)?;
     }
     out.end_array()
 }
 
-fn write_entry(
+fn write_listed_entry(
     out: &mut Writer,
     entry: EntryId,
     name: &Name,

@@ -20,9 +20,9 @@ loop-place-preserved g c =
       tokens = λ entries are.
           let there = entry_numbered seen.facts.players seen.managers.managers entries place id are below number in
           let named = c.entry-there.ensures entries are there.0 there.2 in
-          let wrote = retold (λ i. tokens_of (entry_data id (named.0 i) (named.1 i))) c.in_ok-write_entry.ensures in
+          let wrote = retold (λ i. tokens_of (entry_data id (named.0 i) (named.1 i))) c.in_ok-write_listed_entry.ensures in
           numbered_more entry_row entries place id there.0 there.1 number wrote (c.loop-place.invariant.tokens entries are);
-      before = c.in_ok-write_entry.ensures.before ∙ c.loop-place.invariant.before;
+      before = c.in_ok-write_listed_entry.ensures.before ∙ c.loop-place.invariant.before;
     }
 
 pub returns : goal.returns

@@ -1,5 +1,5 @@
 use Rattle.json_members.proofs.AppendLemmas.{one, then}
-use Rattle.season_windows.proofs.windows.write_entry.Goals as goal
+use Rattle.season_windows.proofs.windows.write_listed_entry.Goals as goal
 
 pub returns : goal.returns
 returns c =
