@@ -17,12 +17,11 @@ ghost use Rattle.fpl_desk.specs.Looks.{Counted, CountsAs, CountsLooks, counted_a
 ghost use Rattle.fpl_replies.specs.Replying.{IsReplyUntil, Judges, asked_by, reply_of, unless_malformed};
 ghost use Rattle.fpl_replies.specs.Whole.{IsKeptReply};
 
+use fpl_answers::{answer_text, caller_text, key_text, malformed_text, method_text, unknown_text};
 use fpl_base::{Caller, Clock, Keeper, Key, Memory, Steps};
+use fpl_bodies::{ReadFault, Scratch, read_request};
 use fpl_http::{Message, Reply};
-use fpl_json::{
-    Found, ReadFault, Route, Routes, Scratch, answer_text, caller_text, key_text, malformed_text,
-    method_text, read_request, unknown_text,
-};
+use fpl_routes::{Found, Route, Routes};
 use fpl_session::Service;
 use season_book::{Answer, Request};
 use season_keeping::Host;
