@@ -62,7 +62,7 @@ module _ (K : Type 0) where
 
   -- ---- one after another
 
-  step : Counted K → Message → List ℕ → Counted K → Type 0
+  abbrev step : Counted K → Message → List ℕ → Counted K → Type 0
   step = Speaks CountsLooks
 
   none_on : (count : ℕ) (before after : DoorState) (old new : Counted K) → after.coming ≡ before.coming → after.given_back ≡ before.given_back → new ≡ old → CountOn count before after old new
