@@ -2,4 +2,4 @@ use Rattle.fpl_replies.proofs.FaultFacts.{faults_never_fall}
 use Rattle.fpl_replies.proofs.laws.faults_never_fall.Goals as goal
 
 pub returns : goal.returns
-returns = faults_never_fall
+returns c = faults_never_fall
