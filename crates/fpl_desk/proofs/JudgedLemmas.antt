@@ -1,5 +1,5 @@
 -- Replies to what the host judged.
-use Rattle.std.proofs.Common.{◌≡◌, ◌≢◌, ◌∙◌, ◌⊎◌, Bool, true, false, true≢false, ap, arith, sym, subst, ℕ, List, None, Result, Ok, Err, IfOk, inl, inr, refl}
+use Rattle.std.proofs.Common.{◌≡◌, ◌≢◌, ◌∙◌, ◌≤◌, ◌⊎◌, Bool, true, false, true≢false, ap, arith, sym, subst, ℕ, List, None, Result, Ok, Err, IfOk, inl, inr, refl}
 use Rattle.fpl_base.specs.Keeping.{Map}
 use Rattle.fpl_base.specs.declared.kinds.Caller.{Caller}
 use Rattle.fpl_base.specs.declared.memory.Memory.{Memory}
@@ -91,7 +91,7 @@ module _ (K : Type 0) (tells serves : K → Type 0) (holds passes : K → Map �
     (may_be_stale : new.host.stale ≡ true → (answered ≡ answer.Memory) ⊎ (answered ≡ answer.Keeper))
     (keeper : answered ≡ answer.Keeper → new.host.stale ≡ true)
     (changes : answered ≡ answer.Keeper → (book : Book) → StandsIn old.host.rows book → WouldChange old.host.rows.operator book caller now request)
-    (caused : IsCaused (record { before = old.failed; behind = new.failed }) answered)
+    (caused : IsCaused (record { before = old.failed; behind = new.failed }) answered) (later : old.failed ≤ new.failed)
     (stops : (book : Book) → StandsIn old.host.rows book → StopsLeave old.host.rows.operator tells holds passes old.keeper new.keeper old.host book caller now request)
     (written : IfOk r (λ reply. reply_seen reply ≡ reply_of answered)) where
   abbrev behind : Book → Book → Served
@@ -105,6 +105,7 @@ module _ (K : Type 0) (tells serves : K → Type 0) (holds passes : K → Map �
     told = told;
     judged = judged_by (record { operator = old.host.rows.operator; book = book }) (record { before = old.failed; behind = new.failed }) left caller now request answered r may
         (λ failed. changes failed book stands) written;
+    no_fewer = later;
     counted = counted_by (record { before = old.failed; behind = new.failed }) answered r caused written;
     operator = operator;
     stale = stale_behind new.host.stale book answered r may_be_stale keeper written;

@@ -1,5 +1,5 @@
--- How many reads are counted while nothing but views is asked, and no deadline passes.
-use Rattle.std.specs.Prelude.{◌≡◌, ◌⊎◌, ◌≤◌, ◌+◌, ℕ, List, [], ◌∷◌, Option, Ok, Err, false, sum, ⊤}
+-- How many reads are counted while nothing but views is asked, and no deadline passes by the moments that the clock told.
+use Rattle.std.specs.Prelude.{◌≡◌, ◌≤◌, ◌+◌, ℕ, List, [], ◌∷◌, Option, Ok, Err, false, sum, ⊤}
 use Rattle.std.specs.Io.KnownBytes.{Consumes}
 use Rattle.fpl_base.specs.Moments.{Moments, Tells}
 use Rattle.fpl_base.specs.declared.kinds.Caller.{Caller}
@@ -53,18 +53,15 @@ AreLooks host messages more = ⊥
 
 -- Moments.
 
--- the moment that the clock tells next locks no gameweek
-abbrev pub LocksNone : Book → Option Moments → Type 0
-LocksNone book moments = (now : ℕ) (left : Option Moments) → Tells moments now left → locks_more book.facts now ≡ false
+-- a clock told these moments, one after another
+abbrev pub TellsOn : Option Moments → List ℕ → Option Moments → Type 0
+TellsOn old [] new = new ≡ old
+TellsOn old (now ∷ told) new = (mid : Option Moments) × Tells old now mid × TellsOn mid told new
 
--- nor do those that it tells for these messages
-abbrev pub LockNone : Book → List Message → Option Moments → Type 0
-LockNone book [] moments = ⊤
-LockNone book (m ∷ messages) moments = (now : ℕ) (left : Option Moments) → Tells moments now left → (locks_more book.facts now ≡ false) × LockNone book messages left
-
--- one moment was told, or none
-abbrev pub TellsOneAtMost : Option Moments → Option Moments → Type 0
-TellsOneAtMost old new = (new ≡ old) ⊎ ((now : ℕ) × Tells old now new)
+-- none of them locks a gameweek
+abbrev pub LockNone : Book → List ℕ → Type 0
+LockNone book [] = ⊤
+LockNone book (now ∷ told) = (locks_more book.facts now ≡ false) × LockNone book told
 
 -- What is counted.
 
@@ -74,24 +71,28 @@ pub record LooksOn {K : Type 0} (old new : Counted K) (most : ℕ) : Type 0 wher
   pub keeper : new.kept.keeper ≡ old.kept.keeper
   pub reads : new.reads ≤ old.reads + most
 
--- what was found to be asked of a host that is ready, in each book that its rows stand for
+-- what was found to be asked of a host that is ready, in each book that its rows stand for, where no moment that was told for
+-- it locks a gameweek
 abbrev pub CountsAs : {K : Type 0} → Asking → Counted K → Counted K → Type 0
 CountsAs asking old new =
-    (book : Book) → StandsIn old.kept.host.rows book → (most : ℕ) → MayRead book asking most → LocksNone book old.kept.moments
-    → LooksOn old new most × TellsOneAtMost old.kept.moments new.kept.moments
+    (told : List ℕ) × TellsOn old.kept.moments told new.kept.moments
+    × ((book : Book) → StandsIn old.kept.host.rows book → (most : ℕ) → MayRead book asking most → LockNone book told → LooksOn old new most)
 
--- a message that comes to a host that is not stale, asks nothing but a view of it, and for which no gameweek is locked
+-- a message that comes to a host that is not stale and asks nothing but a view of it, where no moment that was told for it locks
+-- a gameweek
 abbrev pub CountsLooks : {K : Type 0} → Counted K → Message → Reply → Counted K → Type 0
 CountsLooks old message reply new =
-    old.kept.host.stale ≡ false → (book : Book) → StandsIn old.kept.host.rows book → (most : ℕ) → IsLook (host_with old book) message most → LocksNone book old.kept.moments
-    → LooksOn old new most × TellsOneAtMost old.kept.moments new.kept.moments
+    (told : List ℕ) × TellsOn old.kept.moments told new.kept.moments
+    × (old.kept.host.stale ≡ false → (book : Book) → StandsIn old.kept.host.rows book → (most : ℕ) → IsLook (host_with old book) message most → LockNone book told
+    → LooksOn old new most)
 
--- Where these messages ask nothing but views of a host that is not stale, and no gameweek is locked for them, the host and its
--- keeper stay, and no more reads are counted than these views allow in all.
+-- Where these messages ask nothing but views of a host that is not stale, and no moment that was told for them locks a gameweek,
+-- the host and its keeper stay, and no more reads are counted than these views allow in all.
 abbrev pub ReadFew : {K : Type 0} → List Message → Counted K → Counted K → Type 0
 ReadFew messages old new =
-    (book : Book) (more : List ℕ) → old.kept.host.stale ≡ false → StandsIn old.kept.host.rows book
-    → AreLooks (host_with old book) messages more → LockNone book messages old.kept.moments → LooksOn old new (sum more)
+    (told : List ℕ) × TellsOn old.kept.moments told new.kept.moments
+    × ((book : Book) (more : List ℕ) → old.kept.host.stale ≡ false → StandsIn old.kept.host.rows book
+    → AreLooks (host_with old book) messages more → LockNone book told → LooksOn old new (sum more))
 
 -- so it is of every run
 abbrev pub RunsReadFew : Type 0 → Type 0

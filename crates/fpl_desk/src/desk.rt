@@ -1,5 +1,5 @@
 // The host at its desk: what a message asks of it, and the reply.
-ghost use Rattle.std.specs.Prelude.{◌≡◌, ◌≢◌, ◌≤◌, Err, IfOk, IsTrue, MatchResult, Ok, OnErr, Some, false, ⊤};
+ghost use Rattle.std.specs.Prelude.{◌≡◌, ◌≢◌, ◌<◌, ◌≤◌, Err, IfOk, IsTrue, MatchResult, Ok, OnErr, Some, false, ⊤};
 ghost use Rattle.fpl_base.specs.declared.kinds.Caller.{Caller};
 ghost use Rattle.fpl_http.specs.Responses.{is_answer_status};
 ghost use Rattle.fpl_http.specs.Seen.{reply_seen, request_seen};
@@ -27,7 +27,8 @@ use season_book::{Answer, Request};
 use season_keeping::Host;
 use season_opening::OpenFault;
 use std::alloc::Global;
-use std::sync::ledger::Ledger;
+use std::marker::Brand;
+use std::sync::ledger::{Blank, Ledger};
 
 /// Where messages come to the host: the table of routes, which is built once for all of them.
 #[derive(Drop)]
@@ -58,12 +59,12 @@ impl Desk {
     }
 }
 
-/// A desk, and the host that was opened over a keeper. They take memory.
-pub fn opened<K: Keeper, L: Ledger>(
+/// A desk, and the host that was opened over a keeper. They take memory. What it reads to open the host is counted apart, so
+/// that a counter of reads tells those of messages alone.
+pub fn opened<K: Keeper>(
     alloc: Global,
     key: &Key,
     keeper: &mut K,
-    steps: &mut Steps<L>,
 ) -> Result<(Desk, HostWithScratch), OpenFault>
     ensures opened { MatchResult result
         (λ opened. Opens K.tells K.holds K.passes keeper.old keeper.new opened.1.host)
@@ -76,11 +77,36 @@ pub fn opened<K: Keeper, L: Ledger>(
     ensures told { K.tells keeper.new → K.tells keeper.old }
     ensures served { K.tells keeper.new → K.serves keeper.new → K.serves keeper.old }
 {
+    opened_apart::<K, Brand>(alloc, key, keeper, Blank::new(1))
+}
+
+// The same, with a counter that is made of this ledger.
+fn opened_apart<K: Keeper, L: Ledger>(
+    alloc: Global,
+    key: &Key,
+    keeper: &mut K,
+    blank: Blank,
+) -> Result<(Desk, HostWithScratch), OpenFault>
+    requires name { blank.name ≡ L.name }
+    requires parts { blank.parts ≡ L.parts }
+    requires some { 0 < blank.parts }
+    ensures opened { MatchResult result
+        (λ opened. Opens K.tells K.holds K.passes keeper.old keeper.new opened.1.host)
+        (Withholds K.tells K.holds K.passes K.faults keeper.old keeper.new) }
+    ensures holds { OnErr result (HoldsOn K.tells K.serves K.holds K.passes keeper.old keeper.new) }
+    ensures operator { IfOk result (λ opened. opened.1.host.rows.operator ≡ key.now) }
+    ensures reread { IfOk result (λ opened. opened.1.host.reread ≡ false) }
+    ensures counts { result ≢ Err fault.Keeper → K.faults keeper.new ≡ K.faults keeper.old }
+    ensures later { K.faults keeper.old ≤ K.faults keeper.new }
+    ensures told { K.tells keeper.new → K.tells keeper.old }
+    ensures served { K.tells keeper.new → K.serves keeper.new → K.serves keeper.old }
+{
+    let mut steps: Steps<L> = Steps::open(blank);
     let desk = match Desk::new(alloc) {
         Ok(desk) => desk,
         Err(Memory) => return Err(OpenFault::Memory),
     };
-    match Host::open(alloc, keeper, key, steps) {
+    match Host::open(alloc, keeper, key, &mut steps) {
         Ok(host) => Ok((
             desk,
             HostWithScratch {

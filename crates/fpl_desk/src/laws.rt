@@ -11,8 +11,9 @@ pub fn sessions_answer<T: Answering>()
     ensures { SessionsAnswer T.one }
 {}
 
-/// A law on the definitions: messages that ask nothing but views of a host that is not stale, and for which no gameweek is
-/// locked, leave the host and its keeper as they were, and no more reads are counted for them than these views allow in all.
+/// A law on the definitions: messages that ask nothing but views of a host that is not stale, where no moment that was told for
+/// them locks a gameweek, leave the host and its keeper as they were, and no more reads are counted for them than these views
+/// allow in all.
 pub fn looks_read_few<K: Keeper>()
     ensures { RunsReadFew K }
 {}

@@ -1,4 +1,5 @@
 -- Messages are replied to alike by hosts that are the same to whom they come from.
+use Rattle.std.proofs.Math.Nat.{le_refl}
 use Rattle.std.proofs.Common.{◌≡◌, ◌≢◌, ◌∙◌, ℕ, Bool, true, false, List, Option, Some, None, if◌then◌else◌, refl, sym, ap, subst, inl, inr}
 use Rattle.std.specs.Prelude.{Result, Ok, Err, codes}
 use Rattle.std.proofs.lemmas.Option.{none-some}
@@ -93,6 +94,7 @@ module _ (law : AnswersAreIsolated) (message : Request) (reply : Reply) (fits : 
                 same,
                 λ out. absurd (kept (status answer.Keeper out)),
               );
+              no_fewer = le_refl other.failed;
               counted = λ some room. refl;
               operator = refl;
               stale = inl (refl, kept);

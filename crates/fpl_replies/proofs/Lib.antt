@@ -1,3 +1,4 @@
+pub mod FaultFacts
 pub mod IsolationFacts
 pub mod OnceFacts
 pub mod StorelessFacts

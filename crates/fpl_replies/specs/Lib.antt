@@ -1,3 +1,4 @@
+pub mod Faults
 pub mod Isolation
 pub mod Once
 pub mod Replying

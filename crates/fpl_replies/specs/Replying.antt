@@ -151,12 +151,13 @@ abbrev pub IsStaleBehind : Book → Reply → Option Book → Type 0
 IsStaleBehind book reply stale =
     ((stale ≡ None) × (reply.0 ≢ 503)) ⊎ ((stale ≡ Some book) × ((reply.0 ≡ 503) ⊎ (reply.0 ≡ 507)))
 
--- one moment was told, the request was judged by it, and the operator's key stayed; and behind every reply but 503 and 507 the
--- keeper has failed as often as before
+-- one moment was told, the request was judged by it, and the operator's key stayed. Behind no reply has the keeper failed less
+-- often than before, and behind every one but 503 and 507 just as often
 pub record Judges (old : Served) (caller : Caller) (request : Asked) (reply : Reply) (new : Served) : Type 0 where
   pub now : ℕ
   pub told : Tells old.moments now new.moments
   pub judged : IsJudged old.host (failures_in old new) caller now request reply new.host.book
+  pub no_fewer : old.failed ≤ new.failed
   pub counted : reply.0 ≢ 503 → reply.0 ≢ 507 → new.failed ≡ old.failed
   pub operator : new.host.operator ≡ old.host.operator
   pub stale : IsStaleBehind old.host.book reply new.stale

@@ -1,3 +1,4 @@
+ghost use Rattle.fpl_replies.specs.Faults.{FaultsNeverFall};
 ghost use Rattle.fpl_replies.specs.Isolation.{MessagesAreIsolated};
 ghost use Rattle.fpl_replies.specs.Once.{MessagesActOnce, OneAsked};
 ghost use Rattle.fpl_replies.specs.Replying.{Served};
@@ -25,6 +26,12 @@ pub fn messages_act_once()
     // The law on which it stands, for the prover.
     commands_act_once();
 }
+
+/// A law on the definitions: in every run of messages the count of the keeper's faults never falls, behind a reply of want of
+/// memory as behind every other.
+pub fn faults_never_fall()
+    ensures { FaultsNeverFall }
+{}
 
 /// A law on the definitions: every reply to a message, but want of memory, a keeper that failed and a record of it that
 /// is not lawful, may be given by every host that is the same to whom the message comes from. So no reply hangs on what

@@ -6,5 +6,6 @@
 mod laws;
 
 pub use laws::{
-    Wholeness, messages_act_once, messages_are_isolated, messages_ask_one_thing, replies_are_whole,
+    Wholeness, faults_never_fall, messages_act_once, messages_are_isolated, messages_ask_one_thing,
+    replies_are_whole,
 };

@@ -60,7 +60,7 @@ score_out profile (Some bytes) taken = out_of_memory (IsScoreDue profile bytes) 
 -- there was no memory to read the words, and nothing was done
 pub no_memory : (K : Type 0) (tells serves : K → Type 0) (holds passes : K → Map → Type 0) (faults : K → ℕ) (said : Option Words) (old : Outside K)
     → RunsAs tells serves holds passes faults said old old 6
-no_memory K tells serves holds passes faults None old = ((out_of_memory IsNotReadDue old.taken, inr (inr refl)), refl, (refl, refl, refl, refl))
+no_memory K tells serves holds passes faults None old = ((out_of_memory IsNotReadDue old.taken, inr (inr refl)), refl, (refl, refl, refl, refl, refl))
 no_memory K tells serves holds passes faults (Some (order.Score profile)) old = (
   record {
     due = score_out profile old.left old.taken;
@@ -69,10 +69,10 @@ no_memory K tells serves holds passes faults (Some (order.Score profile)) old = 
     statuses = inr (inr (inr (inl refl)));
     memory = λ _. kept_none old.taken;
   },
-  (refl, refl, refl, refl),
+  (refl, refl, refl, refl, refl),
 )
-no_memory K tells serves holds passes faults (Some (order.Pipe key store)) old = (inr (refl, refl, (fault.Memory, refl, holds_still K tells serves holds passes old.keeper, (refl, refl))), refl, refl)
-no_memory K tells serves holds passes faults (Some (order.Serve key port clients count pages store)) old = (inr (refl, refl, (fault.Memory, refl, holds_still K tells serves holds passes old.keeper, (refl, refl))), refl, refl)
+no_memory K tells serves holds passes faults (Some (order.Pipe key store)) old = (inr (refl, refl, (fault.Memory, refl, holds_still K tells serves holds passes old.keeper, (refl, refl))), inr refl, refl, refl)
+no_memory K tells serves holds passes faults (Some (order.Serve key port clients count pages store)) old = (inr (refl, refl, (fault.Memory, refl, holds_still K tells serves holds passes old.keeper, (refl, refl))), inr refl, refl, refl)
 no_memory K tells serves holds passes faults (Some (order.Load key store folder split profile)) old = (inl (load_fault.Memory, tt, (refl, refl), refl, refl), refl, refl)
 no_memory K tells serves holds passes faults (Some (order.Report key store shown)) old = (inr (refl, (fault.Memory, refl, holds_still K tells serves holds passes old.keeper, (refl, refl))), refl, refl, refl)
 no_memory K tells serves holds passes faults (Some (order.Generate seed store)) old = (inr (refl, (fault.Memory, refl, holds_still K tells serves holds passes old.keeper, (refl, refl))), refl, refl, refl, refl)

@@ -12,6 +12,7 @@ use Rattle.score_sheet.specs.Sheets.{Scores, HasWrongRow}
 use Rattle.fpl_run.specs.Input.{TakesAtMost}
 use Rattle.fpl_serving.specs.Pipe.{Pipes}
 use Rattle.fpl_requests.specs.Requests.{Dreams, Generates, Loads, Reports}
+use Rattle.fpl_serving.specs.Reading.{PipeCounts, ServeCounts}
 use Rattle.fpl_serving.specs.Serve.{DoorState, Serves}
 use Rattle.fpl_run.specs.Drafts.{Drafted}
 use Rattle.fpl_run.specs.Events.{Recorded}
@@ -47,7 +48,7 @@ Ends Due status before after =
 -- What a run promises, by its words.
 
 -- what is outside of a run, before it or behind it, as far as it tells: what the input has left, the moments that the clock has
--- left, what the output took, the keeper, the doors, and the files of the shelf
+-- left, what the output took, the keeper, the doors, and the files of the shelf; and how many reads were counted
 pub record Outside (K : Type 0) : Type 0 where
   pub left : Option (List ℕ)
   pub moments : Option Moments
@@ -55,6 +56,7 @@ pub record Outside (K : Type 0) : Type 0 where
   pub keeper : K
   pub doors : DoorState
   pub files : Option (List ℕ → List ℕ)
+  pub reads : ℕ
 
 -- a run of `score`: it ended as is due for the bytes that the input had, read it to its end where the status is 0, never took
 -- more of it than 65,537 bytes, and wrote nothing where memory ran out
@@ -85,9 +87,9 @@ LeavesDoors old new = new.doors ≡ old.doors
 abbrev pub LeavesFiles : {K : Type 0} → Outside K → Outside K → Type 0
 LeavesFiles old new = new.files ≡ old.files
 
--- a run without a host is handed neither the keeper nor the clock
+-- a run without a host is handed neither the keeper nor the clock, and counts no read
 abbrev pub LeavesHost : {K : Type 0} → Outside K → Outside K → Type 0
-LeavesHost old new = (new.keeper ≡ old.keeper) × (new.moments ≡ old.moments) × LeavesDoors old new × LeavesFiles old new
+LeavesHost old new = (new.keeper ≡ old.keeper) × (new.moments ≡ old.moments) × (new.reads ≡ old.reads) × LeavesDoors old new × LeavesFiles old new
 
 -- a run by what the words order
 abbrev pub RunsAs : {K : Type 0} → (K → Type 0) → (K → Type 0) → (K → Map → Type 0) → (K → Map → Type 0) → (K → ℕ) → Option Words → Outside K → Outside K → ℕ → Type 0
@@ -95,9 +97,11 @@ RunsAs tells serves holds passes faults (Some (order.Score profile)) old new sta
     Scored profile old.left new.left old.taken new.taken status × LeavesHost old new
 RunsAs tells serves holds passes faults (Some (order.Pipe key store)) old new status =
     Pipes tells serves holds passes faults old.keeper new.keeper key old.left new.left old.moments new.moments old.taken new.taken status
+    × PipeCounts tells holds passes old.keeper new.keeper key old.left new.left old.moments new.moments old.reads new.reads
     × LeavesDoors old new × LeavesFiles old new
 RunsAs tells serves holds passes faults (Some (order.Serve key port clients connections pages store)) old new status =
     Serves tells serves holds passes faults old.keeper new.keeper key connections old.doors new.doors old.moments new.moments old.taken new.taken status
+    × ServeCounts tells holds passes old.keeper new.keeper key connections old.doors new.doors old.moments new.moments old.reads new.reads
     × LeavesInput old new × LeavesFiles old new
 RunsAs tells serves holds passes faults (Some (order.Load key store folder split profile)) old new status =
     Loads tells serves holds passes faults old.keeper new.keeper key old.files folder split profile old.moments new.moments old.taken new.taken status

@@ -47,6 +47,7 @@ pub fn run<S: Source, W: Sink, C: Clock, K: Keeper, D: Doors, F: Shelf, L: Ledge
           keeper = keeper.old;
           doors = doors_as (D.coming doors.old) (D.given_back doors.old) (D.faults doors.old);
           files = F.files shelf.old;
+          reads = steps.old;
         })
         (record {
           left = S.left input.new;
@@ -55,6 +56,7 @@ pub fn run<S: Source, W: Sink, C: Clock, K: Keeper, D: Doors, F: Shelf, L: Ledge
           keeper = keeper.new;
           doors = doors_as (D.coming doors.new) (D.given_back doors.new) (D.faults doors.new);
           files = F.files shelf.new;
+          reads = steps.new;
         }) result }
 
     // A fault is answered only where its count rose.

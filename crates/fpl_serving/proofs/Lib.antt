@@ -1,5 +1,6 @@
 pub mod CourseLemmas
 pub mod OnceLemmas
 pub mod PipeLemmas
+pub mod ReadingLemmas
 pub mod ServeLemmas
 pub mod WholeLemmas

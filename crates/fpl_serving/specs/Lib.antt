@@ -1,6 +1,7 @@
 pub mod Keeping
 pub mod Once
 pub mod Pipe
+pub mod Reading
 pub mod Serve
 pub mod Talk
 pub mod Whole

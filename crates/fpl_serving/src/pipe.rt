@@ -2,6 +2,7 @@
 ghost use Rattle.std.specs.Prelude.{◌≡◌};
 ghost use Rattle.fpl_base.specs.Causes.{Rose};
 ghost use Rattle.fpl_serving.specs.Pipe.{Pipes, status_of};
+ghost use Rattle.fpl_serving.specs.Reading.{PipeCounts};
 
 use crate::opening::unopened;
 use crate::talk::talk;
@@ -12,7 +13,8 @@ use fpl_session::{Buffers, Ending};
 use std::alloc::Global;
 use std::sync::ledger::Ledger;
 
-/// Runs one session for the operator with this key, and answers the exit status.
+/// Runs one session for the operator with this key, and answers the exit status. Reads are counted for messages; those by
+/// which the host is opened are counted apart.
 pub fn pipe<S: Source, W: Sink, C: Clock, K: Keeper, L: Ledger>(
     alloc: Global,
     key: &Key,
@@ -25,13 +27,16 @@ pub fn pipe<S: Source, W: Sink, C: Clock, K: Keeper, L: Ledger>(
     ensures session { Pipes K.tells K.serves K.holds K.passes K.faults keeper.old keeper.new key.now
         (S.left input.old) (S.left input.new) (C.left clock.old) (C.left clock.new)
         (W.taken output.old) (W.taken output.new) result }
+    ensures reads { PipeCounts K.tells K.holds K.passes keeper.old keeper.new key.now
+        (S.left input.old) (S.left input.new) (C.left clock.old) (C.left clock.new) steps.old
+        steps.new }
     ensures read { result ≡ 1 → Rose (S.faults input.old) (S.faults input.new) }
     ensures write { result ≡ 3 → Rose (W.faults output.old) (W.faults output.new) }
     ensures keeper { result ≡ 4 → Rose (K.faults keeper.old) (K.faults keeper.new) }
     ensures no_doors { result ≡ 8 → ⊥ }
     ensures no_shelf { result ≡ 9 → ⊥ }
 {
-    match opened(alloc, key, keeper, steps) {
+    match opened(alloc, key, keeper) {
         Ok((desk, mut host)) => ended(talk(
             alloc,
             &mut Buffers::new(),

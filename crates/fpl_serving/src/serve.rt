@@ -2,21 +2,24 @@
 ghost use Rattle.std.specs.Prelude.{◌≡◌, ◌≤◌, ◌<◌, ◌⊎◌, IfSome, MatchOption, None, OnErr, OnOk, length};
 ghost use Rattle.fpl_base.specs.Causes.{Rose};
 ghost use Rattle.fpl_desk.specs.Kept.{LeadsAll, kept_as};
+ghost use Rattle.fpl_desk.specs.Looks.{counted_as};
 ghost use Rattle.fpl_replies.specs.Replying.{IsReplyUntil};
 ghost use Rattle.fpl_replies.specs.Whole.{IsKeptReply};
+ghost use Rattle.fpl_serving.specs.Reading.{CountOn, CountOne, ServeCounts};
 ghost use Rattle.fpl_serving.specs.Serve.{IsAskedOnce, OneFewer, Serves, ServesOn, doors_as};
 
 use crate::opening::unopened;
 use crate::talk::talk;
 use fpl_asking::status::{DONE, DOORS, MEMORY};
 use fpl_base::{Clock, Doors, Failed, Keeper, Key, Sink, Steps};
-use fpl_desk::{Desk, HostWithScratch, opened};
+use fpl_desk::{Desk, HostWithScratch, ReadsFirst, looks_read_few, opened, sessions_answer};
 use fpl_session::{Buffers, Ending};
 use std::alloc::Global;
 use std::sync::ledger::Ledger;
 
 /// Serves so many connections for the operator with this key, and answers the exit status. The memory of a session is taken
-/// for the first of them, and used again by the others.
+/// for the first of them, and used again by the others. Reads are counted for messages; those by which the host is opened are
+/// counted apart.
 pub fn serve<W: Sink, C: Clock, K: Keeper, D: Doors, L: Ledger>(
     alloc: Global,
     key: &Key,
@@ -34,13 +37,19 @@ pub fn serve<W: Sink, C: Clock, K: Keeper, D: Doors, L: Ledger>(
         (doors_as (D.coming doors.old) (D.given_back doors.old) (D.faults doors.old))
         (doors_as (D.coming doors.new) (D.given_back doors.new) (D.faults doors.new))
         (C.left clock.old) (C.left clock.new) (W.taken output.old) (W.taken output.new) result }
+    ensures reads { ServeCounts K.tells K.holds K.passes keeper.old keeper.new key.now connections
+        (doors_as (D.coming doors.old) (D.given_back doors.old) (D.faults doors.old))
+        (doors_as (D.coming doors.new) (D.given_back doors.new) (D.faults doors.new))
+        (C.left clock.old) (C.left clock.new) steps.old steps.new }
     ensures statuses { (result ≡ 0) ⊎ (result ≡ 3) ⊎ (result ≡ 4) ⊎ (result ≡ 5) ⊎ (result ≡ 6)
         ⊎ (result ≡ 8) }
     ensures write { result ≡ 3 → Rose (W.faults output.old) (W.faults output.new) }
     ensures keeper { result ≡ 4 → Rose (K.faults keeper.old) (K.faults keeper.new) }
     ensures doors { result ≡ 8 → Rose (D.faults doors.old) (D.faults doors.new) }
 {
-    match opened(alloc, key, keeper, steps) {
+    // The law on what looks count, for the prover.
+    looks_read_few::<K>();
+    match opened(alloc, key, keeper) {
         Ok((desk, mut host)) => serve_all(
             alloc,
             &desk,
@@ -77,6 +86,13 @@ fn serve_all<C: Clock, K: Keeper, D: Doors, L: Ledger>(
         (ServesOn IsKeptReply connections
         (doors_as (D.coming doors.old) (D.given_back doors.old) (D.faults doors.old))
         (doors_as (D.coming doors.new) (D.given_back doors.new) (D.faults doors.new)) result) }
+    ensures counts { CountOn connections
+        (doors_as (D.coming doors.old) (D.given_back doors.old) (D.faults doors.old))
+        (doors_as (D.coming doors.new) (D.given_back doors.new) (D.faults doors.new))
+        (counted_as (kept_as host.old.host (C.left clock.old) (K.faults keeper.old) keeper.old)
+        steps.old)
+        (counted_as (kept_as host.new.host (C.left clock.new) (K.faults keeper.new) keeper.new)
+        steps.new) }
     ensures statuses { (result ≡ 0) ⊎ (result ≡ 6) ⊎ (result ≡ 8) }
     ensures doors { result ≡ 8 → Rose (D.faults doors.old) (D.faults doors.new) }
 {
@@ -115,10 +131,19 @@ fn serve_one<C: Clock, K: Keeper, D: Doors, L: Ledger>(
         (IsAskedOnce IsKeptReply
         (doors_as (D.coming doors.old) (D.given_back doors.old) (D.faults doors.old))
         (doors_as (D.coming doors.new) (D.given_back doors.new) (D.faults doors.new)) result) }
+    ensures counts { CountOne
+        (doors_as (D.coming doors.old) (D.given_back doors.old) (D.faults doors.old))
+        (doors_as (D.coming doors.new) (D.given_back doors.new) (D.faults doors.new)) result
+        (counted_as (kept_as host.old.host (C.left clock.old) (K.faults keeper.old) keeper.old)
+        steps.old)
+        (counted_as (kept_as host.new.host (C.left clock.new) (K.faults keeper.new) keeper.new)
+        steps.new) }
     ensures coming { OnOk result (OneFewer (D.coming doors.old) (D.coming doors.new)) }
     ensures kept { OnOk result (D.faults doors.new ≡ D.faults doors.old) }
     ensures cause { OnErr result (Rose (D.faults doors.old) (D.faults doors.new)) }
 {
+    // The law on which messages a session answers, for the prover.
+    sessions_answer::<ReadsFirst<K>>();
     let (mut source, mut sink) = doors.next()?;
     let ending = talk(
         alloc,

@@ -25,7 +25,7 @@ fn ran<S: Source, W: Sink, K: Keeper, L: Ledger>(
 {
     let mut steps: Steps<L> = Steps::open(blank);
     let mut clock = MemoryClock::new(Moment::new(0).unwrap(), &[]);
-    match opened(alloc, key, keeper, &mut steps) {
+    match opened(alloc, key, keeper) {
         Ok((desk, mut host)) => Ok(session(
             alloc,
             &mut Buffers::new(),

@@ -10,19 +10,19 @@ returns-in-Ok-Score-clause-runs g c =
     let one = c.in-Ok-Score in
     let said = subst (λ (w : Words). ordered c.args.words.now ≡ Some w) one.field-0-is one.ensures.ordered in
     runs_as _ g.K.Keeper.tells g.K.Keeper.serves g.K.Keeper.holds g.K.Keeper.passes g.K.Keeper.faults (ordered c.args.words.now) (order.Score one.profile) _ _ _ said
-    (record { due = c.score.ensures.score; end = c.score.ensures.end; taken = c.score.ensures.taken; statuses = c.score.ensures.statuses; memory = c.score.ensures.memory }, (refl, refl, refl, refl))
+    (record { due = c.score.ensures.score; end = c.score.ensures.end; taken = c.score.ensures.taken; statuses = c.score.ensures.statuses; memory = c.score.ensures.memory }, (refl, refl, refl, refl, refl))
 
 pub returns-in-Ok-Pipe-clause-runs : goal.returns-in-Ok-Pipe-clause-runs
 returns-in-Ok-Pipe-clause-runs g c =
     let one = c.in-Ok-Pipe in
     let said = subst (λ (w : Words). ordered c.args.words.now ≡ Some w) one.field-0-is one.ensures.ordered in
-    runs_as _ g.K.Keeper.tells g.K.Keeper.serves g.K.Keeper.holds g.K.Keeper.passes g.K.Keeper.faults (ordered c.args.words.now) (order.Pipe one.key one.field-0-1) _ _ _ said (c.pipe.ensures.session, refl, refl)
+    runs_as _ g.K.Keeper.tells g.K.Keeper.serves g.K.Keeper.holds g.K.Keeper.passes g.K.Keeper.faults (ordered c.args.words.now) (order.Pipe one.key one.field-0-1) _ _ _ said (c.pipe.ensures.session, c.pipe.ensures.reads, refl, refl)
 
 pub returns-in-Ok-Serve-clause-runs : goal.returns-in-Ok-Serve-clause-runs
 returns-in-Ok-Serve-clause-runs g c =
     let one = c.in-Ok-Serve in
     let said = subst (λ (w : Words). ordered c.args.words.now ≡ Some w) one.field-0-is one.ensures.ordered in
-    runs_as _ g.K.Keeper.tells g.K.Keeper.serves g.K.Keeper.holds g.K.Keeper.passes g.K.Keeper.faults (ordered c.args.words.now) (order.Serve one.key one.field-0-1 one.field-0-2 one.connections one.field-0-4 one.field-0-5) _ _ _ said (c.serve.ensures.served, refl, refl)
+    runs_as _ g.K.Keeper.tells g.K.Keeper.serves g.K.Keeper.holds g.K.Keeper.passes g.K.Keeper.faults (ordered c.args.words.now) (order.Serve one.key one.field-0-1 one.field-0-2 one.connections one.field-0-4 one.field-0-5) _ _ _ said (c.serve.ensures.served, c.serve.ensures.reads, refl, refl)
 
 pub returns-in-Ok-Load-clause-runs : goal.returns-in-Ok-Load-clause-runs
 returns-in-Ok-Load-clause-runs g c =
@@ -68,7 +68,7 @@ returns-in-Ok-Draft-clause-runs g c =
 pub returns-in-Err-Unread-clause-runs : goal.returns-in-Err-Unread-clause-runs
 returns-in-Err-Unread-clause-runs g c =
     runs_none _ g.K.Keeper.tells g.K.Keeper.serves g.K.Keeper.holds g.K.Keeper.passes g.K.Keeper.faults (ordered c.args.words.now) _ _ _ (c.in-Err-Unread.ensures.ordered c.in-Err-Unread.field-0-is)
-    ((not_read_ends _ _ _ _ (c.as_bytes.ensures.value) c.print.ensures.printed, unread_statuses _ c.print.ensures.statuses), refl, (refl, refl, refl, refl))
+    ((not_read_ends _ _ _ _ (c.as_bytes.ensures.value) c.print.ensures.printed, unread_statuses _ c.print.ensures.statuses), refl, (refl, refl, refl, refl, refl))
 
 pub returns-clause-runs : goal.returns-clause-runs
 returns-clause-runs g c = no_memory _ g.K.Keeper.tells g.K.Keeper.serves g.K.Keeper.holds g.K.Keeper.passes g.K.Keeper.faults (ordered c.args.words.now) _

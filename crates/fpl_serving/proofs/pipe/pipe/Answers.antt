@@ -1,10 +1,12 @@
-use Rattle.std.proofs.Common.{inl}
+use Rattle.std.proofs.Common.{inl, inr, refl}
 use Rattle.fpl_desk.specs.Kept.{Kept}
+use Rattle.fpl_desk.specs.Looks.{Counted}
 use Rattle.fpl_serving.specs.Pipe.{IsSession}
 use Rattle.fpl_replies.specs.Replying.{IsReplyUntil}
 use Rattle.fpl_replies.specs.Whole.{IsKeptReply}
 use Rattle.fpl_serving.proofs.CourseLemmas.{runs_of}
 use Rattle.fpl_serving.proofs.PipeLemmas.{unopened_pipes}
+use Rattle.fpl_serving.proofs.ReadingLemmas.{counts_from, few_from}
 use Rattle.fpl_serving.proofs.pipe.pipe.Goals as goal
 
 pub returns-in-Ok-clause-session : goal.returns-in-Ok-clause-session
@@ -30,3 +32,23 @@ pub returns-in-Err-clause-session : goal.returns-in-Err-clause-session
 returns-in-Err-clause-session g c =
     unopened_pipes _ g.K.Keeper.tells g.K.Keeper.serves g.K.Keeper.holds g.K.Keeper.passes g.K.Keeper.faults c.args.keeper.now c.opened.new.keeper c.args.key.now (g.S.Source.left c.args.input.now) (g.C.Clock.left c.args.clock.now)
     (g.W.Sink.taken c.args.output.now) (g.W.Sink.taken c.unopened.new.output) c.unopened.result c.in-Err.fault c.in-Err.ensures.opened c.in-Err.ensures.holds c.unopened.ensures.told
+
+pub returns-in-Ok-clause-reads : goal.returns-in-Ok-clause-reads
+returns-in-Ok-clause-reads g c =
+    let first : Counted _ = record {
+      kept = record { host = c.in-Ok.host.host; moments = g.C.Clock.left c.args.clock.now; failed = g.K.Keeper.faults c.opened.new.keeper; keeper = c.opened.new.keeper };
+      reads = c.args.steps.now;
+    } in
+    let last : Counted _ = record {
+      kept = record { host = c.talk.new.host.host; moments = g.C.Clock.left c.talk.new.clock; failed = g.K.Keeper.faults c.talk.new.keeper; keeper = c.talk.new.keeper };
+      reads = c.talk.new.steps;
+    } in
+    let told = c.talk.ensures.reads in
+    inl (
+    counts_from _ g.K.Keeper.tells g.K.Keeper.holds g.K.Keeper.passes c.args.keeper.now first last c.args.key.now _
+    c.in-Ok.ensures.opened c.in-Ok.ensures.operator c.talk.ensures.leads.told
+    (told.2.0, (told.0, told.1, told.2.1), few_from _ told.2.0 first last c.in-Ok.ensures.opened.fresh told.2.2)
+    )
+
+pub returns-in-Err-clause-reads : goal.returns-in-Err-clause-reads
+returns-in-Err-clause-reads g c = inr refl

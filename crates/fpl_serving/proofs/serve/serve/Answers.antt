@@ -1,9 +1,11 @@
 use Rattle.std.proofs.Common.{inl, inr, refl}
 use Rattle.fpl_desk.specs.Kept.{Kept}
+use Rattle.fpl_desk.specs.Looks.{Counted}
 use Rattle.fpl_serving.specs.Serve.{DoorState, ServesOn}
 use Rattle.fpl_replies.specs.Replying.{IsReplyUntil}
 use Rattle.fpl_replies.specs.Whole.{IsKeptReply}
 use Rattle.fpl_serving.proofs.CourseLemmas.{runs_of}
+use Rattle.fpl_serving.proofs.ReadingLemmas.{counts_from, heard_few}
 use Rattle.fpl_serving.proofs.serve.serve.Goals as goal
 
 pub returns-in-Ok-clause-served : goal.returns-in-Ok-clause-served
@@ -22,3 +24,25 @@ returns-in-Ok-clause-served g c =
 
 pub returns-in-Err-clause-served : goal.returns-in-Err-clause-served
 returns-in-Err-clause-served g c = inr (refl, refl, (c.in-Err.fault, c.in-Err.ensures.opened, c.in-Err.ensures.holds, c.unopened.ensures.told))
+
+pub returns-in-Ok-clause-reads : goal.returns-in-Ok-clause-reads
+returns-in-Ok-clause-reads g c =
+    let served = c.serve_all.new in
+    let before : DoorState = record { coming = g.D.Doors.coming c.args.doors.now; given_back = g.D.Doors.given_back c.args.doors.now; faults = g.D.Doors.faults c.args.doors.now } in
+    let after : DoorState = record { coming = g.D.Doors.coming served.doors; given_back = g.D.Doors.given_back served.doors; faults = g.D.Doors.faults served.doors } in
+    let first : Counted _ = record {
+      kept = record { host = c.in-Ok.host.host; moments = g.C.Clock.left c.args.clock.now; failed = g.K.Keeper.faults c.opened.new.keeper; keeper = c.opened.new.keeper };
+      reads = c.args.steps.now;
+    } in
+    let last : Counted _ = record {
+      kept = record { host = served.host.host; moments = g.C.Clock.left served.clock; failed = g.K.Keeper.faults served.keeper; keeper = served.keeper };
+      reads = served.steps;
+    } in
+    inl (
+    counts_from _ g.K.Keeper.tells g.K.Keeper.holds g.K.Keeper.passes c.args.keeper.now first last c.args.key.now _
+    c.in-Ok.ensures.opened c.in-Ok.ensures.operator c.serve_all.ensures.served.told
+    (heard_few _ c.looks_read_few.ensures c.args.connections before after first last c.in-Ok.ensures.opened.fresh c.serve_all.ensures.counts)
+    )
+
+pub returns-in-Err-clause-reads : goal.returns-in-Err-clause-reads
+returns-in-Err-clause-reads g c = inr refl
