@@ -13,8 +13,7 @@ NOW = deadline(4) - 2 * 86400 - 3 * 3600
 
 def look(stage, width, is_dark=False):
     stage.open(width)
-    stage.serve()
-    played_season(stage.served, 3)
+    stage.serve_played(3)
     theme = "dark" if is_dark else "light"
     for key, places in PLACES.items():
         page = stage.window(key, moment=NOW)
@@ -51,8 +50,7 @@ def small_dark(stage):
 def on_paper(stage):
     """A table is printed without what is around it."""
     stage.open()
-    stage.serve()
-    played_season(stage.served, 3)
+    stage.serve_played(3)
     page = stage.window(KEA, moment=NOW)
     page.go("league/1")
     page.media(media="print")
@@ -68,8 +66,7 @@ def pictures(stage):
     folder.mkdir(exist_ok=True)
     for width, place, name in ((360, "points", "points"), (1280, "team", "team")):
         stage.open(width)
-        stage.serve()
-        played_season(stage.served, 3)
+        stage.serve_played(3)
         page = stage.window(KEA, moment=NOW)
         page.sees("Gameweek 4", "#header")
         page.go(place)

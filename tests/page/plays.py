@@ -17,8 +17,7 @@ EMOJI = "\U0001f984" * 16
 def signing_in(stage):
     """A wrong key is told; a right one stays over a reload, until one signs out."""
     stage.open()
-    stage.serve()
-    played_season(stage.served, 1)
+    stage.serve_played(1)
     page = stage.window("nosuchkey1")
     page.sees("not known here", "#notice")
     page.sign_in("\u043a\u043b\u044e\u0447 1")
@@ -79,8 +78,7 @@ def first_squad(stage):
 def lineups(stage):
     """Two taps change two players where that is legal; captain and vice-captain; Save is one command; Undo is none."""
     stage.open(360)
-    stage.serve()
-    season = played_season(stage.served, 1)
+    season = stage.serve_played(1)
     page = stage.window(KEA)
     page.go("team")
     _, me = stage.served.ask("GET", "/me", KEA)
@@ -105,8 +103,7 @@ def lineups(stage):
 def transfers(stage):
     """What transfers cost is told before they are made; one command for all; a refusal keeps what was chosen."""
     stage.open(360)
-    stage.serve()
-    season = played_season(stage.served, 2)
+    season = stage.serve_played(2)
     page = stage.window(KEA)
     page.go("transfers")
     _, me = stage.served.ask("GET", "/me", KEA)
@@ -143,8 +140,7 @@ def transfers(stage):
 def chips(stage):
     """A chip is played, told, and taken back; a wildcard stays."""
     stage.open()
-    stage.serve()
-    played_season(stage.served, 1)
+    stage.serve_played(1)
     page = stage.window(KEA)
     page.go("team").tap("play-triple_captain").tap("yes")
     page.sees("Triple captain is played", "#notice")
@@ -158,8 +154,7 @@ def chips(stage):
 def leagues(stage):
     """Three managers in three windows: one makes a league, another joins by its code, a wrong code is told."""
     stage.open()
-    stage.serve()
-    played_season(stage.served, 1)
+    stage.serve_played(1)
     kea = stage.window(KEA)
     kea.go("leagues").unfold("make-a-league")
     kea.set("league-name", "Tea break").set("league-code", "oolong7").tap("make-league")
@@ -181,8 +176,7 @@ def leagues(stage):
 def points(stage):
     """A locked gameweek as the host tells it, with the lines of which a player's points are made; a row opens a team."""
     stage.open(360)
-    stage.serve()
-    season = played_season(stage.served, 3)
+    season = stage.serve_played(3)
     page = stage.window(KEA)
     _, picks = stage.served.ask("GET", "/api/entry/1/event/3/picks/", KEA)
     _, live = stage.served.ask("GET", "/api/event/3/live/", KEA)
@@ -213,8 +207,7 @@ def points(stage):
 def correction(stage):
     """A goal is corrected in three taps, two days later: table, points and explanation change in an open window."""
     stage.open()
-    stage.serve()
-    season = played_season(stage.served, 3)
+    season = stage.serve_played(3)
     stage.served.tell(deadline(3) + 3 * 86400)
     ask = lambda target: stage.served.ask("GET", target, OPERATOR)[1]
     held = {player for entry in range(1, 5) for player in counting(ask, entry)}
@@ -263,8 +256,7 @@ def goal_to_move(season, ask, held):
 def sheets(stage):
     """Figures of a match: ranges are checked as they are typed, rows are pasted, what changed is marked, one command."""
     stage.open()
-    stage.serve()
-    season = played_season(stage.served, 1)
+    season = stage.serve_played(1)
     page = stage.window(OPERATOR)
     page.go("sheet/10")
     _, before = stage.served.ask("GET", "/api/fixtures/10/sheet/", OPERATOR)
@@ -291,8 +283,7 @@ def sheets(stage):
 def evening(stage):
     """The operator's other pages: finished, a move, a deadline, a price, a key, draws."""
     stage.open(360)
-    stage.serve()
-    season = played_season(stage.served, 1)
+    season = stage.serve_played(1)
     ask = lambda target: stage.served.ask("GET", target, OPERATOR)[1]
     page = stage.window(OPERATOR)
     page.go("matches/1").tap("finish-10").sees("not finished any more", "#notice")
@@ -321,8 +312,7 @@ def evening(stage):
 def two_windows(stage):
     """Two windows of one manager: the slower one is told, keeps what was chosen, and saves it then."""
     stage.open()
-    stage.serve()
-    played_season(stage.served, 1)
+    stage.serve_played(1)
     _, me = stage.served.ask("GET", "/me", KEA)
     by_slot = [it["player"] for it in me["players"]]
     one = stage.window(KEA)
@@ -340,8 +330,7 @@ def two_windows(stage):
 def stopped_host(stage):
     """The host is stopped under an open page: a save waits, over a reload too, and is done once when it is back."""
     stage.open()
-    stage.serve()
-    played_season(stage.served, 1)
+    stage.serve_played(1)
     _, me = stage.served.ask("GET", "/me", KEA)
     page = stage.window(KEA)
     page.go("team").tap(f"player-{me['players'][5]['player']}").tap("captain")
@@ -363,8 +352,7 @@ def stopped_host(stage):
 def cut_network(stage):
     """The network is cut in mid-save: the answer is lost, the command is sent again and done once."""
     stage.open()
-    stage.serve()
-    played_season(stage.served, 1)
+    stage.serve_played(1)
     _, me = stage.served.ask("GET", "/me", KEA)
     page = stage.window(KEA)
     page.go("team").tap(f"player-{me['players'][5]['player']}").tap("captain")
@@ -383,8 +371,7 @@ def cut_network(stage):
 def passed_deadline(stage):
     """A deadline passes under an open page: Save is refused, the next gameweek is named, and what was chosen is kept."""
     stage.open(360)
-    stage.serve()
-    played_season(stage.served, 1)
+    stage.serve_played(1)
     stage.served.tell(deadline(2) - 10)
     _, me = stage.served.ask("GET", "/me", KEA)
     page = stage.window(KEA)
@@ -430,8 +417,7 @@ def names_that_are_markup(stage):
 def screen_reader(stage):
     """Each place has a main part, one heading that has and keeps the focus, and a name for whatever can be acted on."""
     stage.open()
-    stage.serve()
-    played_season(stage.served, 3)
+    stage.serve_played(3)
     acting = ("button", "link", "textbox", "searchbox", "combobox", "checkbox", "spinbutton", "DateTime", "dialog")
     for key, places in (
         (KEA, ("points", "team", "transfers", "fixtures", "players", "player/9", "leagues", "league/1", "league/2", "cup/1", "week", "entry/2/1")),
@@ -456,8 +442,7 @@ def keyboard(stage):
     from selenium.webdriver.common.keys import Keys
 
     stage.open()
-    stage.serve()
-    played_season(stage.served, 1)
+    stage.serve_played(1)
     _, me = stage.served.ask("GET", "/me", KEA)
     page = stage.window()
     active = lambda: page.driver.switch_to.active_element
