@@ -25,7 +25,7 @@ from host import Host
 from messages import response
 
 OPERATOR = "operator1"
-SECONDS = 30  # the program may take to answer
+SECONDS = 120  # the program may take to begin, to answer and to end, on a machine that is busy
 TYPES = {
     "html": "text/html; charset=utf-8",
     "js": "text/javascript; charset=utf-8",
@@ -201,7 +201,8 @@ class Program(Served):
         words = ["serve", "--key", OPERATOR, "--port", str(self.port), "--clients", "64", "--pages", self.pages, "--store", self.store]
         surroundings = os.environ | {"LD_PRELOAD": str(outside()[0]), "KOWHIRUPE_NOW": str(self.now)}
         self.process = subprocess.Popen([self.program, *words], stdin=subprocess.DEVNULL, env=surroundings)
-        for _ in range(SECONDS * 20):
+        end = time.monotonic() + SECONDS
+        while time.monotonic() < end:
             if self.process.poll() is not None:
                 raise RuntimeError(f"the program ended with status {self.process.returncode}")
             try:
