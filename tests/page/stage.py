@@ -9,6 +9,7 @@ from selenium.webdriver.common.by import By
 
 from seasons import Generated, played_season
 from served import Program, StandIn
+from wanted import Wrong, need
 
 SECONDS = 60  # the page may take, on a machine that is busy
 TELEPHONE = 500  # pixels, below which a window is a telephone's
@@ -16,15 +17,6 @@ ARGUMENTS = ("--headless=new", "--no-sandbox", "--disable-dev-shm-usage", "--lan
 EXPECTED = ("Failed to load resource", "net::ERR_")  # what Chromium says of answers that are refusals, and of a host that is gone
 # The page's clock stands at a moment that a play tells, and goes on from there.
 CLOCK = "{{ const gone = {0} - Date.now(); const now = Date.now.bind(Date); Date.now = () => now() + gone; }}"
-
-
-class Wrong(AssertionError):
-    """What a play saw that should not be."""
-
-
-def need(is_so, what):
-    if not is_so:
-        raise Wrong(what)
 
 
 class Stage:
@@ -91,6 +83,7 @@ class Stage:
             options.add_argument(argument)
         options.set_capability("goog:loggingPrefs", {"browser": "ALL"})
         self.driver = webdriver.Chrome(options=options, service=Service("/usr/bin/chromedriver"))
+        self.driver.set_script_timeout(SECONDS)
 
     def close(self):
         if self.driver:
