@@ -3,30 +3,37 @@
 import { button, mainButton, make, named, quiet } from "./elements.js";
 import { GOALS, OWN_GOALS, WINNING_GOAL } from "./figures.js";
 import { readAnew } from "./host.js";
+import { recall, remember } from "./kept.js";
 import { heading, table } from "./parts.js";
 import { counted, whole } from "./words.js";
 
 const MOST_TEAMS = 100; // whose gameweek is compared
 
-let chosen = {}; // from whom and to whom, of a fixture
+const DRAFT = "draft correction"; // from whom and to whom, of a fixture
+let chosen = {};
 let report = null; // what the last correction changed
 
 export async function drawCorrection(page, id) {
 	const season = await page.season();
 	const sheet = await page.read(`/api/fixtures/${id}/sheet/`);
 	const fixture = season.fixture(id);
-	chosen = chosen.fixture === id ? chosen : { fixture: id };
 	const view = { page, season, sheet, fixture };
+	const goals = goalsOf(view);
+	const kept = recall(DRAFT);
+	chosen = kept?.fixture === id && isAmong(goals, kept.from) ? kept : { fixture: id };
+	const takers = chosen.from ? takersOf(view) : [];
 	return [
 		heading("Correct a goal"),
 		quiet(named(season.fixtureName(id)), `, ${whole(fixture.team_h_score)} to ${whole(fixture.team_a_score)}. The score stays.`),
 		report?.fixture === id && reported(),
 		make("h2", { id: "from" }, "1. Whose goal is it not?"),
-		choices(view, "from", goalsOf(view)),
-		chosen.from && [make("h2", { id: "to" }, "2. Whose goal is it?"), choices(view, "to", takersOf(view))],
-		chosen.to && confirmation(view),
+		choices(view, "from", goals),
+		chosen.from && [make("h2", { id: "to" }, "2. Whose goal is it?"), choices(view, "to", takers)],
+		isAmong(takers, chosen.to) && confirmation(view),
 	];
 }
+
+const isAmong = (goals, one) => goals.some((it) => it.id === one?.id);
 
 /** A goal of a player, and the figure that counts it. */
 function goal({ season }, player, figure) {
@@ -48,7 +55,7 @@ function takersOf(view) {
 
 function choices({ page }, which, list) {
 	const choose = (it) => () => {
-		chosen = { ...chosen, to: null, [which]: it };
+		remember(DRAFT, { ...chosen, to: null, [which]: it });
 		report = null;
 		page.redraw();
 	};
@@ -96,17 +103,16 @@ async function corrected(view, busy) {
 	busy.disabled = true;
 	const before = await stateOf(view);
 	const members = { lines: movedLines(view), finished: sheet.finished };
-	if (await page.send(busy, `/fixtures/${fixture.id}/sheet`, members, { done: "The goal is corrected." })) {
+	if (await page.send(busy, `/fixtures/${fixture.id}/sheet`, members, { drafts: [DRAFT], done: "The goal is corrected." })) {
 		const behind = await stateOf(view);
 		const changed = [...behind].filter(([what, value]) => value !== before.get(what));
 		report = { fixture: fixture.id, rows: changed.map(([what, value]) => [what, before.get(what), value]) };
-		chosen = {};
 		await page.redraw();
 		document.getElementById("changed").focus();
 	}
 }
 
-// What a correction changed: the figures of players, of teams and of their places in leagues, by what they are
+// What a correction changed: figures of players, of teams and of their places in leagues, by what they are
 
 async function stateOf({ season, fixture, sheet }) {
 	const inMatch = sheet.lines.map((line) => line.player);

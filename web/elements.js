@@ -45,7 +45,7 @@ export const link = (address, ...text) => make("a", { href: `#/${address}` }, ..
 
 export const quiet = (...text) => make("p.quiet", ...text);
 
-export const icon = (name) => draw("svg", { "aria-hidden": "true" }, draw("use", { href: `icons.svg#${name}` }));
+export const icon = (name) => draw("svg", { viewBox: "0 0 24 24", "aria-hidden": "true" }, draw("use", { href: `icons.svg#${name}` }));
 
 /** A button that calls with itself. */
 export function button(id, text, call, { kind = "", ...properties } = {}) {

@@ -41,14 +41,13 @@ let say = () => {}; // is told whether a command waits for its answer
 
 function own(newKey) {
 	key = newKey;
-	last = null;
 	read.clear();
 	ownBy(key);
+	last = recall("last");
 }
 
 export const hasKey = () => key !== null;
 
-/** Takes the key that is kept. */
 export function signInAgain() {
 	own(sessionStorage.getItem(KEY) ?? localStorage.getItem(KEY));
 }
@@ -117,13 +116,17 @@ export const changes = () => changed;
 /** What is shown stands behind this command, and nothing was begun on what stood before it. */
 export function goOnFrom(number) {
 	if (!isSending && (last === null || number > last)) {
-		last = number;
+		know(number);
 	}
+}
+
+function know(number) {
+	last = number;
+	remember("last", number);
 }
 
 // Commands: one at a time, each kept until it is answered.
 
-/** Has a watcher told whether a command waits for its answer. */
 export function watch(watcher) {
 	say = watcher;
 }
@@ -139,8 +142,7 @@ export function isBusy() {
  */
 export function command(target, members, { drafts = [], gameweek = null } = {}) {
 	return alone(async () => {
-		last ??= (await readAnew("/api/me/")).last;
-		const number = last + 1;
+		const number = 1 + (last ?? (await readAnew("/api/me/")).last);
 		remember("command", { target, text: JSON.stringify({ number, ...members }), number, drafts, gameweek });
 		return deliver();
 	});
@@ -170,12 +172,12 @@ async function deliver() {
 		say(false);
 	}
 	if (answer.status === 200 || answer.status === 201) {
-		last = sent.number;
+		know(sent.number);
 		sent.drafts.forEach((name) => remember(name, null));
 		return answer.body;
 	}
 	if (answer.status === 409 && NUMBERED.includes(answer.body.rule)) {
-		last = answer.body.last;
+		know(answer.body.last);
 	}
 	throw new Refusal(answer.status, answer.body);
 }

@@ -1,7 +1,7 @@
-// Lineups by slot: 1 is the goalkeeper, 2 to 11 the other starters, 12 the goalkeeper on the bench, 13 to 15 the others on it.
+// Lineups by slot: 1 the goalkeeper, 2 to 11 the other starters, 12 the goalkeeper on the bench, 13 to 15 the others on it.
 // The host judges again; this says which players can be tapped.
 
-export const STARTERS = 11;
+const STARTERS = 11;
 const KEEPER = 1;
 const DEFENDER = 2;
 const FORWARD = 4;

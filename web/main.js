@@ -2,7 +2,7 @@
 
 import { button, confirmed, field, form, icon, input, make, named } from "./elements.js";
 import * as host from "./host.js";
-import { hasDrafts } from "./kept.js";
+import { hasDrafts, recall, remember } from "./kept.js";
 import { heading } from "./parts.js";
 import { isBeforeSeason, sentence } from "./say.js";
 import { seasonBy } from "./season.js";
@@ -48,12 +48,15 @@ const REFRESHED = 60; // seconds until what is looked at is read again
 const NOT_SAVED = "Not saved yet, trying again.";
 const part = (id) => document.getElementById(id);
 
-const typed = new Map(); // by their ids, fields of forms that were typed into and not sent
 let saidAt = 0; // when a notice was shown last
 let turn = 0; // of several that draw at once, the last one shows
 let open = null; // the address of the place that is in the page
 let shown = 0; // how often something was read anew when it was put there
 let deadline = null; // of the next gameweek, in seconds, with its name
+
+/** What was typed into forms of the open place and not sent, by the ids of the fields. */
+const typed = () => recall("typed")?.[open] ?? {};
+const keepTyped = (fields) => remember("typed", { [open]: fields });
 
 // Drawing a place
 
@@ -85,9 +88,7 @@ async function drawn(read) {
 	const { hash } = location;
 	const { name = null, ids } = placeNow();
 	const place = name ?? (isOperator ? "matches" : "points");
-	const team = isOperator ? "The team" : caller.name;
-	const page = { read, caller, isOperator, team, season: () => seasonBy(read), redraw };
-	page.send = (...command) => send(page, ...command);
+	const page = { read, caller, isOperator, send, season: () => seasonBy(read), redraw };
 	const header = await headerOf(page);
 	let nodes;
 	try {
@@ -106,7 +107,7 @@ function instead(fault) {
 	return [heading(fault.status === 404 ? "There is nothing here" : "Not yet"), make("p", sentence(fault))];
 }
 
-/** Shows the open place: as it is kept where it was opened just now, and then as the host tells it. */
+/** Shows the open place: first as it is kept, if it was opened just now, then as the host tells it. */
 async function show() {
 	const mine = ++turn;
 	if (open !== location.hash) {
@@ -140,7 +141,7 @@ async function showKept() {
 	}
 }
 
-/** Signs in again where the host doesn't know the key; waits where it can't answer. */
+/** Signs in again where the key isn't known; waits where the host can't answer. */
 async function endure(fault) {
 	if (fault.status === 401) {
 		host.signOut();
@@ -162,9 +163,12 @@ async function redraw() {
 	}
 }
 
-/** Puts what was drawn into the page; focus, what was typed, what is open and scrolled stay. */
+/** Puts what was drawn into the page; focus, what was typed, unfolded and scrolled stay. */
 function put({ hash, header, isOperator, here, nodes }) {
 	const isOpened = open !== hash;
+	if (isOpened && open !== null) {
+		keepTyped({});
+	}
 	open = hash;
 	const { id, selectionStart } = document.activeElement ?? {};
 	shown = host.changes();
@@ -176,13 +180,12 @@ function put({ hash, header, isOperator, here, nodes }) {
 	const title = part("main").querySelector("h1");
 	document.title = `${title.textContent} \u00b7 Kowhirupe`;
 	countDown();
+	Object.entries(typed()).forEach(([it, values]) => part(it) && Object.assign(part(it), values));
 	if (isOpened) {
-		typed.clear();
 		scrollTo(0, 0);
 		title.focus();
 		return;
 	}
-	typed.forEach(({ value, checked }, it) => part(it) && Object.assign(part(it), { value, checked }));
 	unfolded.forEach((it) => part(it)?.setAttribute("open", ""));
 	scrolled.forEach(([it, left]) => part(it)?.scrollTo(left, 0));
 	if (id) {
@@ -270,13 +273,13 @@ function say(kind, text) {
 // Commands
 
 /**
- * Sends a command for a button, which is busy meanwhile, says how it ended, and shows the place anew. `done` is said where it
- * is done, and `next` gives the place that is opened then; the others are those of `host.command`. Gives the answer's body, or null where it was refused.
+ * Sends a command for a button, which is busy meanwhile, says how it ended, and shows the place anew, or the one that `next`
+ * gives. `done` is what is said of it; the others are those of `host.command`. Gives the answer's body; null where it was refused.
  */
-async function send(page, busy, target, members, { done = "Saved.", next = null, ...others } = {}) {
+async function send(busy, target, members, { done = "Saved.", next = null, ...others } = {}) {
 	const from = location.hash;
 	if (host.isBusy()) {
-		say("bad", "Something else is being saved. Wait until it is.");
+		say("bad", "Wait until what was sent before is saved.");
 		return null;
 	}
 	busy.disabled = true;
@@ -284,10 +287,10 @@ async function send(page, busy, target, members, { done = "Saved.", next = null,
 	let body = null;
 	try {
 		body = await host.command(target, members, others);
-		typed.clear();
+		forget(busy);
 		say("done", done);
 	} catch (fault) {
-		say("bad", await inWords(fault, page));
+		say("bad", await inWords(fault));
 	}
 	busy.disabled = false;
 	if (body && next && location.hash === from) {
@@ -298,8 +301,13 @@ async function send(page, busy, target, members, { done = "Saved.", next = null,
 	return body;
 }
 
+/** Forgets what was typed into the form of a button. */
+function forget({ form }) {
+	keepTyped(Object.fromEntries(Object.entries(typed()).filter(([id]) => part(id)?.form !== form)));
+}
+
 /** Why a command was not done. */
-async function inWords(fault, page) {
+async function inWords(fault) {
 	if (fault instanceof host.TooLate) {
 		const next = fault.next === null ? "The season is over." : `Gameweek ${fault.next} is next: look at your team, and save again.`;
 		return `The deadline of gameweek ${fault.gameweek} has passed. ${next}`;
@@ -308,12 +316,13 @@ async function inWords(fault, page) {
 		return "The host gives no answer. Try again.";
 	}
 	if (fault instanceof host.Refusal) {
-		return sentence(fault, await page?.season().catch(() => null), page?.team);
+		const [season, me] = await Promise.all([seasonBy(host.readAnew), host.readAnew("/api/me/")]).catch(() => []);
+		return sentence(fault, season, me?.name ?? "The team");
 	}
 	throw fault;
 }
 
-/** Goes on with a command that was under way when the page was loaded again. */
+/** Goes on with a command that was under way before a reload. */
 async function resume() {
 	try {
 		if ((await host.resume()) === null) {
@@ -393,7 +402,11 @@ addEventListener("hashchange", () => {
 		show();
 	}
 });
-part("main").addEventListener("input", ({ target }) => target.closest(".form") && typed.set(target.id, target));
+part("main").addEventListener("input", ({ target: { id, value, checked, form } }) => {
+	if (form && host.hasKey()) {
+		keepTyped({ ...typed(), [id]: { value, checked } });
+	}
+});
 part("skip").addEventListener("click", () => part("main").querySelector("h1").focus());
 
 host.signInAgain();

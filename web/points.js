@@ -68,7 +68,7 @@ function pickButton(season, pick, player, gameweek, hasCome, hasGone) {
 }
 
 /** What a player's points of a gameweek are made of, line by line. */
-export function explain(season, { id, explain: lines, stats }, gameweek, times = "") {
+function explain(season, { id, explain: lines, stats }, gameweek, times = "") {
 	const { team, web_name: name } = season.player(id);
 	const row = (it) => [STATS[it.identifier], whole(it.value), whole(it.points)];
 	const tables = lines.map((line) => table(season.fixtureName(line.fixture), ["What", "Number#", "Points#"], line.stats.map(row)));

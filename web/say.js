@@ -5,9 +5,9 @@ import { FIGURES } from "./figures.js";
 import { money } from "./words.js";
 
 const REFUSALS = {
-	1: "The host is behind what this page knew. What stands is read anew: look, and save again.",
-	2: "This was changed on another device, or in another window. What stands is read anew: look, and save again.",
-	3: "This was changed on another device, or in another window. What stands is read anew: look, and save again.",
+	1: "The host is behind what this page knew. Look at what stands now, and save again.",
+	2: "This was changed on another device or in another window. Look at what stands now, and save again.",
+	3: "This was changed on another device or in another window. Look at what stands now, and save again.",
 	4: "There is no season yet. The operator loads it.",
 	5: "There is a season already.",
 	6: "The season is over: every gameweek is locked.",
@@ -37,8 +37,8 @@ const REFUSALS = {
 	30: "No chip is played in this gameweek.",
 	31: "{team} has its squad already.",
 	32: "{team} has no squad yet. Pick fifteen players first.",
-	33: "There are 2,048 teams, and that is the limit.",
-	34: "This league was drawn, and nobody can join any more.",
+	33: "A season has at most 2,048 teams.",
+	34: "This league is drawn: nobody can join any more.",
 	35: "That is not the code of this league.",
 	36: "{team} is in this league already.",
 	37: "A team is in at most 20 leagues, and a season has at most 512.",
@@ -49,11 +49,11 @@ const REFUSALS = {
 	42: "{player} has two lines in the sheet.",
 	43: "A match has at most 64 lines.",
 	44: "This key is in use already.",
-	45: "Gameweek {gameweek} has 20 matches, and that is the limit.",
-	46: "There are 1,200 players, and that is the limit.",
+	45: "Gameweek {gameweek} can have at most 20 matches.",
+	46: "A season has at most 1,200 players.",
 	47: "{fixture} is there already.",
-	48: "There are 380 matches, and that is the limit.",
-	49: "There are 32 cups, and that is the limit.",
+	48: "A season has at most 380 matches.",
+	49: "A season has at most 32 cups.",
 };
 
 const STATUSES = {

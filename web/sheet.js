@@ -132,7 +132,7 @@ class Sheet {
 		});
 	}
 
-	/** Rows and columns of a spreadsheet go into the cells from the one on which they are pasted. */
+	/** Rows and columns of a spreadsheet go into the cells from the one where they are pasted. */
 	pasted(event) {
 		const rows = event.clipboardData.getData("text").trimEnd().split("\n").map((row) => row.split("\t"));
 		if (rows.flat().length === 1) {

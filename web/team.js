@@ -91,7 +91,7 @@ function slotButton(view, id, slot) {
 	});
 }
 
-const positionIn = (season) => (player) => season.player(player).element_type;
+export const positionIn = (season) => (player) => season.player(player).element_type;
 
 function stateOf({ season, lineup }, id, slot) {
 	const from = lineup.players.indexOf(chosen) + 1;

@@ -5,11 +5,12 @@ import { button, choice, confirmed, field, mainButton, make, named, quiet } from
 import { recall, remember } from "./kept.js";
 import { usualOrder } from "./lineups.js";
 import { heading, pitch, playerButton, playerLink, shirt, shortly, strip } from "./parts.js";
-import { myTeam } from "./team.js";
-import { CHIPS, POSITIONS, counted, money, when, whole } from "./words.js";
+import { myTeam, positionIn } from "./team.js";
+import { CHIPS, POSITIONS, counted, money, when } from "./words.js";
 
 const SWAPS = "draft swaps"; // pairs of who goes, and who comes or null
 const SQUAD = "draft squad"; // the players of a first squad
+const MADE = "made"; // how many transfers of a gameweek were made in this window
 const PLACES = [0, 2, 5, 5, 3]; // of a squad, by position
 const BUDGET = 1000;
 const COST = 4; // points for each transfer beyond the free ones
@@ -23,7 +24,6 @@ export async function drawTransfers(page) {
 	return me === null ? firstSquad(page, season) : transfers(page, season, me);
 }
 
-const positionIn = (season) => (player) => season.player(player).element_type;
 const sum = (numbers) => numbers.reduce((total, number) => total + number, 0);
 
 /** The list of players, with a button for each who may come. */
@@ -79,7 +79,7 @@ async function transfers(page, season, me) {
 	];
 }
 
-/** How many were made in the gameweek, as far as can be told: by what they cost, or by who is new. */
+/** How many were made in the gameweek, as far as it is told: by what they cost, who is new, or what was made here. */
 async function madeSoFar(page, me) {
 	if (me.free === null || me.cost > 0) {
 		return me.free === null ? 0 : me.free + me.cost / COST;
@@ -88,7 +88,8 @@ async function madeSoFar(page, me) {
 	const hits = chips.filter((chip) => chip.name === "freehit").map((chip) => chip.event);
 	const before = current.findLast((row) => !hits.includes(row.event));
 	const { picks } = await page.read(`/api/entry/${me.entry}/event/${before.event}/picks/`);
-	return me.players.filter((it) => picks.every((pick) => pick.element !== it.player)).length;
+	const isNew = (it) => picks.every((pick) => pick.element !== it.player);
+	return Math.max(me.players.filter(isNew).length, recall(MADE)?.[me.gameweek] ?? 0);
 }
 
 function costOf({ me, made, swaps }) {
@@ -136,7 +137,7 @@ function confirmation(view) {
 }
 
 async function agreed(view, busy) {
-	const { page, season, me, swaps, sells, bank } = view;
+	const { page, season, me, swaps, sells, bank, made } = view;
 	const cost = costOf(view);
 	const line = (swap) =>
 		make("li", named(season.playerName(swap.out)), ` ${money(sells.get(swap.out))} \u2192 `, named(season.playerName(swap.in)), ` ${money(season.player(swap.in).now_cost)}`);
@@ -146,8 +147,10 @@ async function agreed(view, busy) {
 		make("ul", swaps.map(line)),
 		make("p", `The bank is ${money(bank)} afterwards. They cost ${counted(cost, "point")}.`),
 	);
-	if (isSure) {
-		await page.send(busy, "/transfers", { swaps }, { gameweek: me.gameweek, drafts: [SWAPS], done: "The transfers are made." });
+	const telling = { gameweek: me.gameweek, drafts: [SWAPS], done: "The transfers are made." };
+	if (isSure && (await page.send(busy, "/transfers", { swaps }, telling))) {
+		remember(MADE, { [me.gameweek]: made + swaps.length });
+		page.redraw();
 	}
 }
 

@@ -3,22 +3,23 @@ import socket
 import time
 
 from looks import LOOKS, pictures
-from seasons import GAMEWEEKS, Caller, Small, deadline, played_season
+from seasons import GAMEWEEKS, Caller, Small, deadline
 from served import OPERATOR
-from stage import need
+from stories import STORIES, choose
+from wanted import need
 from written import WRITTEN
 
 KEA, TUI, WEKA = "kea123456", "tui123456", "weka12345"
 MARKUP = "<img src=x onerror=alert(1)>"
 ARABIC = "\u0646\u0627\u062f\u064a \u0643\u0631\u0629 \u0627\u0644\u0642\u062f\u0645 \u0641\u064a \u0627\u0644\u0645\u0643\u062a\u0628"
+FRAME = 1000 / 60  # milliseconds
 EMOJI = "\U0001f984" * 16
 
 
 def signing_in(stage):
     """A wrong key is told; a right one stays over a reload, until one signs out."""
     stage.open()
-    stage.serve()
-    played_season(stage.served, 1)
+    stage.serve_played(1)
     page = stage.window("nosuchkey1")
     page.sees("not known here", "#notice")
     page.sign_in("\u043a\u043b\u044e\u0447 1")
@@ -39,13 +40,6 @@ def before_a_season(stage):
     stage.serve()
     stage.served.tell(deadline(1) - 86400)
     stage.window(OPERATOR).sees("There is no season yet")
-
-
-def choose(page, season, players):
-    """Picks these players from the list, each found by his name."""
-    for player in players:
-        page.set("squad-search", season.names[player]).tap(f"buy-{player}")
-        page.find(f"#player-{player}")
 
 
 def first_squad(stage):
@@ -79,8 +73,7 @@ def first_squad(stage):
 def lineups(stage):
     """Two taps change two players where that is legal; captain and vice-captain; Save is one command; Undo is none."""
     stage.open(360)
-    stage.serve()
-    season = played_season(stage.served, 1)
+    stage.serve_played(1)
     page = stage.window(KEA)
     page.go("team")
     _, me = stage.served.ask("GET", "/me", KEA)
@@ -105,8 +98,7 @@ def lineups(stage):
 def transfers(stage):
     """What transfers cost is told before they are made; one command for all; a refusal keeps what was chosen."""
     stage.open(360)
-    stage.serve()
-    season = played_season(stage.served, 2)
+    season = stage.serve_played(2)
     page = stage.window(KEA)
     page.go("transfers")
     _, me = stage.served.ask("GET", "/me", KEA)
@@ -140,11 +132,29 @@ def transfers(stage):
     page.find(f"#player-{into}")
 
 
+def transfers_in_turn(stage):
+    """A place that is changed twice counts twice: what the next transfer costs is told before it is made."""
+    stage.open(360)
+    season = stage.serve_played(2)
+    page = stage.window(KEA)
+    page.go("transfers")
+    _, me = stage.served.ask("GET", "/me", KEA)
+    need(me["free"] == 2 and me["cost"] == 0, f"another beginning: {me}")
+    out, other = (it["player"] for it in me["players"][1:3])
+    held = [it["player"] for it in me["players"]]
+    fits = lambda it: season.positions[it] == "D" and it not in held and season.prices[it] <= season.prices[out]
+    far = [it for it in season.positions if fits(it) and all(season.clubs[it] != season.clubs[held_one] for held_one in held)]
+    first, second, third = (far or list(filter(fits, season.positions)))[:3]
+    for goes, comes, button in ((out, first, "Make them"), (first, second, "Make them"), (other, third, "Make them for 4 points")):
+        page.tap(f"player-{goes}").tap(f"buy-{comes}").tap("confirm")
+        page.until(lambda: page.text("#yes") == button, f"{button}, and not {page.text('#yes')}")
+        page.tap("no" if button.endswith("points") else "yes").settled()
+
+
 def chips(stage):
     """A chip is played, told, and taken back; a wildcard stays."""
     stage.open()
-    stage.serve()
-    played_season(stage.served, 1)
+    stage.serve_played(1)
     page = stage.window(KEA)
     page.go("team").tap("play-triple_captain").tap("yes")
     page.sees("Triple captain is played", "#notice")
@@ -158,8 +168,7 @@ def chips(stage):
 def leagues(stage):
     """Three managers in three windows: one makes a league, another joins by its code, a wrong code is told."""
     stage.open()
-    stage.serve()
-    played_season(stage.served, 1)
+    stage.serve_played(1)
     kea = stage.window(KEA)
     kea.go("leagues").unfold("make-a-league")
     kea.set("league-name", "Tea break").set("league-code", "oolong7").tap("make-league")
@@ -181,8 +190,7 @@ def leagues(stage):
 def points(stage):
     """A locked gameweek as the host tells it, with the lines of which a player's points are made; a row opens a team."""
     stage.open(360)
-    stage.serve()
-    season = played_season(stage.served, 3)
+    season = stage.serve_played(3)
     page = stage.window(KEA)
     _, picks = stage.served.ask("GET", "/api/entry/1/event/3/picks/", KEA)
     _, live = stage.served.ask("GET", "/api/event/3/live/", KEA)
@@ -205,16 +213,26 @@ def points(stage):
     rows = page.driver.execute_script("return [...document.querySelectorAll('dialog tbody tr')].map((row) => Number(row.lastChild.textContent.replace('\u2212', '-')))")
     need(sum(rows) == told[best]["stats"]["total_points"], f"the lines give {rows}")
     page.picture("360-explained", 740)
-    page.tap("no").go("league/1")
+    page.tap("no")
+    page.until(lambda: page.driver.switch_to.active_element.get_attribute("id") == f"player-{best}", "the focus where it was")
+    page.driver.execute_script("document.querySelector('h1').isMarked = true")
+    page.refresh()
+    need(page.driver.execute_script("return document.querySelector('h1').isMarked"), "what did not change was drawn again")
+    page.go("league/1")
     page.find("tbody a").click()
     page.sees("Gameweek 3")
+    page.go("entry/2/2").sees("Bench boost was played")
+    _, boosted = stage.served.ask("GET", "/api/entry/2/event/2/picks/", KEA)
+    need(all(pick["multiplier"] for pick in boosted["picks"]), "not all count under a bench boost")
+    need(str(boosted["entry_history"]["points"]) in page.text(".strip").split("\n"), "other points under a bench boost")
+    page.go("entry/1/3").sees("Triple captain was played").sees("\u00d73", ".pitch")
+    page.go("league/2/3").sees("AVERAGE")
 
 
 def correction(stage):
     """A goal is corrected in three taps, two days later: table, points and explanation change in an open window."""
     stage.open()
-    stage.serve()
-    season = played_season(stage.served, 3)
+    season = stage.serve_played(3)
     stage.served.tell(deadline(3) + 3 * 86400)
     ask = lambda target: stage.served.ask("GET", target, OPERATOR)[1]
     held = {player for entry in range(1, 5) for player in counting(ask, entry)}
@@ -229,7 +247,7 @@ def correction(stage):
     operator = stage.window(OPERATOR, is_new=True)
     operator.go("matches/3")
     operator.go(f"correct/{fixture}")
-    operator.tap(f"from-{scorer}-1").tap(f"to-{taker}-1").tap("correct")
+    operator.tap(f"from-{scorer}-1").reload().tap(f"to-{taker}-1").tap("correct")
     operator.sees("What it changed")
     operator.sees(f"{season.names[scorer]}: points")
     operator.picture("1280-corrected")
@@ -263,8 +281,7 @@ def goal_to_move(season, ask, held):
 def sheets(stage):
     """Figures of a match: ranges are checked as they are typed, rows are pasted, what changed is marked, one command."""
     stage.open()
-    stage.serve()
-    season = played_season(stage.served, 1)
+    stage.serve_played(1)
     page = stage.window(OPERATOR)
     page.go("sheet/10")
     _, before = stage.served.ask("GET", "/api/fixtures/10/sheet/", OPERATOR)
@@ -291,22 +308,24 @@ def sheets(stage):
 def evening(stage):
     """The operator's other pages: finished, a move, a deadline, a price, a key, draws."""
     stage.open(360)
-    stage.serve()
-    season = played_season(stage.served, 1)
+    stage.serve_played(1)
     ask = lambda target: stage.served.ask("GET", target, OPERATOR)[1]
     page = stage.window(OPERATOR)
     page.go("matches/1").tap("finish-10").sees("not finished any more", "#notice")
     need(not ask("/fixtures/10")["finished"], "still finished")
     page.go("move/20").set("gameweek", "").tap("move").sees("moved", "#notice")
     need(ask("/fixtures/20")["gameweek"] is None, "still there")
-    page.go("season").set("deadline-3", time.strftime("%Y-%m-%dT%H:%M:%S", time.localtime(deadline(3) - 600))).tap("set-deadline-3")
+    written = lambda moment: time.strftime("%Y-%m-%dT%H:%M:%S", time.localtime(moment))
+    page.go("season").set("deadline-3", written(deadline(3) - 600)).set("deadline-5", written(deadline(5) - 60)).tap("set-deadline-3")
     page.sees("deadline of gameweek 3 is set", "#notice")
-    need(ask("/season")["deadlines"][2] == deadline(3) - 600, "another deadline")
+    need(ask("/season")["deadlines"][2:5] == [deadline(3) - 600, deadline(4), deadline(5)], "other deadlines")
+    page.reload().tap("set-deadline-5").sees("deadline of gameweek 5 is set", "#notice")
+    need(ask("/season")["deadlines"][4] == deadline(5) - 60, "what was typed was lost")
     page.go("player/7").type("price", "9.9").tap("set-price").sees("Saved", "#notice")
     need(ask("/players/7")["price"] == 99, "another price")
     page.set("club", 5).tap("set-club")
     page.until(lambda: ask("/players/7")["club"] == 5, "another club")
-    page.go("keys").type("team-name", "Ruru Two").tap("make-key").sees("The key is made", "#notice")
+    page.go("keys").type("team-name", "Ruru Two").reload().tap("make-key").sees("The key is made", "#notice")
     key = page.text(".key")
     need(len(key) == 16 and stage.served.ask("GET", "/api/me/", key)[1]["name"] == "Ruru Two", f"no key {key}")
     page.picture("360-key")
@@ -319,10 +338,9 @@ def evening(stage):
 
 
 def two_windows(stage):
-    """Two windows of one manager: the slower one is told, keeps what was chosen, and saves it then."""
+    """Two windows of one manager: the slower one is told, over a reload too, keeps what was chosen, and saves it then."""
     stage.open()
-    stage.serve()
-    played_season(stage.served, 1)
+    stage.serve_played(1)
     _, me = stage.served.ask("GET", "/me", KEA)
     by_slot = [it["player"] for it in me["players"]]
     one = stage.window(KEA)
@@ -330,9 +348,8 @@ def two_windows(stage):
     other = stage.window(is_new=True)
     other.sees("Kea Kickers", "#header")
     other.go("team").tap(f"player-{by_slot[6]}").tap("captain").tap("save").sees("saved", "#notice")
-    one.here().tap("save").sees("changed on another device", "#notice")
-    one.sees("Not saved yet").__class__
-    one.tap("save").sees("Your team is saved", "#notice")
+    one.here().reload().tap("save").sees("changed on another device", "#notice")
+    one.sees("Not saved yet").tap("save").sees("Your team is saved", "#notice")
     _, now = stage.served.ask("GET", "/me", KEA)
     need(now["captain"] == by_slot[5] and now["last"] == me["last"] + 2, f"another captain {now}")
 
@@ -340,8 +357,7 @@ def two_windows(stage):
 def stopped_host(stage):
     """The host is stopped under an open page: a save waits, over a reload too, and is done once when it is back."""
     stage.open()
-    stage.serve()
-    played_season(stage.served, 1)
+    stage.serve_played(1)
     _, me = stage.served.ask("GET", "/me", KEA)
     page = stage.window(KEA)
     page.go("team").tap(f"player-{me['players'][5]['player']}").tap("captain")
@@ -363,8 +379,7 @@ def stopped_host(stage):
 def cut_network(stage):
     """The network is cut in mid-save: the answer is lost, the command is sent again and done once."""
     stage.open()
-    stage.serve()
-    played_season(stage.served, 1)
+    stage.serve_played(1)
     _, me = stage.served.ask("GET", "/me", KEA)
     page = stage.window(KEA)
     page.go("team").tap(f"player-{me['players'][5]['player']}").tap("captain")
@@ -383,8 +398,7 @@ def cut_network(stage):
 def passed_deadline(stage):
     """A deadline passes under an open page: Save is refused, the next gameweek is named, and what was chosen is kept."""
     stage.open(360)
-    stage.serve()
-    played_season(stage.served, 1)
+    stage.serve_played(1)
     stage.served.tell(deadline(2) - 10)
     _, me = stage.served.ask("GET", "/me", KEA)
     page = stage.window(KEA)
@@ -430,8 +444,7 @@ def names_that_are_markup(stage):
 def screen_reader(stage):
     """Each place has a main part, one heading that has and keeps the focus, and a name for whatever can be acted on."""
     stage.open()
-    stage.serve()
-    played_season(stage.served, 3)
+    stage.serve_played(3)
     acting = ("button", "link", "textbox", "searchbox", "combobox", "checkbox", "spinbutton", "DateTime", "dialog")
     for key, places in (
         (KEA, ("points", "team", "transfers", "fixtures", "players", "player/9", "leagues", "league/1", "league/2", "cup/1", "week", "entry/2/1")),
@@ -456,8 +469,7 @@ def keyboard(stage):
     from selenium.webdriver.common.keys import Keys
 
     stage.open()
-    stage.serve()
-    played_season(stage.served, 1)
+    stage.serve_played(1)
     _, me = stage.served.ask("GET", "/me", KEA)
     page = stage.window()
     active = lambda: page.driver.switch_to.active_element
@@ -537,7 +549,7 @@ def twenty_at_once(stage):
         half.sendall(b"GET /season HTTP/1.1\r\nFpl-K")
         found = stage.driver.execute_async_script(script, OPERATOR)
     need(len(found) == 20 and all(status == 200 for status, _ in found), f"not all came: {found}")
-    need(max(took for _, took in found) < 5000, f"one waited: {found}")
+    need(max(took for _, took in found) < 30_000, f"one waited: {found}")
 
 
 def generated_season(stage):
@@ -553,12 +565,13 @@ def generated_season(stage):
         const begun = performance.now();
         field.value = text;
         field.dispatchEvent(new Event("input"));
+        document.body.getBoundingClientRect();
         times.push(performance.now() - begun);
       }
-      return Math.min(...times);
+      return times;
     """
-    least = page.driver.execute_script(script)
-    need(least < 50, f"a key press takes {least} ms")
+    pressed = lambda: max(page.driver.execute_script(script)) < FRAME
+    page.until(pressed, "each key press answered within a frame, where nothing else takes the processor")
     page.driver.execute_script("scrollTo(0, document.body.scrollHeight)")
     page.until(lambda: len(page.all("tbody tr")) > 40, "the next rows")
     page.go("league/1")
@@ -575,6 +588,7 @@ PLAYS = {
             first_squad,
             lineups,
             transfers,
+            transfers_in_turn,
             chips,
             leagues,
             points,
@@ -593,5 +607,6 @@ PLAYS = {
             generated_season,
         )
     },
+    **STORIES,
     **LOOKS,
 }

@@ -1,4 +1,5 @@
 """The seasons that the page is tried on, handed in by the host's own routes."""
+import copy
 import random
 
 from served import OPERATOR
@@ -58,6 +59,12 @@ class Small:
         self.served, self.chance = served, random.Random(51)
         self.operator = Caller(served, OPERATOR)
         self.positions, self.prices, self.clubs, self.names, self.fixtures = {}, {}, {}, {}, {}
+
+    def at(self, served):
+        """The same season at another host that holds it."""
+        other = copy.copy(self)
+        other.served, other.operator = served, Caller(served, OPERATOR)
+        return other
 
     def make(self):
         self.served.tell(deadline(1) - 5 * 86400)

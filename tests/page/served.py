@@ -3,14 +3,17 @@
 `Program` is the built program, and `StandIn` the second host of tests/replay, which serves the same pages and the same
 routes: with it the page can be tried where no program is built.
 """
+import copy
 import json
 import os
 import socket
+import sqlite3
 import subprocess
 import sys
 import tempfile
 import threading
 import time
+from functools import cache
 from http.client import HTTPConnection
 from http.server import BaseHTTPRequestHandler, ThreadingHTTPServer
 from pathlib import Path
@@ -22,7 +25,7 @@ from host import Host
 from messages import response
 
 OPERATOR = "operator1"
-SECONDS = 30  # the program may take to answer
+SECONDS = 120  # the program may take to begin, to answer and to end, on a machine that is busy
 TYPES = {
     "html": "text/html; charset=utf-8",
     "js": "text/javascript; charset=utf-8",
@@ -82,6 +85,13 @@ class StandIn(Served):
 
     def tell(self, moment):
         self.moment = moment
+
+    def holds(self):
+        """What another host begins with to go on from here."""
+        return copy.deepcopy(self.host), self.moment
+
+    def hold(self, held):
+        self.host, self.moment = copy.deepcopy(held)
 
     def start(self):
         stand_in = self
@@ -145,6 +155,15 @@ class StandIn(Served):
         return f"HTTP/1.1 200 OK\r\n{head}\r\n".encode() + data
 
 
+@cache
+def outside():
+    """The library that tells the program its clock, and the folder in which it lies."""
+    folder = tempfile.TemporaryDirectory(prefix="kowhirupe-page-")
+    library = Path(folder.name) / "outside.so"
+    subprocess.run(["gcc", "-O1", "-shared", "-fPIC", "-o", library, TESTS / "outside.c", "-ldl"], check=True)
+    return library, folder
+
+
 class Program(Served):
     """The built program over a store, with the clock of tests/outside.c."""
 
@@ -153,14 +172,25 @@ class Program(Served):
         self.folder = tempfile.TemporaryDirectory(prefix="kowhirupe-page-")
         place = Path(self.folder.name)
         self.program, self.store, self.now = Path(program).resolve(), place / "season", place / "now"
-        self.outside, self.process = place / "outside.so", None
-        subprocess.run(["gcc", "-O1", "-shared", "-fPIC", "-o", self.outside, TESTS / "outside.c", "-ldl"], check=True)
+        self.process = None
         self.tell(0)
 
     def tell(self, moment):
         fresh = self.now.with_suffix(".fresh")
         fresh.write_text(f"{moment}\n")
         fresh.rename(self.now)
+
+    def holds(self):
+        """What another host begins with to go on from here; this one has to be stopped."""
+        store = sqlite3.connect(self.store)
+        whole = store.serialize()
+        store.close()
+        return whole, self.now.read_text()
+
+    def hold(self, held):
+        whole, moment = held
+        self.store.write_bytes(whole)
+        self.tell(int(moment))
 
     def generate(self):
         """Makes the season of `generate` in the store; its moments are its own."""
@@ -169,9 +199,10 @@ class Program(Served):
 
     def start(self):
         words = ["serve", "--key", OPERATOR, "--port", str(self.port), "--clients", "64", "--pages", self.pages, "--store", self.store]
-        surroundings = os.environ | {"LD_PRELOAD": str(self.outside), "KOWHIRUPE_NOW": str(self.now)}
+        surroundings = os.environ | {"LD_PRELOAD": str(outside()[0]), "KOWHIRUPE_NOW": str(self.now)}
         self.process = subprocess.Popen([self.program, *words], stdin=subprocess.DEVNULL, env=surroundings)
-        for _ in range(SECONDS * 20):
+        end = time.monotonic() + SECONDS
+        while time.monotonic() < end:
             if self.process.poll() is not None:
                 raise RuntimeError(f"the program ended with status {self.process.returncode}")
             try:

@@ -7,29 +7,23 @@ from selenium.common.exceptions import NoSuchElementException, StaleElementRefer
 from selenium.webdriver.chrome.service import Service
 from selenium.webdriver.common.by import By
 
-from seasons import Generated
+from seasons import Generated, played_season
 from served import Program, StandIn
+from wanted import Wrong, need
 
-SECONDS = 30  # the page may take, on a machine that is busy
+SECONDS = 60  # the page may take, on a machine that is busy
+TELEPHONE = 500  # pixels, below which a window is a telephone's
 ARGUMENTS = ("--headless=new", "--no-sandbox", "--disable-dev-shm-usage", "--lang=en-GB", "--disable-background-timer-throttling")
 EXPECTED = ("Failed to load resource", "net::ERR_")  # what Chromium says of answers that are refusals, and of a host that is gone
 # The page's clock stands at a moment that a play tells, and goes on from there.
 CLOCK = "{{ const gone = {0} - Date.now(); const now = Date.now.bind(Date); Date.now = () => now() + gone; }}"
 
 
-class Wrong(AssertionError):
-    """What a play saw that should not be."""
-
-
-def need(is_so, what):
-    if not is_so:
-        raise Wrong(what)
-
-
 class Stage:
     def __init__(self, top, program, shots):
         self.top, self.program, self.shots = Path(top), program, Path(shots)
         self.web, self.served, self.driver, self.width = self.top / "web", None, None, None
+        self.played = {}  # by how many gameweeks were played, what the host held then, and the season
         self.shots.mkdir(parents=True, exist_ok=True)
 
     def play(self, play):
@@ -49,39 +43,47 @@ class Stage:
             if self.driver:
                 self.one_window()
 
+    def host(self):
+        self.served = StandIn(self.web) if self.program is None else Program(self.web, self.program)
+        return self.served
+
     def serve(self):
         """A fresh host."""
-        self.served = StandIn(self.web) if self.program is None else Program(self.web, self.program)
-        return self.served.start()
+        return self.host().start()
+
+    def serve_played(self, gameweeks):
+        """A host with the small season, of which so many gameweeks were played. They are played once, and then copied."""
+        if gameweeks not in self.played:
+            season = played_season(self.serve(), gameweeks)
+            self.served.stop()
+            self.played[gameweeks] = self.served.holds(), season
+        held, season = self.played[gameweeks]
+        self.host().hold(held)
+        self.served.start()
+        return season.at(self.served)
 
     def serve_generated(self):
         """A host with the season of `generate`."""
         if self.program is None:
-            self.serve()
-            Generated(self.served).make()
+            Generated(self.serve()).make()
         else:
-            self.served = Program(self.web, self.program)
-            self.served.generate()
+            self.host().generate()
             self.served.start()
 
     # Windows
 
     def open(self, width=1280):
-        """A Chromium of this width: the same one as long as the width is the same."""
-        if self.driver and self.width == width:
+        """A Chromium, whose windows are as wide as this."""
+        self.width = width
+        if self.driver:
             return
-        self.close()
         options = webdriver.ChromeOptions()
         options.binary_location = "/usr/bin/chromium"
         for argument in ARGUMENTS:
             options.add_argument(argument)
         options.set_capability("goog:loggingPrefs", {"browser": "ALL"})
-        if width < 500:
-            metrics = {"width": width, "height": 740, "pixelRatio": 1.0, "touch": True}
-            options.add_experimental_option("mobileEmulation", {"deviceMetrics": metrics})
-        else:
-            options.add_argument(f"--window-size={width},900")
-        self.driver, self.width = webdriver.Chrome(options=options, service=Service("/usr/bin/chromedriver")), width
+        self.driver = webdriver.Chrome(options=options, service=Service("/usr/bin/chromedriver"))
+        self.driver.set_script_timeout(SECONDS)
 
     def close(self):
         if self.driver:
@@ -89,18 +91,20 @@ class Stage:
         self.driver = None
 
     def one_window(self):
-        first, *others = self.driver.window_handles
-        for window in others:
+        """Closes all windows but a fresh one."""
+        played = self.driver.window_handles
+        self.driver.switch_to.new_window("window")
+        fresh = self.driver.current_window_handle
+        for window in played:
             self.driver.switch_to.window(window)
             self.driver.close()
-        self.driver.switch_to.window(first)
-        self.driver.get("about:blank")
+        self.driver.switch_to.window(fresh)
 
     def window(self, key=None, moment=None, is_new=False):
         """A window with the page, in which this key is signed in."""
         if is_new:
             self.driver.switch_to.new_window("window")
-        window = Window(self, self.driver.current_window_handle)
+        window = Window(self, self.driver.current_window_handle).sized()
         if moment is not None:
             self.driver.execute_cdp_cmd("Page.addScriptToEvaluateOnNewDocument", {"source": CLOCK.format(moment * 1000)})
         self.driver.get(self.served.url)
@@ -132,6 +136,14 @@ class Window:
 
     def here(self):
         self.driver.switch_to.window(self.handle)
+        return self
+
+    def sized(self, height=740):
+        """As wide as the stage says; a narrow window is that of a telephone."""
+        is_telephone = self.stage.width < TELEPHONE
+        metrics = {"width": self.stage.width, "height": height, "deviceScaleFactor": 1, "mobile": is_telephone}
+        self.driver.execute_cdp_cmd("Emulation.setDeviceMetricsOverride", metrics)
+        self.driver.execute_cdp_cmd("Emulation.setTouchEmulationEnabled", {"enabled": is_telephone})
         return self
 
     # Waiting
@@ -239,12 +251,10 @@ class Window:
     def picture(self, name, height=None):
         """A picture of the whole place, for a person to look at."""
         whole = self.driver.execute_script("return Math.max(document.documentElement.scrollHeight, 740)")
-        metrics = {"width": self.stage.width, "height": height or min(whole, 2600), "deviceScaleFactor": 1, "mobile": self.stage.width < 500}
-        self.driver.execute_cdp_cmd("Emulation.setDeviceMetricsOverride", metrics)
+        self.sized(height or min(whole, 2600))
         path = self.stage.shots / f"{name}.png"
         path.write_bytes(self.driver.get_screenshot_as_png())
-        metrics["height"] = 740
-        self.driver.execute_cdp_cmd("Emulation.setDeviceMetricsOverride", metrics)
+        self.sized()
         return path
 
     def tree(self):

@@ -1,7 +1,7 @@
 """What is told of the page by its files alone: sizes, sentences, contrast, nothing from elsewhere."""
 import re
 
-from stage import need
+from wanted import need
 
 MOST_BYTES = 120_000
 PAIRS = (("ink", "page"), ("ink", "surface"), ("ink", "raised"), ("ink", "mark"), ("quiet", "page"), ("quiet", "surface"), ("quiet", "raised"))
