@@ -346,7 +346,7 @@ function signInForm(wrong = "") {
 	part("header").replaceChildren();
 	part("places").replaceChildren();
 	part("unsaved").hidden = true;
-	const key = input("key", { type: "password", autocomplete: "current-password" });
+	const key = input("key", { type: "password", autocomplete: "current-password", "aria-describedby": "notice" });
 	const enter = () => {
 		const text = key.value.trim().toLowerCase();
 		if (/^[a-z0-9]+$/.test(text)) {
@@ -358,7 +358,7 @@ function signInForm(wrong = "") {
 	};
 	part("main").replaceChildren(
 		heading("Kowhirupe"),
-		make("p", "Sign in with the key that whoever runs the season gave you."),
+		make("p", "Sign in with the key that you were given."),
 		form("sign-in", "Sign in", enter, field("Key", key)),
 	);
 	part("notice").replaceChildren();

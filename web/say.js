@@ -6,8 +6,8 @@ import { money } from "./words.js";
 
 const REFUSALS = {
 	1: "The host is behind what this page knew. Look at what stands now, and save again.",
-	2: "This was changed on another device or in another window. Look at what stands now, and save again.",
-	3: "This was changed on another device or in another window. Look at what stands now, and save again.",
+	2: "This was changed on another device or in another window. Look at it, and save again.",
+	3: "This was changed on another device or in another window. Look at it, and save again.",
 	4: "There is no season yet. The operator loads it.",
 	5: "There is a season already.",
 	6: "The season is over: every gameweek is locked.",

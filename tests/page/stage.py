@@ -3,7 +3,7 @@ import time
 from pathlib import Path
 
 from selenium import webdriver
-from selenium.common.exceptions import NoSuchElementException, StaleElementReferenceException
+from selenium.common.exceptions import NoSuchElementException, SessionNotCreatedException, StaleElementReferenceException
 from selenium.webdriver.chrome.service import Service
 from selenium.webdriver.common.by import By
 
@@ -17,6 +17,16 @@ ARGUMENTS = ("--headless=new", "--no-sandbox", "--disable-dev-shm-usage", "--lan
 EXPECTED = ("Failed to load resource", "net::ERR_")  # what Chromium says of answers that are refusals, and of a host that is gone
 # The page's clock stands at a moment that a play tells, and goes on from there.
 CLOCK = "{{ const gone = {0} - Date.now(); const now = Date.now.bind(Date); Date.now = () => now() + gone; }}"
+
+
+def begun(options, tries=3):
+    """A Chromium. One that does not begin in time, on a machine that is busy, is begun again."""
+    try:
+        return webdriver.Chrome(options=options, service=Service("/usr/bin/chromedriver"))
+    except SessionNotCreatedException:
+        if tries == 1:
+            raise
+        return begun(options, tries - 1)
 
 
 class Stage:
@@ -82,7 +92,7 @@ class Stage:
         for argument in ARGUMENTS:
             options.add_argument(argument)
         options.set_capability("goog:loggingPrefs", {"browser": "ALL"})
-        self.driver = webdriver.Chrome(options=options, service=Service("/usr/bin/chromedriver"))
+        self.driver = begun(options)
         self.driver.set_script_timeout(SECONDS)
 
     def close(self):
@@ -172,7 +182,8 @@ class Window:
         return self.until(lambda: self.driver.find_element(By.CSS_SELECTOR, selector).text, f"a text in {selector}")
 
     def sees(self, words, selector="#main"):
-        return self.until(lambda: words in self.driver.find_element(By.CSS_SELECTOR, selector).text, f"{words!r} in {selector}")
+        self.until(lambda: words in self.driver.find_element(By.CSS_SELECTOR, selector).text, f"{words!r} in {selector}")
+        return self
 
     def needs_no(self, selector):
         need(not self.all(selector), f"there is {selector}")
