@@ -279,7 +279,7 @@ function say(kind, text) {
 async function send(busy, target, members, { done = "Saved.", next = null, ...others } = {}) {
 	const from = location.hash;
 	if (host.isBusy()) {
-		say("bad", "Wait until what was sent before is saved.");
+		say("bad", "Wait until what was sent is saved.");
 		return null;
 	}
 	busy.disabled = true;
