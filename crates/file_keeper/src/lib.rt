@@ -2,6 +2,9 @@
 #![tactic(auto)]
 
 mod keeper;
-mod opened;
+mod opening;
+mod stored;
 
-pub use keeper::{FileKeeper, file_at};
+pub use keeper::{FileKeeper, file_at, with_file, with_file_behind};
+pub use opening::StoreFiles;
+pub use stored::StoredFile;

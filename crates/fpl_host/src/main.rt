@@ -5,22 +5,25 @@ mod causes;
 mod files;
 mod folder;
 mod key_file;
+mod notes;
 
 ghost use Rattle.std.specs.Prelude.{◌≡◌, None};
 
 use crate::causes::{tell, tell_port, tell_store};
 use crate::folder::pages_in;
 use crate::key_file::keyed;
-use file_keeper::{FileKeeper, file_at};
+use crate::notes::tell_note;
+use file_keeper::{with_file, with_file_behind};
 use fpl_asking::status::{DOORS, KEEPER, MEMORY, SHELF};
-use fpl_base::{Doors, Memory, Shelf, Text};
+use fpl_base::{Doors, Memory, Text};
 use fpl_doors::Listening;
 use fpl_gathering::Gathering;
+use fpl_loading::Note;
 use fpl_run::run_here;
-use fpl_shelves::Disk;
+use fpl_shelves::{AskedShelf, Disk};
 use fpl_words::{WordFault, Words, words_of};
 use outside_forms::Quiet;
-use sqlite::{File, FileStore, Unknown};
+use path_keeper::{AtPath, WithKeeper};
 use std::alloc::Global;
 use std::io;
 use std::process::ExitCode;
@@ -150,8 +153,11 @@ fn loading(rt: &HostRuntime, alloc: Global, words: &[Text], store: Text) -> u8 {
     let Ok(path) = Text::new(alloc, store.text()) else {
         return MEMORY;
     };
-    let keeper = FileKeeper::shut(rt, store);
-    let status = over_file(rt, alloc, words, keeper, &mut Quiet, &mut disk);
+    let mut note = None;
+    let status = stored_behind(rt, alloc, words, &mut Quiet, &mut disk, &mut note, store);
+    if let Some(note) = note {
+        tell_note(rt, note);
+    }
     if status == KEEPER {
         tell_store(rt, path.text());
     }
@@ -163,8 +169,32 @@ fn loading(rt: &HostRuntime, alloc: Global, words: &[Text], store: Text) -> u8 {
     status
 }
 
+// Runs with these doors, this shelf and a place for what is noted of a load, over the store of this path, which is opened
+// behind the files.
+fn stored_behind<D: Doors, F: AskedShelf>(
+    rt: &HostRuntime,
+    alloc: Global,
+    words: &[Text],
+    doors: &mut D,
+    shelf: &mut F,
+    note: &mut Option<Note>,
+    store: Text,
+) -> u8
+    requires untold { (d : D) → D.coming d ≡ None }
+{
+    let work = StoredRun {
+        rt,
+        alloc,
+        words,
+        doors,
+        shelf,
+        note,
+    };
+    with_file_behind(rt, store, work)
+}
+
 // Runs with these doors and this shelf, over a store in this file, or in memory.
-fn kept<D: Doors, F: Shelf>(
+fn kept<D: Doors, F: AskedShelf>(
     rt: &HostRuntime,
     alloc: Global,
     words: &[Text],
@@ -176,12 +206,20 @@ fn kept<D: Doors, F: Shelf>(
 {
     match store {
         Some(path) => stored(rt, alloc, words, doors, shelf, path),
-        None => run_here(rt, alloc, words, &mut TreeKeeper::new(alloc), doors, shelf),
+        None => run_here(
+            rt,
+            alloc,
+            words,
+            &mut TreeKeeper::new(alloc),
+            doors,
+            shelf,
+            &mut None,
+        ),
     }
 }
 
 // Runs with these doors and this shelf, over the store of this path.
-fn stored<D: Doors, F: Shelf>(
+fn stored<D: Doors, F: AskedShelf>(
     rt: &HostRuntime,
     alloc: Global,
     words: &[Text],
@@ -194,23 +232,49 @@ fn stored<D: Doors, F: Shelf>(
     let Ok(name) = Text::new(alloc, path.text()) else {
         return MEMORY;
     };
-    let status = over_file(rt, alloc, words, file_at(rt, path, Unknown), doors, shelf);
+    let mut note = None;
+    let work = StoredRun {
+        rt,
+        alloc,
+        words,
+        doors,
+        shelf,
+        note: &mut note,
+    };
+    let status = with_file(rt, path, work);
     if status == KEEPER {
         tell_store(rt, name.text());
     }
     status
 }
 
-// Runs over a store in a file, with these doors and this shelf.
-fn over_file<D: Doors, F: Shelf>(
-    rt: &HostRuntime,
+// A run with these doors and this shelf, and a place for what is noted of a load, over the store of a path.
+#[derive(Drop)]
+struct StoredRun<'a, D: Doors, F: AskedShelf> {
+    rt: &'a HostRuntime,
     alloc: Global,
-    words: &[Text],
-    mut keeper: FileKeeper<'_, FileStore<File>>,
-    doors: &mut D,
-    shelf: &mut F,
-) -> u8
-    requires untold { (d : D) → D.coming d ≡ None }
-{
-    run_here(rt, alloc, words, &mut keeper, doors, shelf)
+    words: &'a [Text],
+    doors: &'a mut D,
+    shelf: &'a mut F,
+    note: &'a mut Option<Note>,
+}
+
+impl<'a, D: Doors, F: AskedShelf> WithKeeper for StoredRun<'a, D, F> {
+    ghost use Rattle.std.specs.Prelude.{◌≡◌, None, ⊤};
+
+    ghost may = { λ _. (d : D) → D.coming d ≡ None };
+
+    ghost ends = { λ _ _ _ _ _. ⊤ };
+
+    fn with<K: AtPath>(self, keeper: &mut K) -> u8 {
+        let StoredRun {
+            rt,
+            alloc,
+            words,
+            doors,
+            shelf,
+            note,
+        } = self;
+        run_here(rt, alloc, words, keeper, doors, shelf, note)
+    }
 }

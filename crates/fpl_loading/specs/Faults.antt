@@ -1,14 +1,10 @@
 -- What is told of a folder that gives no commands.
-use Rattle.std.specs.Prelude.{◌≡◌, ◌++◌, ◌==◌, ◌∷◌, [], ℕ, List, Option, codes, if◌then◌else◌}
+use Rattle.std.specs.Prelude.{◌≡◌, ◌++◌, ◌∷◌, [], ℕ, List, Option, codes}
 use Rattle.std.specs.Fmt.{decimal}
 use Rattle.fpl_asking.specs.Printing.{PrintsOne}
-use Rattle.fpl_loading.specs.Files.{clubs_name, players_name, fixtures_name}
+use Rattle.fpl_loading.specs.Files.{file_name}
 use Rattle.fpl_loading.specs.declared.files.LoadFault.{LoadFault}
 use Rattle.fpl_loading.specs.declared.files.LoadFault.TheVariants as fault
-
--- the name of the season file of a number: the first, the second and the last of them
-abbrev pub file_name : ℕ → List ℕ
-file_name file = if file == 1 then clubs_name else if file == 2 then players_name else fixtures_name
 
 -- the line that names a row of a file
 abbrev pub row_text : ℕ → ℕ → List ℕ
@@ -17,7 +13,7 @@ row_text file row = file_name file ++ (codes " row " ++ (decimal row ++ 10 ∷ [
 -- what is told of a fault: nothing where the shelf failed, status 9, where a file is too long, status 10, or where memory
 -- ran out, status 6; and the first wrong row, status 11, unless there is no memory for the line
 abbrev pub TellsLoadFault : LoadFault → ℕ → Option (List ℕ) → Option (List ℕ) → Type 0
-TellsLoadFault fault.Shelf status before after = (status ≡ 9) × (after ≡ before)
-TellsLoadFault fault.Long status before after = (status ≡ 10) × (after ≡ before)
+TellsLoadFault (fault.Shelf file) status before after = (status ≡ 9) × (after ≡ before)
+TellsLoadFault (fault.Long file) status before after = (status ≡ 10) × (after ≡ before)
 TellsLoadFault fault.Memory status before after = (status ≡ 6) × (after ≡ before)
 TellsLoadFault (fault.Row file row) status before after = PrintsOne (λ text. text ≡ row_text file row) 11 status before after

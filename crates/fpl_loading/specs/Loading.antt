@@ -12,6 +12,9 @@ use Rattle.season_book.specs.declared.request.Request.TheVariants as request
 use Rattle.fpl_replies.specs.Replying.{Served}
 use Rattle.fpl_asking.specs.Asking.{IsHeard}
 use Rattle.fpl_asking.specs.Printing.{EndsBy, PrintsOne}
+use Rattle.fpl_loading.specs.Notes.{cause_of, no_place, note_passed, place_behind}
+use Rattle.fpl_loading.specs.declared.notes.Note.{Note}
+use Rattle.fpl_loading.specs.declared.notes.Place.{Place}
 
 -- a rule refuses a command whose number is below the caller's last one
 abbrev pub is_number_old : Rule → Bool
@@ -29,17 +32,18 @@ counts_of last number told = None
 abbrev pub loaded_text : ℕ → ℕ → List ℕ
 loaded_text loaded there = codes "loaded " ++ (decimal loaded ++ (codes ", there " ++ (decimal there ++ 10 ∷ [])))
 
--- commands are asked as the operator, one after another, the first with this number and each other one with the next, the
--- books following on. The first answer that does not count ends the load; behind the last command the counts are written
-abbrev pub LoadsOn : ℕ → ℕ → List Command → ℕ → ℕ → Option (List ℕ) → Option (List ℕ) → ℕ → Served → Served → Type 0
-LoadsOn last number [] loaded there before after status old new =
-    (new ≡ old) × PrintsOne (λ text. text ≡ loaded_text loaded there) 0 status before after
-LoadsOn last number (command ∷ commands) loaded there before after status old new =
-    (told : Answer) × (mid : Served) × IsHeard old caller.Operator (request.Command number command) told mid
-    × MatchOption (counts_of last number told) ((new ≡ mid) × EndsBy told status before after)
-    (λ counts. LoadsOn last (number + 1) commands (loaded + counts.0) (there + counts.1) before after status mid new)
+-- commands are asked as the operator, one after another behind so many that were asked and the place of the last of them, each
+-- with the next number, the books following on. The first answer that does not count ends the load, and its cause is noted;
+-- behind the last command the counts are written
+abbrev pub LoadsOn : ℕ → ℕ → Place → List Command → ℕ → ℕ → Option (List ℕ) → Option (List ℕ) → ℕ → Option Note → Served → Served → Type 0
+LoadsOn last asked place [] loaded there before after status noted old new =
+    (new ≡ old) × (noted ≡ note_passed last asked) × PrintsOne (λ text. text ≡ loaded_text loaded there) 0 status before after
+LoadsOn last asked place (command ∷ commands) loaded there before after status noted old new =
+    (told : Answer) × (mid : Served) × IsHeard old caller.Operator (request.Command (asked + 1) command) told mid
+    × MatchOption (counts_of last (asked + 1) told) ((new ≡ mid) × (noted ≡ cause_of (place_behind place command) told) × EndsBy told status before after)
+    (λ counts. LoadsOn last (asked + 1) (place_behind place command) commands (loaded + counts.0) (there + counts.1) before after status noted mid new)
 
 -- commands are loaded, from number 1 on
-abbrev pub IsLoad : List Command → Option (List ℕ) → Option (List ℕ) → ℕ → Served → Served → Type 0
-IsLoad commands before after status old new =
-    LoadsOn (last_number old.host.book caller.Operator) 1 commands 0 0 before after status old new
+abbrev pub IsLoad : List Command → Option (List ℕ) → Option (List ℕ) → ℕ → Option Note → Served → Served → Type 0
+IsLoad commands before after status noted old new =
+    LoadsOn (last_number old.host.book caller.Operator) 0 no_place commands 0 0 before after status noted old new

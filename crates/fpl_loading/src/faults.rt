@@ -1,10 +1,10 @@
 // What is told where a folder gives no commands.
 ghost use Rattle.std.specs.Prelude.{◌≡◌, ◌⊎◌, IfOk, string_bytes};
 ghost use Rattle.fpl_base.specs.Causes.{Rose};
-ghost use Rattle.fpl_loading.specs.Faults.{TellsLoadFault, file_name, row_text};
-ghost use Rattle.fpl_loading.specs.declared.files.LoadFault.TheVariants as fault_of;
+ghost use Rattle.fpl_loading.specs.Faults.{TellsLoadFault, row_text};
+ghost use Rattle.fpl_loading.specs.Files.{IsShelfFault};
 
-use crate::files::{CLUBS, FIXTURES, LoadFault, PLAYERS};
+use crate::files::{LoadFault, file_name};
 use fpl_asking::print;
 use fpl_asking::status::{MEMORY, SHELF, TOO_LONG, WRONG_ROW};
 use fpl_base::Sink;
@@ -14,28 +14,17 @@ use std::alloc::{AllocError, Global};
 pub fn unloaded<W: Sink>(alloc: Global, fault: LoadFault, output: &mut W) -> u8
     ensures told { TellsLoadFault fault result (W.taken output.old) (W.taken output.new) }
     ensures statuses { (result ≡ 3) ⊎ (result ≡ 6) ⊎ (result ≡ 9) ⊎ (result ≡ 10) ⊎ (result ≡ 11) }
-    ensures shelf { result ≡ 9 → fault ≡ fault_of.Shelf }
+    ensures shelf { result ≡ 9 → IsShelfFault fault }
     ensures write { result ≡ 3 → Rose (W.faults output.old) (W.faults output.new) }
 {
     match fault {
-        LoadFault::Shelf => SHELF,
-        LoadFault::Long => TOO_LONG,
+        LoadFault::Shelf { .. } => SHELF,
+        LoadFault::Long { .. } => TOO_LONG,
         LoadFault::Row { file, row } => match row_line(alloc, file, row) {
             Ok(text) => print(output, text.as_bytes(), WRONG_ROW),
             Err(AllocError) => MEMORY,
         },
         LoadFault::Memory => MEMORY,
-    }
-}
-
-// The name of the season file of a number.
-fn file_name(file: u8) -> &'static str
-    ensures { result.now ≡ file_name file }
-{
-    match file {
-        1 => CLUBS,
-        2 => PLAYERS,
-        _ => FIXTURES,
     }
 }
 

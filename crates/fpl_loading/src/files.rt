@@ -1,39 +1,37 @@
 // The season files of a folder.
-ghost use Rattle.std.specs.Prelude.{◌≡◌, All, Err, IfErr, IfOk, IfSome, string_bytes};
-ghost use Rattle.fpl_base.specs.Shelves.{HasShelfCause};
-ghost use Rattle.fpl_base.specs.declared.outside.ShelfFault.TheVariants as fault_of;
+ghost use Rattle.std.specs.Prelude.{◌≡◌, ℕ, All, IfErr, IfOk, string_bytes};
 ghost use Rattle.season_book.specs.Commands.{IsCommand};
-ghost use Rattle.fpl_loading.specs.Files.{AreFiles, AreOrdered, ExplainsLoad, HasLoadCause, HasLong, IsFile, IsLong, load_fault, path_in};
+ghost use Rattle.fpl_loading.specs.Files.{AreFiles, AreOrdered, ExplainsFile, ExplainsLoad, HasLoadCause, IsFile, IsFileRead, IsReadFor, file_name, load_fault, path_in};
 
-use fpl_base::{Bytes, Profile, Shelf, ShelfFault, Text};
+use fpl_base::{Bytes, Profile, ShelfFault, Text};
 use fpl_reports::{FileFault, season_files};
+use fpl_shelves::AskedShelf;
 use season_book::Command;
 use std::alloc::{AllocError, Global};
 
-pub(crate) const CLUBS: &str = "clubs.csv";
+const CLUBS: &str = "clubs.csv";
 
-pub(crate) const PLAYERS: &str = "players.csv";
+const PLAYERS: &str = "players.csv";
 
-pub(crate) const FIXTURES: &str = "fixtures.csv";
+const FIXTURES: &str = "fixtures.csv";
 
-/// Why a folder gives no commands.
+/// Why a folder gives no commands. A file has a number: 1 for `clubs.csv`, 2 for `players.csv` and 3 for `fixtures.csv`.
 #[derive(Clone, Copy, Debug, PartialEq, Eq)]
 pub enum LoadFault {
-    /// The shelf failed, which its count of faults shows.
-    Shelf,
-    /// A file has more than 4,194,304 bytes.
-    Long,
-    /// The first wrong row: its file, 1 for `clubs.csv`, 2 for `players.csv` and 3 for `fixtures.csv`, and its number
-    /// there, from 1. Blank lines are not counted.
+    /// The shelf failed at this file, which its count of faults shows.
+    Shelf { file: u8 },
+    /// This file has more than 4,194,304 bytes.
+    Long { file: u8 },
+    /// The first wrong row: its file, and its number there, from 1. Blank lines are not counted.
     Row { file: u8, row: u32 },
     /// Memory ran out.
     Memory,
 }
 
 /// The commands that load the season of the files `clubs.csv`, `players.csv` and `fixtures.csv` of a folder, in the order
-/// in which they are to be asked. All three are read, in this order, before a row is judged. `split` is the last gameweek
-/// of the first half, 0 for none.
-pub fn ordered_by<F: Shelf>(
+/// in which they are to be asked. All three are read, in this order and each once, before a row is judged; behind one that
+/// is not had none is read. `split` is the last gameweek of the first half, 0 for none.
+pub fn ordered_by<F: AskedShelf>(
     alloc: Global,
     shelf: &mut F,
     split: u8,
@@ -45,12 +43,10 @@ pub fn ordered_by<F: Shelf>(
     ensures lawful { IfOk result (λ commands. All IsCommand commands.items) }
     ensures fault { IfErr result (ExplainsLoad (F.files shelf.old) folder.now split) }
     ensures kept { F.files shelf.new ≡ F.files shelf.old }
+    ensures read { IsReadFor F.one_read (F.files shelf.old) folder.now result shelf.old shelf.new }
     ensures cause { HasLoadCause (F.faults shelf.old) (F.faults shelf.new) result }
 {
-    let texts = match texts_of(alloc, shelf, folder) {
-        Ok(texts) => texts,
-        Err(fault) => return Err(load_fault(fault)),
-    };
+    let texts = texts_of(alloc, shelf, folder)?;
     match season_files(
         alloc,
         texts.0.as_slice(),
@@ -66,39 +62,54 @@ pub fn ordered_by<F: Shelf>(
 }
 
 // The bytes of the three files: the clubs, the players and the fixtures.
-fn texts_of<F: Shelf>(
+fn texts_of<F: AskedShelf>(
     alloc: Global,
     shelf: &mut F,
     folder: &Text,
-) -> Result<(Bytes, Bytes, Bytes), ShelfFault>
+) -> Result<(Bytes, Bytes, Bytes), LoadFault>
     ensures texts { IfOk result
         (λ texts. AreFiles (F.files shelf.old) folder.now texts.0 texts.1 texts.2) }
-    ensures long { result ≡ Err fault_of.Long → IfSome (F.files shelf.old) (HasLong folder.now) }
+    ensures fault { IfErr result (λ why. (split : ℕ) → ExplainsLoad (F.files shelf.old) folder.now split why) }
     ensures kept { F.files shelf.new ≡ F.files shelf.old }
-    ensures cause { HasShelfCause (F.faults shelf.old) (F.faults shelf.new) result }
+    ensures read { IsReadFor F.one_read (F.files shelf.old) folder.now result shelf.old shelf.new }
+    ensures cause { HasLoadCause (F.faults shelf.old) (F.faults shelf.new) result }
 {
-    let clubs = text_of(alloc, shelf, folder, CLUBS)?;
-    let players = text_of(alloc, shelf, folder, PLAYERS)?;
-    let fixtures = text_of(alloc, shelf, folder, FIXTURES)?;
+    let clubs = text_of(alloc, shelf, folder, 1)?;
+    let players = text_of(alloc, shelf, folder, 2)?;
+    let fixtures = text_of(alloc, shelf, folder, 3)?;
     Ok((clubs, players, fixtures))
 }
 
-// The bytes of a file of the folder.
-fn text_of<F: Shelf>(
+// The bytes of the file of a number in the folder.
+fn text_of<F: AskedShelf>(
     alloc: Global,
     shelf: &mut F,
     folder: &Text,
-    name: &str,
-) -> Result<Bytes, ShelfFault>
-    ensures text { IfOk result (IsFile (F.files shelf.old) (path_in folder.now name.now)) }
-    ensures long { result ≡ Err fault_of.Long
-        → IfSome (F.files shelf.old) (λ bytes_of. IsLong bytes_of (path_in folder.now name.now)) }
+    file: u8,
+) -> Result<Bytes, LoadFault>
+    ensures text { IfOk result (IsFile (F.files shelf.old) (path_in folder.now (file_name file))) }
+    ensures fault { IfErr result (ExplainsFile (F.files shelf.old) folder.now file) }
     ensures kept { F.files shelf.new ≡ F.files shelf.old }
-    ensures cause { HasShelfCause (F.faults shelf.old) (F.faults shelf.new) result }
+    ensures read { IsFileRead F.one_read folder.now file result shelf.old shelf.new }
+    ensures cause { HasLoadCause (F.faults shelf.old) (F.faults shelf.new) result }
 {
-    match path_of(alloc, folder, name) {
-        Ok(path) => shelf.read(alloc, path.as_str()),
-        Err(AllocError) => Err(ShelfFault::Memory),
+    let Ok(path) = path_of(alloc, folder, file_name(file)) else {
+        return Err(LoadFault::Memory);
+    };
+    match shelf.ask(alloc, path.as_str()) {
+        Ok(bytes) => Ok(bytes),
+        Err(fault) => Err(load_fault(file, fault)),
+    }
+}
+
+// The name of the season file of a number.
+pub(crate) fn file_name(file: u8) -> &'static str
+    ensures { result.now ≡ file_name file }
+{
+    match file {
+        1 => CLUBS,
+        2 => PLAYERS,
+        _ => FIXTURES,
     }
 }
 
@@ -108,12 +119,12 @@ fn path_of(alloc: Global, folder: &Text, name: &str) -> Result<String, AllocErro
     format!(in alloc; "{}/{}", folder.text(), name)
 }
 
-fn load_fault(fault: ShelfFault) -> LoadFault
-    ensures { result ≡ load_fault fault }
+fn load_fault(file: u8, fault: ShelfFault) -> LoadFault
+    ensures { result ≡ load_fault file fault }
 {
     match fault {
-        ShelfFault::Failed => LoadFault::Shelf,
-        ShelfFault::Long => LoadFault::Long,
+        ShelfFault::Failed => LoadFault::Shelf { file },
+        ShelfFault::Long => LoadFault::Long { file },
         ShelfFault::Memory => LoadFault::Memory,
     }
 }

@@ -5,7 +5,9 @@
 mod faults;
 mod files;
 mod loading;
+mod notes;
 
 pub use faults::unloaded;
 pub use files::{LoadFault, ordered_by};
 pub use loading::loaded;
+pub use notes::{LoadEnd, Note, Place};

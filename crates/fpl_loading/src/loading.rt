@@ -12,6 +12,7 @@ ghost use Rattle.fpl_asking.specs.Asking.{IsHeard};
 ghost use Rattle.fpl_asking.specs.Printing.{PrintsOne};
 ghost use Rattle.fpl_loading.specs.Loading.{IsLoad, counts_of, is_number_old, loaded_text};
 
+use crate::notes::{LoadEnd, Place, cause_of, note_passed, place_behind};
 use fpl_asking::status::{DONE, MEMORY};
 use fpl_asking::{ask, halted, print};
 use fpl_base::{Caller, Clock, Keeper, Rule, Sink, Steps};
@@ -22,7 +23,7 @@ use std::sync::ledger::Ledger;
 
 /// Asks commands as the operator, one after another, the first with number 1 and each other one with the next. Behind the
 /// last of them it writes how many were loaded and how many were there before; an answer that is neither ends the load. It
-/// answers the exit status.
+/// answers the exit status, and what whoever loads should know beside.
 pub fn loaded<W: Sink, C: Clock, K: Keeper, L: Ledger>(
     alloc: Global,
     host: &mut Host,
@@ -31,23 +32,28 @@ pub fn loaded<W: Sink, C: Clock, K: Keeper, L: Ledger>(
     clock: &mut C,
     keeper: &mut K,
     steps: &mut Steps<L>,
-) -> u8
+) -> LoadEnd
     requires fresh { host.old.stale ≡ false }
     requires lawful { All IsCommand commands.items }
     ensures loaded { Leads K.tells K.serves K.holds K.passes
         (kept_as host.old (C.left clock.old) (K.faults keeper.old) keeper.old)
         (kept_as host.new (C.left clock.new) (K.faults keeper.new) keeper.new)
-        (IsLoad commands.items (W.taken output.old) (W.taken output.new) result) }
-    ensures statuses { (result ≡ 0) ⊎ (result ≡ 3) ⊎ (result ≡ 4) ⊎ (result ≡ 6) ⊎ (result ≡ 13) }
-    ensures keeper { result ≡ 4 → Rose (K.faults keeper.old) (K.faults keeper.new) }
-    ensures write { result ≡ 3 → Rose (W.faults output.old) (W.faults output.new) }
+        (IsLoad commands.items (W.taken output.old) (W.taken output.new) result.status
+        result.note) }
+    ensures statuses { (result.status ≡ 0) ⊎ (result.status ≡ 3) ⊎ (result.status ≡ 4)
+        ⊎ (result.status ≡ 6) ⊎ (result.status ≡ 13) }
+    ensures keeper { result.status ≡ 4 → Rose (K.faults keeper.old) (K.faults keeper.new) }
+    ensures write { result.status ≡ 3 → Rose (W.faults output.old) (W.faults output.new) }
     ensures later { K.faults keeper.old ≤ K.faults keeper.new }
 {
     let last = host.last(Caller::Operator);
     let mut loaded = 0u64;
     let mut there = 0u64;
     let mut number = 0u64;
+    let mut place = Place { file: 0, row: 0 };
     for command in commands {
+        let here = place_behind(place, &command);
+        place = here;
         number += 1;
         let told = ask_command(host, number, command, clock, keeper, steps);
         match counted(last, number, told) {
@@ -55,10 +61,16 @@ pub fn loaded<W: Sink, C: Clock, K: Keeper, L: Ledger>(
                 loaded += counts.0;
                 there += counts.1;
             }
-            Err(told) => return halted(alloc, &told, output),
+            Err(told) => {
+                let note = cause_of(here, &told);
+                let status = halted(alloc, &told, output);
+                return LoadEnd { status, note };
+            }
         }
     }
-    tell(alloc, loaded, there, output)
+    let note = note_passed(last, number);
+    let status = tell(alloc, loaded, there, output);
+    LoadEnd { status, note }
 }
 
 // Asks a command as the operator.

@@ -2,18 +2,12 @@
 use Rattle.std.specs.Prelude.{◌≡◌, ◌⊎◌, ℕ, List, Option, Some, None, codes, ⊤}
 use Rattle.fpl_base.specs.Keeping.{Map}
 use Rattle.fpl_base.specs.Moments.{Moments}
-use Rattle.fpl_base.specs.declared.kinds.Profile.{Profile}
 use Rattle.fpl_words.specs.declared.words.What.{What}
 use Rattle.fpl_words.specs.declared.words.What.TheVariants as what
-use Rattle.season_book.specs.declared.command.Command.{Command}
 use Rattle.season_book.specs.declared.request.View.{View}
 use Rattle.season_book.specs.declared.request.View.TheVariants as view
 use Rattle.fpl_replies.specs.Replying.{Served}
 use Rattle.fpl_asking.specs.Printing.{IsReported}
-use Rattle.fpl_loading.specs.Faults.{TellsLoadFault}
-use Rattle.fpl_loading.specs.Files.{AreOrdered, ExplainsLoad}
-use Rattle.fpl_loading.specs.Loading.{IsLoad}
-use Rattle.fpl_loading.specs.declared.files.LoadFault.{LoadFault}
 use Rattle.fpl_generating.specs.Generating.{IsGenerated}
 use Rattle.fpl_dreaming.specs.Dreaming.{IsDreamed}
 use Rattle.event_sheet.specs.Rows.{ExplainsRows, HasEventRows}
@@ -54,15 +48,6 @@ abbrev pub Reports : {K : Type 0} → (K → Type 0) → (K → Type 0) → (K �
     → Option (List ℕ) → Option (List ℕ) → ℕ → Type 0
 Reports tells serves holds passes faults old new key shown moments later before after status =
     RunsThrough tells serves holds passes faults old new key moments later before after status (IsReported (view_of shown) before after status)
-
--- a run of `load`: the files of a folder order no commands, which is told, and nothing was opened; or they order some, and
--- these were loaded
-abbrev pub Loads : {K : Type 0} → (K → Type 0) → (K → Type 0) → (K → Map → Type 0) → (K → Map → Type 0) → (K → ℕ) → K → K → List ℕ → Option (List ℕ → List ℕ) → List ℕ → ℕ → Profile
-    → Option Moments → Option Moments → Option (List ℕ) → Option (List ℕ) → ℕ → Type 0
-Loads tells serves holds passes faults old new key files folder split profile moments later before after status =
-    ((why : LoadFault) × ExplainsLoad files folder split why × TellsLoadFault why status before after × (new ≡ old) × (later ≡ moments))
-    ⊎ ((commands : List Command) × AreOrdered files folder split profile commands
-    × RunsThrough tells serves holds passes faults old new key moments later before after status (IsLoad commands before after status))
 
 -- a run of `dream`: the operator asked for the players of a gameweek, and the team of the week was written
 abbrev pub Dreams : {K : Type 0} → (K → Type 0) → (K → Type 0) → (K → Map → Type 0) → (K → Map → Type 0) → (K → ℕ) → K → K → List ℕ → ℕ → Option Moments → Option Moments

@@ -3,7 +3,9 @@
 #![tactic(auto)]
 
 mod drafts;
+mod loads;
 mod requests;
 
 pub use drafts::draft;
-pub use requests::{dream, generate, load, play, report};
+pub use loads::load;
+pub use requests::{dream, generate, play, report};

@@ -1,25 +1,22 @@
 // The commands that ask requests of a host in this process.
-ghost use Rattle.std.specs.Prelude.{◌≡◌, ◌<◌, ◌^◌, ◌⊎◌, All, IfOk, Option, length};
+ghost use Rattle.std.specs.Prelude.{◌≡◌, ◌<◌, ◌^◌, ◌⊎◌, IfOk, Option, length};
 ghost use Rattle.fpl_base.specs.Causes.{Rose};
 ghost use Rattle.fpl_base.specs.Moments.{Moments};
-ghost use Rattle.season_book.specs.Commands.{IsCommand};
 ghost use Rattle.event_sheet.specs.Rows.{AreDoable};
 ghost use Rattle.fpl_events.specs.Playing.{IsPlayed};
 ghost use Rattle.fpl_generating.specs.Generating.{IsGenerated};
-ghost use Rattle.fpl_loading.specs.Loading.{IsLoad};
-ghost use Rattle.fpl_requests.specs.Requests.{Dreams, Generates, Loads, Plays, Reports, RunsThrough, made_up_key, view_of};
+ghost use Rattle.fpl_requests.specs.Requests.{Dreams, Generates, Plays, Reports, RunsThrough, made_up_key, view_of};
 
 use event_sheet::{EventRow, event_rows};
 use fpl_asking::reported;
 use fpl_asking::status::MEMORY;
-use fpl_base::{Clock, Gw, Keeper, Key, Memory, Profile, Shelf, Sink, Steps, Text};
+use fpl_base::{Clock, Gw, Keeper, Key, Memory, Sink, Steps};
 use fpl_dreaming::dreamed;
 use fpl_events::{played, unplayed};
 use fpl_generating::generated;
-use fpl_loading::{loaded, ordered_by, unloaded};
 use fpl_serving::unopened;
 use fpl_words::What;
-use season_book::{Command, View};
+use season_book::View;
 use season_keeping::Host;
 use std::alloc::Global;
 use std::sync::ledger::Ledger;
@@ -95,61 +92,6 @@ pub fn dream<W: Sink, C: Clock, K: Keeper, L: Ledger>(
 {
     match Host::open(alloc, keeper, key, steps) {
         Ok(mut host) => dreamed(alloc, &mut host, gameweek, output, clock, keeper, steps),
-        Err(fault) => unopened(alloc, fault, output),
-    }
-}
-
-/// Loads the season of the files in a folder for the operator with this key, and answers the exit status. `split` is the
-/// last gameweek of the first half, 0 for none.
-pub fn load<W: Sink, C: Clock, K: Keeper, F: Shelf, L: Ledger>(
-    alloc: Global,
-    key: &Key,
-    folder: &Text,
-    split: u8,
-    profile: Profile,
-    output: &mut W,
-    clock: &mut C,
-    keeper: &mut K,
-    shelf: &mut F,
-    steps: &mut Steps<L>,
-) -> u8
-    ensures loads { Loads K.tells K.serves K.holds K.passes K.faults keeper.old keeper.new key.now
-        (F.files shelf.old) folder.now split profile (C.left clock.old) (C.left clock.new)
-        (W.taken output.old) (W.taken output.new) result }
-    ensures statuses { (result ≡ 0) ⊎ (result ≡ 3) ⊎ (result ≡ 4) ⊎ (result ≡ 5) ⊎ (result ≡ 6)
-        ⊎ (result ≡ 9) ⊎ (result ≡ 10) ⊎ (result ≡ 11) ⊎ (result ≡ 13) }
-    ensures write { result ≡ 3 → Rose (W.faults output.old) (W.faults output.new) }
-    ensures keeper { result ≡ 4 → Rose (K.faults keeper.old) (K.faults keeper.new) }
-    ensures shelf { result ≡ 9 → Rose (F.faults shelf.old) (F.faults shelf.new) }
-{
-    match ordered_by(alloc, shelf, split, profile, folder) {
-        Ok(commands) => load_all(alloc, key, commands, output, clock, keeper, steps),
-        Err(fault) => unloaded(alloc, fault, output),
-    }
-}
-
-// Loads these commands.
-fn load_all<W: Sink, C: Clock, K: Keeper, L: Ledger>(
-    alloc: Global,
-    key: &Key,
-    commands: Vec<Command>,
-    output: &mut W,
-    clock: &mut C,
-    keeper: &mut K,
-    steps: &mut Steps<L>,
-) -> u8
-    requires { All IsCommand commands.items }
-    ensures loads { RunsThrough K.tells K.serves K.holds K.passes K.faults keeper.old keeper.new
-        key.now (C.left clock.old) (C.left clock.new) (W.taken output.old)
-        (W.taken output.new) result
-        (IsLoad commands.items (W.taken output.old) (W.taken output.new) result) }
-    ensures statuses { (result ≡ 0) ⊎ (result ≡ 3) ⊎ (result ≡ 4) ⊎ (result ≡ 5) ⊎ (result ≡ 6)
-        ⊎ (result ≡ 13) }
-    ensures write { result ≡ 3 → Rose (W.faults output.old) (W.faults output.new) }
-    ensures keeper { result ≡ 4 → Rose (K.faults keeper.old) (K.faults keeper.new) }
-{
-    match Host::open(alloc, keeper, key, steps) {
-        Ok(mut host) => loaded(alloc, &mut host, commands, output, clock, keeper, steps),
         Err(fault) => unopened(alloc, fault, output),
     }
 }

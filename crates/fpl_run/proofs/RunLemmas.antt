@@ -1,10 +1,11 @@
 -- How a run ends, from how its one write ended; and that what is due is one thing.
-use Rattle.std.proofs.Common.{◌≡◌, ◌∙◌, ℕ, List, Option, Some, None, IfSome, ap, subst, sym, arith, inl, inr, ◌⊎◌, refl}
+use Rattle.std.proofs.Common.{◌≡◌, ◌∙◌, ℕ, List, Option, Some, None, Result, IfSome, ap, subst, sym, arith, inl, inr, ◌⊎◌, refl}
 use Rattle.fpl_asking.specs.Printing.{Prints}
 use Rattle.fpl_base.specs.declared.kinds.Profile.{Profile}
 use Rattle.score_sheet.specs.Laws.{OneText, TextOrWrongRow, OneWrongRow}
 use Rattle.std.specs.Io.KnownBytes.{Keeps}
 use Rattle.fpl_base.specs.Keeping.{Map}
+use Rattle.fpl_base.specs.declared.outside.ShelfFault.{ShelfFault}
 use Rattle.fpl_words.specs.declared.words.Words.{Words}
 use Rattle.fpl_words.specs.declared.words.Words.TheVariants as order
 use Rattle.season_opening.specs.declared.loading.OpenFault.TheVariants as fault
@@ -36,15 +37,15 @@ one_due texts apart rows profile bytes s t x y (inr (inr p)) (inr (inl q)) = abs
 one_due texts apart rows profile bytes s t x y (inr (inr p)) (inr (inr q)) = (p.0 ∙ sym q.0, p.2 ∙ sym q.2)
 
 -- the words order this, and it was done
-pub runs_as : (K : Type 0) (tells serves : K → Type 0) (holds passes : K → Map → Type 0) (faults : K → ℕ) (said : Option Words) (one : Words) (old new : Outside K) (status : ℕ)
-    → said ≡ Some one → RunsAs tells serves holds passes faults (Some one) old new status → RunsAs tells serves holds passes faults said old new status
-runs_as K tells serves holds passes faults said one old new status is runs =
-    subst (λ (o : Option Words). RunsAs tells serves holds passes faults o old new status) (sym is) runs
+pub runs_as : (K F : Type 0) (tells serves : K → Type 0) (holds passes : K → Map → Type 0) (faults : K → ℕ) (once : F → List ℕ → Result (List ℕ) ShelfFault → F → Type 0) (said : Option Words) (one : Words) (old new : Outside K F) (status : ℕ)
+    → said ≡ Some one → RunsAs tells serves holds passes faults once (Some one) old new status → RunsAs tells serves holds passes faults once said old new status
+runs_as K F tells serves holds passes faults once said one old new status is runs =
+    subst (λ (o : Option Words). RunsAs tells serves holds passes faults once o old new status) (sym is) runs
 
-pub runs_none : (K : Type 0) (tells serves : K → Type 0) (holds passes : K → Map → Type 0) (faults : K → ℕ) (said : Option Words) (old new : Outside K) (status : ℕ)
-    → said ≡ None → IsUnread old.taken new.taken status × LeavesInput old new × LeavesHost old new → RunsAs tells serves holds passes faults said old new status
-runs_none K tells serves holds passes faults said old new status is runs =
-    subst (λ (o : Option Words). RunsAs tells serves holds passes faults o old new status) (sym is) runs
+pub runs_none : (K F : Type 0) (tells serves : K → Type 0) (holds passes : K → Map → Type 0) (faults : K → ℕ) (once : F → List ℕ → Result (List ℕ) ShelfFault → F → Type 0) (said : Option Words) (old new : Outside K F) (status : ℕ)
+    → said ≡ None → IsUnread old.taken new.taken status × LeavesInput old new × LeavesHost old new → RunsAs tells serves holds passes faults once said old new status
+runs_none K F tells serves holds passes faults once said old new status is runs =
+    subst (λ (o : Option Words). RunsAs tells serves holds passes faults once o old new status) (sym is) runs
 
 kept_none : (taken : Option (List ℕ)) → Keeps taken taken
 kept_none None = tt
@@ -58,10 +59,10 @@ score_out profile None taken = tt
 score_out profile (Some bytes) taken = out_of_memory (IsScoreDue profile bytes) taken
 
 -- there was no memory to read the words, and nothing was done
-pub no_memory : (K : Type 0) (tells serves : K → Type 0) (holds passes : K → Map → Type 0) (faults : K → ℕ) (said : Option Words) (old : Outside K)
-    → RunsAs tells serves holds passes faults said old old 6
-no_memory K tells serves holds passes faults None old = ((out_of_memory IsNotReadDue old.taken, inr (inr refl)), refl, (refl, refl, refl, refl, refl))
-no_memory K tells serves holds passes faults (Some (order.Score profile)) old = (
+pub no_memory : (K F : Type 0) (tells serves : K → Type 0) (holds passes : K → Map → Type 0) (faults : K → ℕ) (once : F → List ℕ → Result (List ℕ) ShelfFault → F → Type 0) (said : Option Words) (old : Outside K F)
+    → RunsAs tells serves holds passes faults once said old old 6
+no_memory K F tells serves holds passes faults once None old = ((out_of_memory IsNotReadDue old.taken, inr (inr refl)), refl, (refl, refl, refl, refl, refl))
+no_memory K F tells serves holds passes faults once (Some (order.Score profile)) old = (
   record {
     due = score_out profile old.left old.taken;
     end = λ is. absurd (omega (arith, is));
@@ -71,11 +72,11 @@ no_memory K tells serves holds passes faults (Some (order.Score profile)) old = 
   },
   (refl, refl, refl, refl, refl),
 )
-no_memory K tells serves holds passes faults (Some (order.Pipe key store)) old = (inr (refl, refl, (fault.Memory, refl, holds_still K tells serves holds passes old.keeper, (refl, refl))), inr refl, refl, refl)
-no_memory K tells serves holds passes faults (Some (order.Serve key port clients count pages store)) old = (inr (refl, refl, (fault.Memory, refl, holds_still K tells serves holds passes old.keeper, (refl, refl))), inr refl, refl, refl)
-no_memory K tells serves holds passes faults (Some (order.Load key store folder split profile)) old = (inl (load_fault.Memory, tt, (refl, refl), refl, refl), refl, refl)
-no_memory K tells serves holds passes faults (Some (order.Report key store shown)) old = (inr (refl, (fault.Memory, refl, holds_still K tells serves holds passes old.keeper, (refl, refl))), refl, refl, refl)
-no_memory K tells serves holds passes faults (Some (order.Generate seed store)) old = (inr (refl, (fault.Memory, refl, holds_still K tells serves holds passes old.keeper, (refl, refl))), refl, refl, refl, refl)
-no_memory K tells serves holds passes faults (Some (order.Dream key store gameweek)) old = (inr (refl, (fault.Memory, refl, holds_still K tells serves holds passes old.keeper, (refl, refl))), refl, refl, refl)
-no_memory K tells serves holds passes faults (Some (order.Events key store fixture minutes)) old = (inr (inr (inr refl), refl, refl, refl), refl, refl)
-no_memory K tells serves holds passes faults (Some (order.Draft key store members)) old = (inr (inr (inr refl), refl, refl, refl), refl, refl)
+no_memory K F tells serves holds passes faults once (Some (order.Pipe key store)) old = (inr (refl, refl, (fault.Memory, refl, holds_still K tells serves holds passes old.keeper, (refl, refl))), inr refl, refl, refl)
+no_memory K F tells serves holds passes faults once (Some (order.Serve key port clients count pages store)) old = (inr (refl, refl, (fault.Memory, refl, holds_still K tells serves holds passes old.keeper, (refl, refl))), inr refl, refl, refl)
+no_memory K F tells serves holds passes faults once (Some (order.Load key store folder split profile)) old = ((None, inl (load_fault.Memory, tt, (1, inl refl), (refl, refl), refl, refl, refl), refl), refl, refl)
+no_memory K F tells serves holds passes faults once (Some (order.Report key store shown)) old = (inr (refl, (fault.Memory, refl, holds_still K tells serves holds passes old.keeper, (refl, refl))), refl, refl, refl)
+no_memory K F tells serves holds passes faults once (Some (order.Generate seed store)) old = (inr (refl, (fault.Memory, refl, holds_still K tells serves holds passes old.keeper, (refl, refl))), refl, refl, refl, refl)
+no_memory K F tells serves holds passes faults once (Some (order.Dream key store gameweek)) old = (inr (refl, (fault.Memory, refl, holds_still K tells serves holds passes old.keeper, (refl, refl))), refl, refl, refl)
+no_memory K F tells serves holds passes faults once (Some (order.Events key store fixture minutes)) old = (inr (inr (inr refl), refl, refl, refl), refl, refl)
+no_memory K F tells serves holds passes faults once (Some (order.Draft key store members)) old = (inr (inr (inr refl), refl, refl, refl), refl, refl)

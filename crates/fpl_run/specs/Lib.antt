@@ -2,4 +2,5 @@ pub mod Drafts
 pub mod Events
 pub mod Input
 pub mod Laws
+pub mod Loads
 pub mod Run

@@ -1,9 +1,10 @@
 -- What a run owes to its words and its input, and how it may end.
-use Rattle.std.specs.Prelude.{◌≡◌, ◌≤◌, ◌<◌, ◌++◌, ◌⊎◌, [], ◌∷◌, ℕ, List, Option, Some, None, IfSome, length, codes}
+use Rattle.std.specs.Prelude.{◌≡◌, ◌≤◌, ◌<◌, ◌++◌, ◌⊎◌, [], ◌∷◌, ℕ, List, Option, Some, None, Result, IfSome, length, codes}
 use Rattle.std.specs.Fmt.{decimal}
 use Rattle.std.specs.Io.KnownBytes.{Appends, IsAtEnd, Keeps}
 use Rattle.fpl_base.specs.Causes.{AppendsFront}
 use Rattle.fpl_base.specs.declared.kinds.Profile.{Profile}
+use Rattle.fpl_base.specs.declared.outside.ShelfFault.{ShelfFault}
 use Rattle.fpl_base.specs.Keeping.{Map}
 use Rattle.fpl_base.specs.Moments.{Moments}
 use Rattle.fpl_words.specs.declared.words.Words.{Words}
@@ -11,11 +12,12 @@ use Rattle.fpl_words.specs.declared.words.Words.TheVariants as order
 use Rattle.score_sheet.specs.Sheets.{Scores, HasWrongRow}
 use Rattle.fpl_run.specs.Input.{TakesAtMost}
 use Rattle.fpl_serving.specs.Pipe.{Pipes}
-use Rattle.fpl_requests.specs.Requests.{Dreams, Generates, Loads, Reports}
+use Rattle.fpl_requests.specs.Requests.{Dreams, Generates, Reports}
 use Rattle.fpl_serving.specs.Reading.{PipeCounts, ServeCounts}
 use Rattle.fpl_serving.specs.Serve.{DoorState, Serves}
 use Rattle.fpl_run.specs.Drafts.{Drafted}
 use Rattle.fpl_run.specs.Events.{Recorded}
+use Rattle.fpl_run.specs.Loads.{Handed, Loaded}
 
 -- the text for words that are not read
 abbrev pub not_read_text : List ℕ
@@ -48,14 +50,14 @@ Ends Due status before after =
 -- What a run promises, by its words.
 
 -- what is outside of a run, before it or behind it, as far as it tells: what the input has left, the moments that the clock has
--- left, what the output took, the keeper, the doors, and the files of the shelf; and how many reads were counted
-pub record Outside (K : Type 0) : Type 0 where
+-- left, what the output took, the keeper, the doors, and the files with what was noted of a load; and how many reads were counted
+pub record Outside (K F : Type 0) : Type 0 where
   pub left : Option (List ℕ)
   pub moments : Option Moments
   pub taken : Option (List ℕ)
   pub keeper : K
   pub doors : DoorState
-  pub files : Option (List ℕ → List ℕ)
+  pub files : Handed F
   pub reads : ℕ
 
 -- a run of `score`: it ended as is due for the bytes that the input had, read it to its end where the status is 0, never took
@@ -77,49 +79,50 @@ connections_in (Some (order.Serve key port clients connections pages store)) = c
 connections_in said = 0
 
 -- a run that was not handed the input, and none but `serve` the doors, left them as they were
-abbrev pub LeavesInput : {K : Type 0} → Outside K → Outside K → Type 0
+abbrev pub LeavesInput : {K F : Type 0} → Outside K F → Outside K F → Type 0
 LeavesInput old new = new.left ≡ old.left
 
-abbrev pub LeavesDoors : {K : Type 0} → Outside K → Outside K → Type 0
+abbrev pub LeavesDoors : {K F : Type 0} → Outside K F → Outside K F → Type 0
 LeavesDoors old new = new.doors ≡ old.doors
 
--- no run but that of `load` is handed the files
-abbrev pub LeavesFiles : {K : Type 0} → Outside K → Outside K → Type 0
+-- no run but that of `load` is handed the files, or notes anything
+abbrev pub LeavesFiles : {K F : Type 0} → Outside K F → Outside K F → Type 0
 LeavesFiles old new = new.files ≡ old.files
 
 -- a run without a host is handed neither the keeper nor the clock, and counts no read
-abbrev pub LeavesHost : {K : Type 0} → Outside K → Outside K → Type 0
+abbrev pub LeavesHost : {K F : Type 0} → Outside K F → Outside K F → Type 0
 LeavesHost old new = (new.keeper ≡ old.keeper) × (new.moments ≡ old.moments) × (new.reads ≡ old.reads) × LeavesDoors old new × LeavesFiles old new
 
 -- a run by what the words order
-abbrev pub RunsAs : {K : Type 0} → (K → Type 0) → (K → Type 0) → (K → Map → Type 0) → (K → Map → Type 0) → (K → ℕ) → Option Words → Outside K → Outside K → ℕ → Type 0
-RunsAs tells serves holds passes faults (Some (order.Score profile)) old new status =
+abbrev pub RunsAs : {K F : Type 0} → (K → Type 0) → (K → Type 0) → (K → Map → Type 0) → (K → Map → Type 0) → (K → ℕ) → (F → List ℕ → Result (List ℕ) ShelfFault → F → Type 0)
+    → Option Words → Outside K F → Outside K F → ℕ → Type 0
+RunsAs tells serves holds passes faults once (Some (order.Score profile)) old new status =
     Scored profile old.left new.left old.taken new.taken status × LeavesHost old new
-RunsAs tells serves holds passes faults (Some (order.Pipe key store)) old new status =
+RunsAs tells serves holds passes faults once (Some (order.Pipe key store)) old new status =
     Pipes tells serves holds passes faults old.keeper new.keeper key old.left new.left old.moments new.moments old.taken new.taken status
     × PipeCounts tells holds passes old.keeper new.keeper key old.left new.left old.moments new.moments old.reads new.reads
     × LeavesDoors old new × LeavesFiles old new
-RunsAs tells serves holds passes faults (Some (order.Serve key port clients connections pages store)) old new status =
+RunsAs tells serves holds passes faults once (Some (order.Serve key port clients connections pages store)) old new status =
     Serves tells serves holds passes faults old.keeper new.keeper key connections old.doors new.doors old.moments new.moments old.taken new.taken status
     × ServeCounts tells holds passes old.keeper new.keeper key connections old.doors new.doors old.moments new.moments old.reads new.reads
     × LeavesInput old new × LeavesFiles old new
-RunsAs tells serves holds passes faults (Some (order.Load key store folder split profile)) old new status =
-    Loads tells serves holds passes faults old.keeper new.keeper key old.files folder split profile old.moments new.moments old.taken new.taken status
+RunsAs tells serves holds passes faults once (Some (order.Load key store folder split profile)) old new status =
+    Loaded tells serves holds passes faults once old.keeper new.keeper key folder split profile old.files new.files old.moments new.moments old.taken new.taken status
     × LeavesInput old new × LeavesDoors old new
-RunsAs tells serves holds passes faults (Some (order.Report key store shown)) old new status =
+RunsAs tells serves holds passes faults once (Some (order.Report key store shown)) old new status =
     Reports tells serves holds passes faults old.keeper new.keeper key shown old.moments new.moments old.taken new.taken status
     × LeavesInput old new × LeavesDoors old new × LeavesFiles old new
-RunsAs tells serves holds passes faults (Some (order.Generate seed store)) old new status =
+RunsAs tells serves holds passes faults once (Some (order.Generate seed store)) old new status =
     Generates tells serves holds passes faults old.keeper new.keeper seed old.moments old.taken new.taken status
     × (new.moments ≡ old.moments) × LeavesInput old new × LeavesDoors old new × LeavesFiles old new
-RunsAs tells serves holds passes faults (Some (order.Dream key store gameweek)) old new status =
+RunsAs tells serves holds passes faults once (Some (order.Dream key store gameweek)) old new status =
     Dreams tells serves holds passes faults old.keeper new.keeper key gameweek old.moments new.moments old.taken new.taken status
     × LeavesInput old new × LeavesDoors old new × LeavesFiles old new
-RunsAs tells serves holds passes faults (Some (order.Events key store fixture minutes)) old new status =
+RunsAs tells serves holds passes faults once (Some (order.Events key store fixture minutes)) old new status =
     Recorded tells serves holds passes faults old.keeper new.keeper key fixture minutes old.left new.left old.moments new.moments old.taken new.taken status
     × LeavesDoors old new × LeavesFiles old new
-RunsAs tells serves holds passes faults (Some (order.Draft key store members)) old new status =
+RunsAs tells serves holds passes faults once (Some (order.Draft key store members)) old new status =
     Drafted tells serves holds passes faults old.keeper new.keeper key members old.left new.left old.moments new.moments old.taken new.taken status
     × LeavesDoors old new × LeavesFiles old new
-RunsAs tells serves holds passes faults None old new status =
+RunsAs tells serves holds passes faults once None old new status =
     IsUnread old.taken new.taken status × LeavesInput old new × LeavesHost old new

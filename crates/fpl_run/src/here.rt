@@ -2,7 +2,9 @@
 ghost use Rattle.std.specs.Prelude.{◌≡◌, ◌<◌, None};
 
 use crate::run::run;
-use fpl_base::{Doors, Keeper, Reading, Shelf, Steps, SystemClock, Text, Writing};
+use fpl_base::{Doors, Keeper, Reading, Steps, SystemClock, Text, Writing};
+use fpl_loading::Note;
+use fpl_shelves::AskedShelf;
 use std::alloc::Global;
 use std::io;
 use std::marker::Brand;
@@ -10,26 +12,28 @@ use std::sync::ledger::{Blank, Ledger};
 
 /// Runs the program, as `run` does, over the standard input and output and the clock of this machine, with a counter of reads
 /// that nobody looks at. It answers the exit status.
-pub fn run_here<K: Keeper, D: Doors, F: Shelf>(
+pub fn run_here<K: Keeper, D: Doors, F: AskedShelf>(
     rt: &HostRuntime,
     alloc: Global,
     words: &[Text],
     keeper: &mut K,
     doors: &mut D,
     shelf: &mut F,
+    note: &mut Option<Note>,
 ) -> u8
     requires untold { (d : D) → D.coming d ≡ None }
 {
-    counted::<K, D, F, Brand>(rt, alloc, words, keeper, doors, shelf, Blank::new(1))
+    counted::<K, D, F, Brand>(rt, alloc, words, keeper, doors, shelf, note, Blank::new(1))
 }
 
-fn counted<K: Keeper, D: Doors, F: Shelf, L: Ledger>(
+fn counted<K: Keeper, D: Doors, F: AskedShelf, L: Ledger>(
     rt: &HostRuntime,
     alloc: Global,
     words: &[Text],
     keeper: &mut K,
     doors: &mut D,
     shelf: &mut F,
+    note: &mut Option<Note>,
     blank: Blank,
 ) -> u8
     requires untold { (d : D) → D.coming d ≡ None }
@@ -49,6 +53,7 @@ fn counted<K: Keeper, D: Doors, F: Shelf, L: Ledger>(
         keeper,
         doors,
         shelf,
+        note,
         &mut steps,
     )
 }

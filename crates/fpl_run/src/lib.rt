@@ -6,6 +6,7 @@ mod events;
 mod here;
 mod input;
 mod laws;
+mod loads;
 pub mod run;
 mod score;
 

@@ -9,21 +9,24 @@ ghost use Rattle.fpl_run.specs.Run.{Ends, IsScoreDue, RunsAs, connections_in};
 
 use crate::drafts::draft;
 use crate::events::events;
+use crate::loads::load;
 use crate::score::{Halt, score_due};
 use fpl_asking::print;
 use fpl_asking::status::{MEMORY, READ_FAULT, WORDS};
-use fpl_base::{Clock, Doors, Keeper, Profile, Shelf, Sink, Source, Steps, Text};
-use fpl_requests::{dream, generate, load, report};
+use fpl_base::{Clock, Doors, Keeper, Profile, Sink, Source, Steps, Text};
+use fpl_loading::Note;
+use fpl_requests::{dream, generate, report};
 use fpl_serving::pipe::pipe;
 use fpl_serving::serve::serve;
+use fpl_shelves::AskedShelf;
 use fpl_words::{WordFault, Words, words_of};
 use std::alloc::Global;
 use std::sync::ledger::Ledger;
 
 const NOT_READ: &str = "words not read\n";
 
-/// The program: its words, and what it is handed. It answers the exit status.
-pub fn run<S: Source, W: Sink, C: Clock, K: Keeper, D: Doors, F: Shelf, L: Ledger>(
+/// The program: its words, and what it is handed. It answers the exit status; what whoever loads should know beside is noted.
+pub fn run<S: Source, W: Sink, C: Clock, K: Keeper, D: Doors, F: AskedShelf, L: Ledger>(
     alloc: Global,
     words: &[Text],
     input: &mut S,
@@ -32,6 +35,7 @@ pub fn run<S: Source, W: Sink, C: Clock, K: Keeper, D: Doors, F: Shelf, L: Ledge
     keeper: &mut K,
     doors: &mut D,
     shelf: &mut F,
+    note: &mut Option<Note>,
     steps: &mut Steps<L>,
 ) -> u8
     // Doors that tell their connections have as many as the words ask for, and doors that tell none never will.
@@ -39,14 +43,14 @@ pub fn run<S: Source, W: Sink, C: Clock, K: Keeper, D: Doors, F: Shelf, L: Ledge
         (λ all. connections_in (ordered words.now) ≤ length all) }
 
     // What the words order was done.
-    ensures runs { RunsAs K.tells K.serves K.holds K.passes K.faults (ordered words.now)
+    ensures runs { RunsAs K.tells K.serves K.holds K.passes K.faults F.one_read (ordered words.now)
         (record {
           left = S.left input.old;
           moments = C.left clock.old;
           taken = W.taken output.old;
           keeper = keeper.old;
           doors = doors_as (D.coming doors.old) (D.given_back doors.old) (D.faults doors.old);
-          files = F.files shelf.old;
+          files = record { shelf = shelf.old; texts = F.files shelf.old; noted = note.old };
           reads = steps.old;
         })
         (record {
@@ -55,7 +59,7 @@ pub fn run<S: Source, W: Sink, C: Clock, K: Keeper, D: Doors, F: Shelf, L: Ledge
           taken = W.taken output.new;
           keeper = keeper.new;
           doors = doors_as (D.coming doors.new) (D.given_back doors.new) (D.faults doors.new);
-          files = F.files shelf.new;
+          files = record { shelf = shelf.new; texts = F.files shelf.new; noted = note.new };
           reads = steps.new;
         }) result }
 
@@ -94,7 +98,7 @@ pub fn run<S: Source, W: Sink, C: Clock, K: Keeper, D: Doors, F: Shelf, L: Ledge
                 ..
             },
         ) => load(
-            alloc, &key, &dir, split, profile, output, clock, keeper, shelf, steps,
+            alloc, &key, &dir, split, profile, output, clock, keeper, shelf, note, steps,
         ),
         Ok(Words::Report { key, what, .. }) => {
             report(alloc, &key, what, output, clock, keeper, steps)
