@@ -4,7 +4,7 @@ import { choice, field, input, make, quiet } from "./elements.js";
 import { recall, remember } from "./kept.js";
 import { POSITIONS, counted, money, plain, whole } from "./words.js";
 
-const AT_ONCE = 40;
+const AT_ONCE = 12; // rows, within a frame
 /** The figures by which players are sorted, and how they are written. */
 export const SORTS = {
 	total_points: { text: "Points", shown: whole },
@@ -27,11 +27,11 @@ function found(season, { search, position, club, price, sort }) {
 		(position === 0 || player.element_type === position) &&
 		(club === 0 || player.team === club) &&
 		(price === 0 || player.now_cost <= price) &&
-		plain(player.web_name).includes(words);
+		season.plainNames.get(player.id).includes(words);
 	return season.all.filter(fits).sort((one, other) => other[sort] - one[sort] || one.id - other.id);
 }
 
-/** The list with its filters: `open` makes what holds the rows, and `row` the row of a player. */
+/** The list with its filters: `open` makes what holds the rows, and `row` a player's row. */
 export function browsing(season, name, open, row) {
 	const place = make("div", { id: `list-${name}` });
 	const count = make("p.quiet.small", { role: "status" });
@@ -50,20 +50,17 @@ export function browsing(season, name, open, row) {
 function drawOn(players, place, rows, row) {
 	let drawn = 0;
 	const end = make("div");
+	const watcher = new IntersectionObserver((seen) => seen.some((it) => it.isIntersecting) && more(), { rootMargin: "800px" });
 	const more = () => {
 		rows.append(...players.slice(drawn, drawn + AT_ONCE).map(row));
 		drawn += AT_ONCE;
-	};
-	const watcher = new IntersectionObserver((seen) => {
-		if (drawn >= players.length) {
-			watcher.disconnect();
-		} else if (seen.some((it) => it.isIntersecting)) {
-			more();
+		watcher.disconnect();
+		if (drawn < players.length) {
+			watcher.observe(end);
 		}
-	}, { rootMargin: "800px" });
-	more();
+	};
 	place.append(end);
-	watcher.observe(end);
+	more();
 }
 
 function filters(season, name, redraw) {

@@ -45,7 +45,7 @@ function goalsOf(view) {
 	return [...of(GOALS), ...of(OWN_GOALS)];
 }
 
-/** Who may have scored it for the same side: a player of it, or one of the other side by an own goal. */
+/** Who may have scored it for the same side: a player of it, or one of the other by an own goal. */
 function takersOf(view) {
 	const { season, sheet, fixture } = view;
 	const isAtHome = ({ player, figure }) => (season.player(player).team === fixture.team_h) === (figure === GOALS);
@@ -112,7 +112,7 @@ async function corrected(view, busy) {
 	}
 }
 
-// What a correction changed: figures of players, of teams and of their places in leagues, by what they are
+// What a correction changed: figures of players and teams, and places in leagues, by what they are
 
 async function stateOf({ season, fixture, sheet }) {
 	const inMatch = sheet.lines.map((line) => line.player);

@@ -17,7 +17,7 @@ export async function drawFixtures(page, given) {
 	];
 }
 
-/** The matches of a gameweek by day, then those that stand in none; `more` is added to each. */
+/** The matches of a gameweek by day, then those in none; `more` is added to each. */
 export function matchesOf(season, gameweek, more) {
 	const matches = season.fixturesIn(gameweek);
 	const nowhere = season.fixturesIn(null);

@@ -96,7 +96,7 @@ export function readKept(target) {
 	return body;
 }
 
-/** Reads a view anew. Where it is as it was, the body is the same object as before. */
+/** Reads a view anew. If it is as it was, the body is the same object. */
 export async function readAnew(target) {
 	const answer = await ask("GET", target);
 	if (TRY_AGAIN.includes(answer.status)) {
@@ -148,7 +148,7 @@ export function command(target, members, { drafts = [], gameweek = null } = {}) 
 	});
 }
 
-/** Goes on with a command that was sent before a reload; null where there is none. */
+/** Goes on with a command that was sent before a reload; null if there is none. */
 export function resume() {
 	return alone(() => (recall("command") === null ? null : deliver()));
 }
@@ -201,7 +201,7 @@ async function answered(sent) {
 	}
 }
 
-/** Where the deadline has passed, a command that was surely not done is not sent any more. */
+/** Where the deadline has passed, a command that was not done is not sent any more. */
 async function refuseTooLate({ gameweek, number }) {
 	if (gameweek === null) {
 		return;

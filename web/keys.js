@@ -22,7 +22,7 @@ export async function drawKeys(page) {
 	];
 }
 
-/** The card is kept before the command goes out, so that no lost answer loses the key. */
+/** The card is kept before the command goes, so that no lost answer loses the key. */
 async function makeKey(page, busy, name) {
 	const card = { name, key: randomLetters(LETTERS) };
 	const before = recall(CARDS) ?? [];

@@ -38,7 +38,7 @@ export function withChange({ players, captain, vice }, one, other) {
 	return { players: order, captain: leader(captain), vice: leader(vice) };
 }
 
-/** A lineup with another captain or vice-captain; where he is the other one already, they change. */
+/** A lineup with another captain or vice-captain; if he is the other one, they change. */
 export function withLeader(lineup, armband, player) {
 	const other = armband === "captain" ? "vice" : "captain";
 	return { ...lineup, [other]: lineup[other] === player ? lineup[armband] : lineup[other], [armband]: player };

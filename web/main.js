@@ -263,7 +263,7 @@ function unsaved(text) {
 	part("unsaved").hidden = false;
 }
 
-/** A notice over the place, until it is closed or another place is opened. */
+/** A notice, until it is closed or another place is opened. */
 function say(kind, text) {
 	saidAt = Date.now();
 	const close = button("close-notice", "Close", () => part("notice").replaceChildren(), { kind: ".link" });

@@ -14,7 +14,7 @@ const REFUSALS = {
 	7: "The deadline of gameweek {gameweek} has to stand between the one before and the next.",
 	8: "Gameweek {gameweek} is locked, or that deadline has passed already.",
 	9: "{fixture} would kick off less than 90 minutes after the deadline.",
-	10: "{fixture} has figures or is finished, so it can only be moved to a gameweek that is locked.",
+	10: "{fixture} has figures or is finished, so it can only go to a locked gameweek.",
 	11: "{fixture} stands in no locked gameweek, so there is nothing to hand in yet.",
 	12: "{player} is there already.",
 	13: "A price goes from 3.0 to 20.0.",

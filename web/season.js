@@ -1,6 +1,7 @@
 // The season as the host tells it, by numbers.
 
 import { Refusal } from "./host.js";
+import { plain } from "./words.js";
 
 const seasons = new WeakMap(); // by the host's answers, so that each is gone through once
 const byId = (list) => new Map(list.map((item) => [item.id, item]));
@@ -27,6 +28,7 @@ class Season {
 		this.fixtures = fixtures;
 		this.gameweeks = events;
 		this.players = byId(elements);
+		this.plainNames = new Map(elements.map((player) => [player.id, plain(player.web_name)]));
 		this.clubs = byId(teams);
 		this.fixtureOf = byId(fixtures);
 		this.last = events.length;

@@ -10,7 +10,7 @@ import { CHIPS, POSITIONS, counted, money, when } from "./words.js";
 
 const SWAPS = "draft swaps"; // pairs of who goes, and who comes or null
 const SQUAD = "draft squad"; // the players of a first squad
-const MADE = "made"; // how many transfers of a gameweek were made in this window
+const MADE = "made"; // how many of a gameweek were made in this window
 const PLACES = [0, 2, 5, 5, 3]; // of a squad, by position
 const BUDGET = 1000;
 const COST = 4; // points for each transfer beyond the free ones
@@ -79,7 +79,7 @@ async function transfers(page, season, me) {
 	];
 }
 
-/** How many were made in the gameweek, as far as it is told: by what they cost, who is new, or what was made here. */
+/** How many were made in the gameweek, as far as it is told, by what they cost, who is new or what was made here. */
 async function madeSoFar(page, me) {
 	if (me.free === null || me.cost > 0) {
 		return me.free === null ? 0 : me.free + me.cost / COST;
@@ -100,7 +100,7 @@ function costOf({ me, made, swaps }) {
 /** The squad as it would be. A tap sells who is held, keeps who goes, and takes back who comes. */
 function squadButtons({ season, me, swaps, sells, keep }) {
 	const sell = (player) => () => {
-		filter("transfers", { position: positionIn(season)(player) });
+		filter("transfers", { position: positionIn(season)(player), search: "" });
 		keep([...swaps, { out: player, in: null }]);
 	};
 	const stay = (swap) => () => keep(swaps.filter((it) => it !== swap));

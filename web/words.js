@@ -29,7 +29,7 @@ export const STATS = {
 export const POSITIONS = ["", "goalkeeper", "defender", "midfielder", "forward"];
 export const SHORT_POSITIONS = ["", "GKP", "DEF", "MID", "FWD"];
 
-/** The chips by the names that commands have, each with that of the views below /api/. */
+/** The chips by their names in commands, each with that of the views below /api/. */
 export const CHIPS = {
 	wildcard: { view: "wildcard", name: "Wildcard", does: "All transfers of the gameweek are free. Once in each half of the season; it can't be taken back." },
 	free_hit: { view: "freehit", name: "Free hit", does: "All transfers of the gameweek are free, and afterwards your old squad is back. It can't be taken back." },
@@ -51,7 +51,7 @@ export const when = (moment) => moments.format(dateOf(moment));
 export const day = (moment) => days.format(dateOf(moment));
 export const hour = (moment) => hours.format(dateOf(moment));
 
-/** How long it is until a moment, in its two greatest parts; null where it has passed. */
+/** How long it is until a moment, in its two greatest parts; null if it has passed. */
 export function countdown(moment) {
 	let left = Math.ceil(moment - Date.now() / 1000);
 	if (left <= 0) {
@@ -62,7 +62,7 @@ export function countdown(moment) {
 		const count = Math.floor(left / length);
 		left -= count * length;
 		if (count > 0) {
-			parts.push(`${count} ${name}`);
+			parts.push(`${count}\u00a0${name}`);
 		}
 	}
 	return parts.slice(0, 2).join(" ") || "less than a minute";

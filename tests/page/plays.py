@@ -118,7 +118,7 @@ def transfers(stage):
         ins.append(held[-1])
         clubs.append(season.clubs[held[-1]])
     for out, into in zip(outs, ins):
-        page.tap(f"player-{out}").tap(f"buy-{into}")
+        choose(page.tap(f"player-{out}"), season, [into], "transfers")
     page.sees("3 transfers")
     cost = 4 * max(3 - me["free"], 0)
     page.tap("confirm").sees(f"They cost {cost} point", "dialog")
@@ -126,7 +126,7 @@ def transfers(stage):
     _, now = stage.served.ask("GET", "/me", KEA)
     need(now["cost"] == cost and set(ins) <= {it["player"] for it in now["players"]}, f"other transfers: {now}")
     into = fit(ins[0])
-    page.tap(f"player-{ins[0]}").tap(f"buy-{into}")
+    choose(page.tap(f"player-{ins[0]}"), season, [into], "transfers")
     season.operator.does("/gone", player=into, gone=True)
     page.tap("confirm").sees(f"Make them for {4 if cost else 4 * (3 - me['free'] + 1)} points", "dialog")
     page.tap("yes").sees(f"{season.names[into]} has left the league", "#notice")
@@ -147,7 +147,8 @@ def transfers_in_turn(stage):
     far = [it for it in season.positions if fits(it) and all(season.clubs[it] != season.clubs[held_one] for held_one in held)]
     first, second, third = (far or list(filter(fits, season.positions)))[:3]
     for goes, comes, button in ((out, first, "Make them"), (first, second, "Make them"), (other, third, "Make them for 4 points")):
-        page.tap(f"player-{goes}").tap(f"buy-{comes}").tap("confirm")
+        choose(page.tap(f"player-{goes}"), season, [comes], "transfers")
+        page.tap("confirm")
         page.until(lambda: page.text("#yes") == button, f"{button}, and not {page.text('#yes')}")
         page.tap("no" if button.endswith("points") else "yes").settled()
 
@@ -466,31 +467,20 @@ def screen_reader(stage):
 
 
 def keyboard(stage):
-    """A lineup is changed and saved with keys alone."""
-    from selenium.webdriver.common.keys import Keys
-
+    """One signs in, changes a lineup and saves it, and closes a dialog, with keys alone."""
     stage.open()
     stage.serve_played(1)
     _, me = stage.served.ask("GET", "/me", KEA)
     page = stage.window()
-    active = lambda: page.driver.switch_to.active_element
     page.find("#key")
-    active().send_keys(KEA, Keys.ENTER)
-    page.sees("Kea Kickers", "#header")
-    page.go("team")
-
-    def reach(id):
-        for _ in range(120):
-            if active().get_attribute("id") == id:
-                return active()
-            active().send_keys(Keys.TAB)
-        raise AssertionError(f"{id} is not reached")
-
-    reach(f"player-{me['players'][5]['player']}").send_keys(Keys.ENTER)
-    reach("captain").send_keys(Keys.ENTER)
-    reach("save").send_keys(Keys.SPACE)
+    page.press(*KEA, "Enter").sees("Kea Kickers", "#header")
+    page.reach("to-team").press("Enter").sees("My team for gameweek 2")
+    page.reach(f"player-{me['players'][5]['player']}").press("Enter").reach("captain").press("Enter").reach("save").press("Enter")
     page.sees("Your team is saved", "#notice")
     need(stage.served.ask("GET", "/me", KEA)[1]["captain"] == me["players"][5]["player"], "another captain")
+    page.reach("play-bench_boost").press("Enter").find("dialog")
+    page.press("Escape").until(lambda: not page.all("dialog"), "no dialog")
+    page.until(lambda: page.focus() == "play-bench_boost", "the focus where it was")
 
 
 def odd_gameweeks(stage):
@@ -560,20 +550,20 @@ def generated_season(stage):
     page = stage.window("entrykey0001")
     page.go("players").sees("600 players")
     script = """
-      const field = document.getElementById("players-search");
-      const times = [];
-      for (const text of ["p", "p1", "p12", "p1", "p", ""]) {
-        const begun = performance.now();
-        field.value = text;
-        field.dispatchEvent(new Event("input"));
-        document.body.getBoundingClientRect();
-        times.push(performance.now() - begun);
+      const [field, times] = [arguments[0], {}];
+      for (let turn = 0; turn < 30; turn += 1) {
+        for (const text of ["p", "p1", "p12", "p1", "p", ""]) {
+          const begun = performance.now();
+          field.value = text;
+          field.dispatchEvent(new Event("input"));
+          document.body.getBoundingClientRect();
+          times[text] = Math.min(times[text] ?? Infinity, performance.now() - begun);
+        }
       }
       return times;
     """
-    took = page.driver.execute_script(script)
-    print(f"a key press in the list of players takes {min(took):.0f} to {max(took):.0f} ms of work")
-    need(max(took) < FELT, f"a key press took {max(took):.0f} ms")
+    times = page.driver.execute_script(script, page.find("#players-search"))
+    need(max(times.values()) < FELT, f"key presses take, at best of many, so many milliseconds: {times}")
     page.driver.execute_script("scrollTo(0, document.body.scrollHeight)")
     page.until(lambda: len(page.all("tbody tr")) > 40, "the next rows")
     page.go("league/1")

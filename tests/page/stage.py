@@ -12,6 +12,7 @@ from served import Program, StandIn
 from wanted import Wrong, need
 
 SECONDS = 60  # the page may take, on a machine that is busy
+KEYS = {"Tab": 9, "Enter": 13, "Escape": 27}  # their numbers in key events
 TELEPHONE = 500  # pixels, below which a window is a telephone's
 ARGUMENTS = ("--headless=new", "--no-sandbox", "--disable-dev-shm-usage", "--lang=en-GB", "--disable-background-timer-throttling")
 EXPECTED = ("Failed to load resource", "net::ERR_")  # what Chromium says of answers that are refusals, and of a host that is gone
@@ -220,6 +221,26 @@ class Window:
         field.clear()
         field.send_keys(text)
         return self
+
+    def press(self, *keys):
+        """Presses keys, by their names or their letters, where the focus is."""
+        for key in keys:
+            text = {"Enter": "\r"}.get(key, key if len(key) == 1 else "")
+            event = {"key": key, "code": key, "windowsVirtualKeyCode": KEYS.get(key, 0), "text": text}
+            self.driver.execute_cdp_cmd("Input.dispatchKeyEvent", {"type": "keyDown", **event})
+            self.driver.execute_cdp_cmd("Input.dispatchKeyEvent", {"type": "keyUp", **event, "text": ""})
+        return self
+
+    def focus(self):
+        return self.driver.execute_script("return document.activeElement.id")
+
+    def reach(self, id):
+        """Moves the focus on by the keyboard until it is there."""
+        for _ in range(120):
+            if self.focus() == id:
+                return self
+            self.press("Tab")
+        raise Wrong(f"{id} is not reached by the keyboard")
 
     def set(self, id, value):
         """The value of a field, as if it was chosen there."""

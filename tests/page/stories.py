@@ -7,10 +7,10 @@ DAY = 86400
 MINUTES, GOALS = 0, 1  # the places of these figures in a line
 
 
-def choose(page, season, players):
-    """Picks these players from the list, each found by his name."""
+def choose(page, season, players, where="squad"):
+    """Picks these players from the list of this name, each found by his name."""
     for player in players:
-        page.set("squad-search", season.names[player]).tap(f"buy-{player}")
+        page.set(f"{where}-search", season.names[player]).tap(f"buy-{player}")
         page.find(f"#player-{player}")
 
 

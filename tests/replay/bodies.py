@@ -191,6 +191,18 @@ def fixture_members(body):
     return fixture, home, away, gameweek_or_null(body), number("kickoff", *MOMENT)(body)
 
 
+def name_and_position(body):
+    name = text("name")(body)
+    return name, POSITIONS.index(word("position", tuple(POSITIONS))(body))
+
+
+def two_clubs(body):
+    home, away = members(number("home", *CLUB), number("away", *CLUB))(body)
+    if home == away:
+        raise Malformed("away")
+    return home, away
+
+
 def chip_members(body):
     return (CHIPS.index(word("chip", CHIPS[1:])(body)),)
 
@@ -215,16 +227,19 @@ COMMANDS = {
     "season": Command(1, OPERATOR, season_members),
     "deadlines": Command(2, OPERATOR, members(number("gameweek", *GAMEWEEK), number("deadline", *MOMENT))),
     "players": Command(3, OPERATOR, player_members),
+    "amend_player": Command(24, OPERATOR, name_and_position),
     "prices": Command(4, OPERATOR, members(number("player", *PLAYER), number("price", *PRICE))),
     "clubs": Command(5, OPERATOR, members(number("player", *PLAYER), number("club", *CLUB))),
     "gone": Command(6, OPERATOR, members(number("player", *PLAYER), truth("gone"))),
     "fixtures": Command(7, OPERATOR, fixture_members),
+    "amend_fixture": Command(25, OPERATOR, two_clubs),
     "move": Command(8, OPERATOR, members(gameweek_or_null, number("kickoff", *MOMENT))),
     "sheet": Command(9, OPERATOR, members(rows("lines", 0, 100, number("player", *PLAYER), figures("figures")), truth("finished"))),
     "line": Command(10, OPERATOR, members(number("player", *PLAYER), figures("figures"))),
     "drop": Command(11, OPERATOR, members(number("player", *PLAYER))),
     "finished": Command(12, OPERATOR, members(truth("finished"))),
     "keys": Command(13, OPERATOR, members(small("key", 8, 64), text("name"))),
+    "rekey": Command(23, OPERATOR, members(small("key", 8, 64), text("name"))),
     "squad": Command(14, MANAGER, FIFTEEN),
     "transfers": Command(15, MANAGER, members(rows("swaps", 1, 15, number("out", *PLAYER), number("in", *PLAYER)))),
     "lineup": Command(16, MANAGER, FIFTEEN),
@@ -249,6 +264,7 @@ ROUTES = {
     "/fixtures/ID/drop": {"POST": "drop"},
     "/fixtures/ID/finished": {"POST": "finished"},
     "/keys": {"POST": "keys"},
+    "/keys/ID": {"POST": "rekey"},
     "/squad": {"POST": "squad"},
     "/transfers": {"POST": "transfers"},
     "/lineup": {"POST": "lineup"},
@@ -259,9 +275,9 @@ ROUTES = {
     "/leagues/ID/draw": {"POST": "draw"},
     "/cups": {"POST": "cups"},
     "/me": {"GET": "view_me"},
-    "/players/ID": {"GET": "view_player"},
+    "/players/ID": {"POST": "amend_player", "GET": "view_player"},
     "/players/ID/gameweeks/ID": {"GET": "view_player_gameweek"},
-    "/fixtures/ID": {"GET": "view_fixture"},
+    "/fixtures/ID": {"POST": "amend_fixture", "GET": "view_fixture"},
     "/entries/ID/gameweeks/ID": {"GET": "view_entry"},
     "/leagues/ID": {"GET": "view_league"},
     "/cups/ID": {"GET": "view_cup"},

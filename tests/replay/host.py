@@ -142,6 +142,21 @@ class Host(Windows):
         if not 30 <= price <= 200:
             raise Refused(13)
 
+    def has_been_used(self, player):
+        """Whether an entry has had a player, a transfer names him, or he has a line."""
+        events = [event for entry in self.entries for event in entry.events]
+        return (
+            any(player in event.players for event in events if isinstance(event, FirstSquad))
+            or any(player in (event.out, event.into) for event in events if isinstance(event, Swap))
+            or any(player in lines for lines in self.lines.values())
+        )
+
+    def do_amend_player(self, player, name, position):
+        self.need_player(player)
+        if self.players[player].position != position and self.has_been_used(player):
+            raise Refused(65, player=player)
+        self.players[player].name, self.players[player].position = name, position
+
     def do_prices(self, player, price):
         self.need_player(player)
         self.refuse_price(price)
@@ -183,6 +198,14 @@ class Host(Windows):
             raise Refused(10, fixture=fixture)
         self.refuse_place(fixture, gameweek, kickoff)
         self.fixtures[fixture].gameweek, self.fixtures[fixture].kickoff = gameweek, kickoff
+
+    def do_amend_fixture(self, fixture, home, away):
+        self.need_fixture(fixture)
+        self.need_club(home)
+        self.need_club(away)
+        if self.has_facts(fixture):
+            raise Refused(66, fixture=fixture)
+        self.fixtures[fixture].home, self.fixtures[fixture].away = home, away
 
     # The facts of a match
 
@@ -242,6 +265,12 @@ class Host(Windows):
             raise Refused(44)
         self.entries.append(Entry(key, name))
         return "entry", len(self.entries)
+
+    def do_rekey(self, entry, key, name):
+        self.need_entry(entry)
+        if self.caller_of(key) not in (None, entry):
+            raise Refused(44)
+        self.entries[entry - 1].key, self.entries[entry - 1].name = key, name
 
     def open_gameweek(self):
         """The gameweek in which managers act."""

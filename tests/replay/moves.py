@@ -125,6 +125,14 @@ class OperatorMoves(Asking):
     def player(self):
         self.add_player()
 
+    def amend_player(self):
+        """Another name of a player, and mostly his own position."""
+        chance, player = self.chance, self.any_player()
+        position = chance.choice("GDMF")
+        if chance.random() < 0.6 and player in self.host.players:
+            position = POSITIONS[self.host.players[player].position]
+        self.do(0, f"/players/{player}", [("name", chance.choice(NAMES) if chance.random() < 0.5 else f"Q{player}"), ("position", position)])
+
     def price(self):
         player = self.any_player()
         old = self.host.players[player].price if player in self.host.players else 50
@@ -176,6 +184,14 @@ class OperatorMoves(Asking):
         if chance.random() < 0.03:
             gameweek = chance.choice([gameweeks + 1, 38])
         self.do(0, f"/fixtures/{fixture}/move", [("gameweek", gameweek), ("kickoff", kickoff)])
+
+    def amend_fixture(self):
+        """Other clubs of a fixture, or the same."""
+        chance, fixture = self.chance, self.any_fixture()
+        home, away = chance.choice(self.clubs), chance.choice(self.clubs)
+        if chance.random() < 0.05:
+            away = chance.randint(1, 255)
+        self.do(0, f"/fixtures/{fixture}", [("home", home), ("away", away)])
 
     def deadline(self):
         chance, host = self.chance, self.host
@@ -325,6 +341,15 @@ class Moves(OperatorMoves):
         if chance.random() < 0.1:
             key = chance.choice([OPERATOR, "a" * 8, "0" * 64, "manager01"] + [entry.key for entry in entries])
         self.do(0, "/keys", [("key", key), ("name", chance.choice(NAMES) if chance.random() < 0.5 else f"E{number}")])
+
+    def rekey(self):
+        """Another key of an entry: a new one, its own, another's, or one that somebody had."""
+        chance, entries = self.chance, self.host.entries
+        entry = self.any_of(len(entries))
+        key = f"another{chance.randint(10, 40)}"
+        if chance.random() < 0.4:
+            key = chance.choice([OPERATOR, "a" * 8] + [f"manager{number:02}" for number in range(1, 9)] + [entry.key for entry in entries])
+        self.do(0, f"/keys/{entry}", [("key", key), ("name", chance.choice(NAMES) if chance.random() < 0.5 else f"R{entry}")])
 
     def is_registered(self, entry):
         return self.host.first_gameweek(entry) is not None

@@ -35,6 +35,8 @@ def command(name, ids, members):
         parts[3] = b"\2" if members[3] == 2 else b""
     if name == "players":
         parts[2] = bytes_of(1, members[2])
+    if name == "amend_player":
+        parts[1] = bytes_of(1, members[1])
     if name == "chip":
         parts[0] = bytes_of(1, members[0])
     if name == "leagues":

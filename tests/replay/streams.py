@@ -46,8 +46,8 @@ class Stream(Moves):
         entry = self.any_entry()
         if draw < 0.36:
             facts = ("sheet", "line", "drop", "finished", "finish_gameweek", "move")
-            others = ("fixture", "deadline", "price", "club", "gone", "player", "key", "draw", "cup", "season")
-            (name,) = chance.choices(facts + others, [10, 14, 5, 8, 4, 9, 3, 5, 8, 3, 3, 2, 2, 5, 4, 1])
+            others = ("fixture", "deadline", "price", "club", "gone", "player", "key", "draw", "cup", "season", "rekey", "amend_fixture", "amend_player")
+            (name,) = chance.choices(facts + others, [10, 14, 5, 8, 4, 9, 3, 5, 8, 3, 3, 2, 2, 5, 4, 1, 3, 3, 4])
             getattr(self, name)()
             if name in facts and chance.random() < 0.25:
                 self.all_views(chance.choice([0.1, 0.3]))

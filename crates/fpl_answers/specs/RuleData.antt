@@ -57,6 +57,8 @@ kept_of rule.PlayersFull = None
 kept_of (rule.FixtureThere fixture) = Some (codes "fixture", fixture)
 kept_of rule.FixturesFull = None
 kept_of rule.CupsFull = None
+kept_of (rule.InUse player) = Some (codes "player", player)
+kept_of (rule.FactsThere fixture) = Some (codes "fixture", fixture)
 
 -- these members with the kept one among them, in the ascending order of names
 abbrev pub with_kept : Option (List ℕ × ℕ) → Members → Members

@@ -37,14 +37,16 @@ fn kept_by(rule: Rule) -> Kept
         Rule::KickoffEarly { fixture }
         | Rule::HasFacts { fixture }
         | Rule::NotLocked { fixture }
-        | Rule::FixtureThere { fixture } => Kept::BeforeRule("fixture", u64::from(fixture.get())),
+        | Rule::FixtureThere { fixture }
+        | Rule::FactsThere { fixture } => Kept::BeforeRule("fixture", u64::from(fixture.get())),
         Rule::PlayerThere { player }
         | Rule::PlayerGone { player }
         | Rule::Twice { player }
         | Rule::NotHeld { player }
         | Rule::Held { player }
         | Rule::PositionSwap { player }
-        | Rule::LineTwice { player } => Kept::BeforeRule("player", u64::from(player.get())),
+        | Rule::LineTwice { player }
+        | Rule::InUse { player } => Kept::BeforeRule("player", u64::from(player.get())),
         Rule::ClubLimit { club } => Kept::BeforeError("club", u64::from(club.get())),
         Rule::OverBudget { short_by } => Kept::AfterRule("short_by", u64::from(short_by)),
         Rule::LineRange { field } => Kept::BeforeRule("field", u64::from(field)),

@@ -53,3 +53,5 @@ number_of rule.PlayersFull = 46
 number_of (rule.FixtureThere x) = 47
 number_of rule.FixturesFull = 48
 number_of rule.CupsFull = 49
+number_of (rule.InUse x) = 65
+number_of (rule.FactsThere x) = 66

@@ -55,6 +55,8 @@ pub enum Rule {
     FixtureThere { fixture: FixtureId },
     FixturesFull,
     CupsFull,
+    InUse { player: PlayerId },
+    FactsThere { fixture: FixtureId },
 }
 
 impl Rule {
@@ -112,6 +114,8 @@ impl Rule {
             Rule::FixtureThere { .. } => 47,
             Rule::FixturesFull => 48,
             Rule::CupsFull => 49,
+            Rule::InUse { .. } => 65,
+            Rule::FactsThere { .. } => 66,
         }
     }
 }

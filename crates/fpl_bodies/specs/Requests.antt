@@ -123,6 +123,12 @@ fixture d =
 abbrev pub move : ℕ → Data → Result Command FieldName
 move f d = place field.Gameweek d >>= λ g. moment field.Kickoff d >>= λ kickoff. Ok (command.Move f g kickoff)
 
+abbrev pub amend_player : ℕ → Data → Result Command FieldName
+amend_player p d = title field.Name d >>= λ name. position_in field.Position d >>= λ pos. Ok (command.AmendPlayer p name pos)
+
+abbrev pub amend_fixture : ℕ → Data → Result Command FieldName
+amend_fixture f d = club_id field.Home d >>= λ home. guest home d >>= λ away. Ok (command.AmendFixture f home away)
+
 abbrev pub sheet : ℕ → Data → Result Command FieldName
 sheet f d = lines d >>= λ ls. truth field.Finished d >>= λ finished. Ok (command.Sheet f ls finished)
 
@@ -137,6 +143,9 @@ finish f d = truth field.Finished d >>= λ finished. Ok (command.Finished f fini
 
 abbrev pub new_key : Data → Result Command FieldName
 new_key d = key field.Key d >>= λ k. title field.Name d >>= λ name. Ok (command.Key k name)
+
+abbrev pub rekey : ℕ → Data → Result Command FieldName
+rekey e d = key field.Key d >>= λ k. title field.Name d >>= λ name. Ok (command.Rekey e k name)
 
 abbrev pub squad : Data → Result Command FieldName
 squad d =
@@ -169,7 +178,7 @@ draw l d = order d >>= λ es. Ok (command.Draw l es)
 abbrev pub cup : Data → Result Command FieldName
 cup d = gameweek field.Start d >>= λ start. slots d >>= λ ss. coins d >>= λ cs. Ok (command.Cup start ss cs)
 
--- the command of a route at the id of its target, a fixture or a league, where it has one
+-- the command of a route at the id of its target, a player, a fixture, an entry or a league, where it has one
 abbrev pub command_of : CommandRoute → ℕ → Data → Result Command FieldName
 command_of route.Season f d = season d
 command_of route.Deadlines f d = deadline d
@@ -179,11 +188,14 @@ command_of route.Clubs f d = new_club d
 command_of route.Gone f d = gone d
 command_of route.Fixtures f d = fixture d
 command_of route.Move f d = move f d
+command_of route.AmendPlayer p d = amend_player p d
+command_of route.AmendFixture f d = amend_fixture f d
 command_of route.Sheet f d = sheet f d
 command_of route.Line f d = put f d
 command_of route.Drop f d = drop f d
 command_of route.Finished f d = finish f d
 command_of route.Keys f d = new_key d
+command_of route.Rekey e d = rekey e d
 command_of route.Squad f d = squad d
 command_of route.Transfers f d = transfers d
 command_of route.Lineup f d = lineup d

@@ -2,7 +2,7 @@
 ghost use Rattle.std.specs.Prelude.{◌≢◌, IfOk};
 ghost use Rattle.season_book.specs.Commands.{IsCommand};
 ghost use Rattle.fpl_bodies.specs.Members.{Gives};
-ghost use Rattle.fpl_bodies.specs.Requests.{command_of, cup, deadline, draw, drop, finish, fixture, gone, guest, join, league, lineup, move, new_club, new_key, new_price, play, player, put, season, sheet, squad, transfers};
+ghost use Rattle.fpl_bodies.specs.Requests.{amend_fixture, amend_player, command_of, cup, deadline, draw, drop, finish, fixture, gone, guest, join, league, lineup, move, new_club, new_key, new_price, play, player, put, rekey, season, sheet, squad, transfers};
 ghost use Rattle.json_tree.specs.Trees.{view};
 
 use crate::lists::{clubs, coins, deadlines, fifteen, lines, order, player_line, slots, swaps};
@@ -17,7 +17,7 @@ use json_tree::Tree;
 use season_book::Command;
 use std::alloc::Global;
 
-/// The command of a route at the id of its target, a fixture or a league, where it has one.
+/// The command of a route at the id of its target, a player, a fixture, an entry or a league, where it has one.
 pub(crate) fn read_command(
     alloc: Global,
     which: CommandRoute,
@@ -36,11 +36,14 @@ pub(crate) fn read_command(
         CommandRoute::Gone => gone(value),
         CommandRoute::Fixtures => fixture(value),
         CommandRoute::Move => moved(id, value),
+        CommandRoute::AmendPlayer => amend_player(alloc, id, value),
+        CommandRoute::AmendFixture => amend_fixture(id, value),
         CommandRoute::Sheet => sheet(alloc, id, value),
         CommandRoute::Line => put(alloc, id, value),
         CommandRoute::Drop => dropped(id, value),
         CommandRoute::Finished => finished(id, value),
         CommandRoute::Keys => new_key(alloc, value),
+        CommandRoute::Rekey => rekey(alloc, id, value),
         CommandRoute::Squad => squad(alloc, value),
         CommandRoute::Transfers => transfers(alloc, value),
         CommandRoute::Lineup => lineup(alloc, value),
@@ -168,6 +171,32 @@ fn moved(fixture: u32, value: &Tree<'_, '_>) -> Result<Command, ReadFault>
     })
 }
 
+fn amend_player(alloc: Global, player: u32, value: &Tree<'_, '_>) -> Result<Command, ReadFault>
+    ensures gives { Gives result (amend_player player (view value.now)) }
+    ensures readable { IfOk result IsCommand }
+{
+    let name = title(alloc, value, FieldName::Name)?;
+    let position = position(value, FieldName::Position)?;
+    Ok(Command::AmendPlayer {
+        player,
+        name,
+        position,
+    })
+}
+
+fn amend_fixture(fixture: u32, value: &Tree<'_, '_>) -> Result<Command, ReadFault>
+    ensures gives { Gives result (amend_fixture fixture (view value.now)) }
+    ensures readable { IfOk result IsCommand }
+{
+    let home = club_id(value, FieldName::Home)?;
+    let away = guest(value, home)?;
+    Ok(Command::AmendFixture {
+        fixture,
+        home,
+        away,
+    })
+}
+
 fn sheet(alloc: Global, fixture: u32, value: &Tree<'_, '_>) -> Result<Command, ReadFault>
     ensures gives { Gives result (sheet fixture (view value.now)) }
     ensures readable { IfOk result IsCommand }
@@ -216,6 +245,15 @@ fn new_key(alloc: Global, value: &Tree<'_, '_>) -> Result<Command, ReadFault>
     let key = key(alloc, value, FieldName::Key)?;
     let name = title(alloc, value, FieldName::Name)?;
     Ok(Command::Key { key, name })
+}
+
+fn rekey(alloc: Global, entry: u32, value: &Tree<'_, '_>) -> Result<Command, ReadFault>
+    ensures gives { Gives result (rekey entry (view value.now)) }
+    ensures readable { IfOk result IsCommand }
+{
+    let key = key(alloc, value, FieldName::Key)?;
+    let name = title(alloc, value, FieldName::Name)?;
+    Ok(Command::Rekey { entry, key, name })
 }
 
 fn squad(alloc: Global, value: &Tree<'_, '_>) -> Result<Command, ReadFault>

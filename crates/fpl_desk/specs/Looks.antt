@@ -1,9 +1,12 @@
 -- How many reads are counted while nothing but views is asked, and no deadline passes by the moments that the clock told.
-use Rattle.std.specs.Prelude.{◌≡◌, ◌≤◌, ◌+◌, ℕ, List, [], ◌∷◌, Option, Ok, Err, false, sum, ⊤}
+use Rattle.std.specs.Prelude.{◌≡◌, ◌≤◌, ◌+◌, ◌⊎◌, ℕ, List, [], ◌∷◌, Option, Ok, Err, true, false, sum, ⊤}
 use Rattle.std.specs.Io.KnownBytes.{Consumes}
 use Rattle.fpl_base.specs.Moments.{Moments, Tells}
 use Rattle.fpl_base.specs.declared.kinds.Caller.{Caller}
 use Rattle.fpl_http.specs.Stream.{Request as Message}
+use Rattle.fpl_routes.specs.Targets.{IsFound}
+use Rattle.fpl_routes.specs.declared.route.Found.TheVariants as found
+use Rattle.fpl_routes.specs.declared.route.Route.{Route}
 use Rattle.fpl_session.specs.Replies.{Speaks}
 use Rattle.fpl_session.specs.Runs.{Run}
 use Rattle.fpl_session.specs.Stops.{Leads}
@@ -12,10 +15,10 @@ use Rattle.season_book.specs.Hosts.{HostState}
 use Rattle.season_book.specs.declared.request.Request.{Request}
 use Rattle.season_book.specs.declared.request.Request.TheVariants as request
 use Rattle.season_host.specs.Accepted.{locks_more}
-use Rattle.season_running.specs.Standing.{StandsIn}
+use Rattle.season_running.specs.Standing.{HostRows, StandsIn, passed}
 use Rattle.season_views.specs.Reads.{view_reads}
 use Rattle.fpl_replies.specs.Replying.{Asking, IsAsked, Reply}
-use Rattle.fpl_desk.specs.Kept.{Kept}
+use Rattle.fpl_desk.specs.Kept.{Kept, asked_in}
 
 -- what goes from message to message as it is kept, and how many reads were counted
 pub record Counted (K : Type 0) : Type 0 where
@@ -51,6 +54,23 @@ AreLooks host [] [] = ⊤
 AreLooks host (m ∷ messages) (most ∷ more) = IsLook host m most × AreLooks host messages more
 AreLooks host messages more = ⊥
 
+-- no command is asked
+abbrev pub IsNoCommand : Request → Type 0
+IsNoCommand (request.View view) = ⊤
+IsNoCommand (request.Command number command) = ⊥
+
+abbrev pub AsksNoCommand : Asking → Type 0
+AsksNoCommand (Ok (caller, asked)) = IsNoCommand asked
+AsksNoCommand (Err refusal) = ⊤
+
+-- nor does a message ask one of a host with these rows, or any of these
+abbrev pub OrdersNone : HostRows → Message → Type 0
+OrdersNone rows message = (route : Route) (ids : List ℕ) → IsFound message.method message.target (found.Route route ids) → AsksNoCommand (asked_in rows message route ids)
+
+abbrev pub AllOrderNone : HostRows → List Message → Type 0
+AllOrderNone rows [] = ⊤
+AllOrderNone rows (m ∷ messages) = OrdersNone rows m × AllOrderNone rows messages
+
 -- Moments.
 
 -- a clock told these moments, one after another
@@ -63,6 +83,11 @@ abbrev pub LockNone : Book → List ℕ → Type 0
 LockNone book [] = ⊤
 LockNone book (now ∷ told) = (locks_more book.facts now ≡ false) × LockNone book told
 
+-- the rows with the locks of these moments, one after another
+abbrev pub passed_on : List ℕ → HostRows → HostRows
+passed_on [] rows = rows
+passed_on (now ∷ told) rows = passed_on told (passed now rows)
+
 -- What is counted.
 
 -- the host and its keeper are as they were, and no more than so many reads were counted
@@ -71,28 +96,36 @@ pub record LooksOn {K : Type 0} (old new : Counted K) (most : ℕ) : Type 0 wher
   pub keeper : new.kept.keeper ≡ old.kept.keeper
   pub reads : new.reads ≤ old.reads + most
 
--- what was found to be asked of a host that is ready, in each book that its rows stand for, where no moment that was told for
--- it locks a gameweek
-abbrev pub CountsAs : {K : Type 0} → Asking → Counted K → Counted K → Type 0
-CountsAs asking old new =
-    (told : List ℕ) × TellsOn old.kept.moments told new.kept.moments
-    × ((book : Book) → StandsIn old.kept.host.rows book → (most : ℕ) → MayRead book asking most → LockNone book told → LooksOn old new most)
+-- What was found to be asked of a host that is ready. In each book that its rows stand for, where no moment that was told for it
+-- locks a gameweek, it counts no more than it may; and unless it is a command the rows have the locks of these moments, and
+-- nothing else
+pub record CountsAs {K : Type 0} (asking : Asking) (old new : Counted K) : Type 0 where
+  pub told : List ℕ
+  pub tells : TellsOn old.kept.moments told new.kept.moments
+  pub few : (book : Book) → StandsIn old.kept.host.rows book → (most : ℕ) → MayRead book asking most → LockNone book told → LooksOn old new most
+  pub locks : AsksNoCommand asking → new.kept.host.rows ≡ passed_on told old.kept.host.rows
 
--- a message that comes to a host that is not stale and asks nothing but a view of it, where no moment that was told for it locks
--- a gameweek
-abbrev pub CountsLooks : {K : Type 0} → Counted K → Message → Reply → Counted K → Type 0
-CountsLooks old message reply new =
-    (told : List ℕ) × TellsOn old.kept.moments told new.kept.moments
-    × (old.kept.host.stale ≡ false → (book : Book) → StandsIn old.kept.host.rows book → (most : ℕ) → IsLook (host_with old book) message most → LockNone book told
-    → LooksOn old new most)
+-- so it is of a message that comes to a host that is not stale; a stale one is read again, or stays as it is
+pub record CountsLooks {K : Type 0} (old : Counted K) (message : Message) (reply : Reply) (new : Counted K) : Type 0 where
+  pub told : List ℕ
+  pub tells : TellsOn old.kept.moments told new.kept.moments
+  pub few : old.kept.host.stale ≡ false → (book : Book) → StandsIn old.kept.host.rows book → (most : ℕ) → IsLook (host_with old book) message most → LockNone book told
+      → LooksOn old new most
+  pub locks : old.kept.host.stale ≡ false → OrdersNone old.kept.host.rows message → new.kept.host.rows ≡ passed_on told old.kept.host.rows
+  pub again : old.kept.host.reread ≡ true → new.kept.host.reread ≡ true
+  pub stale : old.kept.host.stale ≡ true → (new.kept.host ≡ old.kept.host) ⊎ (new.kept.host.reread ≡ true)
 
 -- Where these messages ask nothing but views of a host that is not stale, and no moment that was told for them locks a gameweek,
--- the host and its keeper stay, and no more reads are counted than these views allow in all.
-abbrev pub ReadFew : {K : Type 0} → List Message → Counted K → Counted K → Type 0
-ReadFew messages old new =
-    (told : List ℕ) × TellsOn old.kept.moments told new.kept.moments
-    × ((book : Book) (more : List ℕ) → old.kept.host.stale ≡ false → StandsIn old.kept.host.rows book
-    → AreLooks (host_with old book) messages more → LockNone book told → LooksOn old new (sum more))
+-- the host and its keeper stay, and no more reads are counted than these views allow in all. And where none orders anything, the
+-- rows of a host that is not stale behind them, and was not read again, have the locks of the moments that were told, and
+-- nothing else: so where no gameweek is locked behind them that was not before, none of the moments locked one.
+pub record ReadFew {K : Type 0} (messages : List Message) (old new : Counted K) : Type 0 where
+  pub told : List ℕ
+  pub tells : TellsOn old.kept.moments told new.kept.moments
+  pub few : (book : Book) (more : List ℕ) → old.kept.host.stale ≡ false → StandsIn old.kept.host.rows book
+      → AreLooks (host_with old book) messages more → LockNone book told → LooksOn old new (sum more)
+  pub locks : old.kept.host.stale ≡ false → AllOrderNone old.kept.host.rows messages → new.kept.host.stale ≡ false → new.kept.host.reread ≡ false
+      → new.kept.host.rows ≡ passed_on told old.kept.host.rows
 
 -- so it is of every run
 abbrev pub RunsReadFew : Type 0 → Type 0

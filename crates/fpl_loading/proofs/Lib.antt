@@ -1,2 +1,4 @@
+pub mod AddingLemmas
 pub mod FileLemmas
 pub mod LoadingLemmas
+pub mod RowLemmas

@@ -20,7 +20,7 @@ pub fn unloaded<W: Sink>(alloc: Global, fault: LoadFault, output: &mut W) -> u8
     match fault {
         LoadFault::Shelf { .. } => SHELF,
         LoadFault::Long { .. } => TOO_LONG,
-        LoadFault::Row { file, row } => match row_line(alloc, file, row) {
+        LoadFault::Row { file, row } => match row_line(alloc, file, u64::from(row)) {
             Ok(text) => print(output, text.as_bytes(), WRONG_ROW),
             Err(AllocError) => MEMORY,
         },
@@ -28,7 +28,8 @@ pub fn unloaded<W: Sink>(alloc: Global, fault: LoadFault, output: &mut W) -> u8
     }
 }
 
-fn row_line(alloc: Global, file: u8, row: u32) -> Result<String, AllocError>
+// The line that names a row.
+pub(crate) fn row_line(alloc: Global, file: u8, row: u64) -> Result<String, AllocError>
     ensures { IfOk result (λ text. string_bytes text ≡ row_text file row) }
 {
     format!(in alloc; "{} row {}\n", file_name(file), row)

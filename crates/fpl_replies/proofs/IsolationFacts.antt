@@ -10,7 +10,7 @@ use Rattle.season_book.specs.Verdict.{IsVerdict}
 use Rattle.season_book.specs.declared.answer.Answer.{Answer}
 use Rattle.season_book.specs.declared.answer.Answer.TheVariants as answer
 use Rattle.season_book.specs.declared.request.Request.{Request as Asked}
-use Rattle.season_isolation.specs.Isolation.{AnswersAreIsolated}
+use Rattle.season_isolation.specs.Isolation.{AnswersAreIsolated, SameUseOf}
 use Rattle.fpl_answers.specs.Answers.{status_of}
 use Rattle.fpl_routes.specs.Callers.{is_for}
 use Rattle.fpl_bodies.specs.Requests.{request_of}
@@ -65,7 +65,7 @@ abbrev ready_of : Served → Served
 ready_of old = record old { stale = None }
 
 ready_alike : (message : Request) (one other : Served) → AreAlike message one other → AreAlike message (ready_of one) (ready_of other)
-ready_alike message one other alike = record { operator = alike.operator; keys = alike.keys; moments = alike.moments; books = alike.books }
+ready_alike message one other alike = record { operator = alike.operator; keys = alike.keys; moments = alike.moments; books = alike.books; uses = alike.uses }
 
 status_is : (reply : Reply) (answer : Answer) → reply ≡ reply_of answer → reply.0 ≡ status_of answer
 status_is reply answer is = ap (λ (r : Reply). r.0) is
@@ -74,15 +74,15 @@ full_is : (reply : Reply) → reply ≡ full_reply → reply.0 ≡ 507
 full_is reply is = ap (λ (r : Reply). r.0) is
 
 module _ (law : AnswersAreIsolated) (message : Request) (reply : Reply) (fits : reply.0 ≢ 507) (kept : reply.0 ≢ 503) (whole : reply.0 ≢ 500) where
-  answered : (old other new : Served) (caller : Caller) (request : Asked) → AreAlike message old other → caller_of old.host message.key ≡ Some caller
+  answered : (old other new : Served) (caller : Caller) (request : Asked) → AreAlike message old other → caller_of old.host message.key ≡ Some caller → SameUseOf request old.host.book other.host.book
       → Judges old caller request reply new → (left : Served) × Judges other caller request reply left
-  answered old other new caller request alike is judges = by_judged judges.judged
+  answered old other new caller request alike is same_use judges = by_judged judges.judged
     where
       by_judged : IsJudged old.host (failures_in old new) caller judges.now request reply new.host.book → (left : Served) × Judges other caller request reply left
       by_judged (inl (told, may, same, would)) =
           let status : (a : Answer) → told ≡ a → reply.0 ≡ status_of a = λ a at. status_is reply told same ∙ ap status_of at in
           let led = law old.host.operator (failures_in old new) old.host.book caller judges.now request told new.host.book may
-          (λ out. fits (status answer.Memory out)) (λ out. kept (status answer.Keeper out)) other.host.book (alike.books caller judges.now new.moments is judges.told) in
+          (λ out. fits (status answer.Memory out)) (λ out. kept (status answer.Keeper out)) other.host.book (alike.books caller judges.now new.moments is judges.told) same_use in
           let left : Served = record { host = record { operator = other.host.operator; book = led.0 }; moments = new.moments; failed = other.failed; stale = None } in (
             left,
             record {
@@ -107,7 +107,7 @@ module _ (law : AnswersAreIsolated) (message : Request) (reply : Reply) (fits : 
   replied old other new (Err refusal) way alike is (same, told) = (other, (refl, told))
   replied old other new (Ok (caller, request)) way alike is (inl (same, out)) = absurd (fits (full_is reply out))
   replied old other new (Ok (caller, request)) way alike is (inr judges) =
-      let led = answered old other new caller request alike (asks_along old.host message way caller request is) judges in
+      let led = answered old other new caller request alike (asks_along old.host message way caller request is) (alike.uses caller request way is) judges in
       (led.0, inr led.1)
 
   -- nothing that keeps a host from being made ready is replied

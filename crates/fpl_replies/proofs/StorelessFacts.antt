@@ -10,13 +10,16 @@ use Rattle.rule_book.specs.declared.cup.Bracket.{Bracket}
 use Rattle.rule_book.specs.Entries.{entry_in}
 use Rattle.rule_book.specs.HistoryRules.{is_started}
 use Rattle.season_book.specs.Book.{Book, EntryFacts, Facts, caller_number, last_number}
-use Rattle.season_book.specs.Commands.{are_there, begun_by, changed_by, part_of, refusal_of}
+use Rattle.season_book.specs.Commands.{are_there, begun_by, changed_by, has_player, part_of, refusal_of}
 use Rattle.season_book.specs.Doing.{IsStoreless}
 use Rattle.season_book.specs.EntryCommands.{deed_refusal, history_after, names_players}
 use Rattle.season_book.specs.EntryViews.{entry_shown}
+use Rattle.season_book.specs.Hosts.{keys_of}
+use Rattle.season_book.specs.KeyCommands.{NewKey, entries_rekeyed, key_given, rekey_refusal}
 use Rattle.season_book.specs.LeagueCommands.{cup_broken, cup_drawn, cup_made, cup_there, is_issued, is_registered, league_made, league_refusal, leagues_after, leagues_there}
 use Rattle.season_book.specs.LeagueViews.{cup_shown, league_shown}
-use Rattle.season_book.specs.Verdict.{IsVerdictIn, Outcome, Verdict, begun, cup_ruled, in_season, judged, key_refusal, keyed, my_answer, number_refusal, page_of, ruled, ruled_by, ruled_in, ruled_of, seen_in, settled, shown_or_unknown, unless_broken, unless_misnumbered, unless_refused, unseen, wants_no_season, with_entry, with_history}
+use Rattle.season_book.specs.PlayerCommands.{Amendment, amendment, facts_amended, have_had, position_refusal}
+use Rattle.season_book.specs.Verdict.{IsVerdictIn, Outcome, Verdict, amend_ruled, begun, cup_ruled, in_season, judged, key_refusal, key_ruled, keyed, my_answer, number_refusal, page_of, ruled, ruled_by, ruled_in, ruled_of, seen_in, settled, shown_or_unknown, unless_broken, unless_misnumbered, unless_refused, unseen, wants_no_season, with_entry, with_history}
 use Rattle.season_book.specs.AllWindows.{window_data}
 use Rattle.season_book.specs.Windows.{me_window}
 use Rattle.season_book.specs.Views.{shown_of}
@@ -92,6 +95,18 @@ keys : (operator : List ℕ) (book : Book) (command : Command) → Refuses (keye
 keys operator book (command.Key key name) = if_broken (key_refusal operator book.entries key) (with_entry book key name)
 keys operator book command = tt
 
+rekeys : (operator : List ℕ) (book : Book) (some : Option NewKey) → Refuses (option_map_or (key_ruled operator book) some (Err answer.Unknown))
+rekeys operator book None = tt
+rekeys operator book (Some given) =
+    chosen (is_issued book.entries given.entry) _ _
+    (if_broken (rekey_refusal operator (keys_of book.entries) given.entry given.key) (record { made = made.Nothing; book = record book { entries = entries_rekeyed book.entries given } })) tt
+
+amends : (book : Book) (facts : Facts) (some : Option Amendment) → Refuses (option_map_or (amend_ruled book facts) some (Err answer.Unknown))
+amends book facts None = tt
+amends book facts (Some given) =
+    chosen (has_player facts given.player) _ _
+    (if_broken (position_refusal facts (have_had book.entries given.player) given) (record { made = made.Nothing; book = record book { facts = Some (facts_amended facts given) } })) tt
+
 deeds : (book : Book) (facts : Facts) (e : ℕ) (command : Command) (some : Option EntryFacts) → Refuses (ruled_of book facts e command some)
 deeds book facts e command None = tt
 deeds book facts e command (Some entry) =
@@ -106,7 +121,9 @@ cups book facts (Some b) =
 
 rules : (p : Part) (operator : List ℕ) (book : Book) (caller : Caller) (now : ℕ) (command : Command) → Refuses (ruled_in p operator book caller now command)
 rules part.Facts operator book caller now command = by_facts book (judged book.facts now command) (judges book.facts now command)
+rules part.Players operator book caller now command = in_a_season book.facts _ (λ facts. amends book facts (amendment command))
 rules part.Entries operator book caller now command = in_a_season book.facts _ (λ facts. keys operator book command)
+rules part.Keys operator book caller now command = in_a_season book.facts _ (λ facts. rekeys operator book (key_given command))
 rules part.Deeds operator book caller now command =
     in_a_season book.facts _ (λ facts. deeds book facts (caller_number caller) command (entry_in book.entries (caller_number caller)))
 rules part.Leagues operator book caller now command =

@@ -5,7 +5,7 @@ ghost use Rattle.season_book.specs.Commands.{IsCommand};
 ghost use Rattle.fpl_requests.specs.Loads.{Loads, LoadsAll};
 
 use fpl_base::{Clock, Keeper, Key, Profile, Sink, Steps, Text};
-use fpl_loading::{LoadEnd, loaded, ordered_by, unloaded};
+use fpl_loading::{LoadEnd, loaded_by, ordered_by, unloaded};
 use fpl_serving::unopened;
 use fpl_shelves::AskedShelf;
 use season_book::Command;
@@ -14,13 +14,14 @@ use std::alloc::Global;
 use std::sync::ledger::Ledger;
 
 /// Loads the season of the files in a folder for the operator with this key, and answers the exit status with what is noted
-/// beside. `split` is the last gameweek of the first half, 0 for none.
+/// beside: all of it, or with `more` what the season lacks. `split` is the last gameweek of the first half, 0 for none.
 pub fn load<W: Sink, C: Clock, K: Keeper, F: AskedShelf, L: Ledger>(
     alloc: Global,
     key: &Key,
     folder: &Text,
     split: u8,
     profile: Profile,
+    more: bool,
     output: &mut W,
     clock: &mut C,
     keeper: &mut K,
@@ -28,7 +29,7 @@ pub fn load<W: Sink, C: Clock, K: Keeper, F: AskedShelf, L: Ledger>(
     steps: &mut Steps<L>,
 ) -> LoadEnd
     ensures loads { Loads K.tells K.serves K.holds K.passes K.faults F.one_read keeper.old keeper.new
-        key.now (F.files shelf.old) folder.now split profile shelf.old shelf.new
+        key.now (F.files shelf.old) folder.now split profile more shelf.old shelf.new
         (C.left clock.old) (C.left clock.new) (W.taken output.old) (W.taken output.new)
         result.status result.note }
     ensures statuses { (result.status ≡ 0) ⊎ (result.status ≡ 3) ⊎ (result.status ≡ 4)
@@ -39,7 +40,7 @@ pub fn load<W: Sink, C: Clock, K: Keeper, F: AskedShelf, L: Ledger>(
     ensures shelf { result.status ≡ 9 → Rose (F.faults shelf.old) (F.faults shelf.new) }
 {
     match ordered_by(alloc, shelf, split, profile, folder) {
-        Ok(commands) => load_all(alloc, key, commands, output, clock, keeper, steps),
+        Ok(commands) => load_all(alloc, key, more, commands, output, clock, keeper, steps),
         Err(fault) => {
             let status = unloaded(alloc, fault, output);
             LoadEnd { status, note: None }
@@ -51,6 +52,7 @@ pub fn load<W: Sink, C: Clock, K: Keeper, F: AskedShelf, L: Ledger>(
 fn load_all<W: Sink, C: Clock, K: Keeper, L: Ledger>(
     alloc: Global,
     key: &Key,
+    more: bool,
     commands: Vec<Command>,
     output: &mut W,
     clock: &mut C,
@@ -59,7 +61,7 @@ fn load_all<W: Sink, C: Clock, K: Keeper, L: Ledger>(
 ) -> LoadEnd
     requires { All IsCommand commands.items }
     ensures loads { LoadsAll K.tells K.serves K.holds K.passes K.faults keeper.old keeper.new
-        key.now commands.items (C.left clock.old) (C.left clock.new) (W.taken output.old)
+        key.now more commands.items (C.left clock.old) (C.left clock.new) (W.taken output.old)
         (W.taken output.new) result.status result.note }
     ensures statuses { (result.status ≡ 0) ⊎ (result.status ≡ 3) ⊎ (result.status ≡ 4)
         ⊎ (result.status ≡ 5) ⊎ (result.status ≡ 6) ⊎ (result.status ≡ 13) }
@@ -67,7 +69,7 @@ fn load_all<W: Sink, C: Clock, K: Keeper, L: Ledger>(
     ensures keeper { result.status ≡ 4 → Rose (K.faults keeper.old) (K.faults keeper.new) }
 {
     match Host::open(alloc, keeper, key, steps) {
-        Ok(mut host) => loaded(alloc, &mut host, commands, output, clock, keeper, steps),
+        Ok(mut host) => loaded_by(alloc, &mut host, more, commands, output, clock, keeper, steps),
         Err(fault) => {
             let status = unopened(alloc, fault, output);
             LoadEnd { status, note: None }

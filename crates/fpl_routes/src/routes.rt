@@ -8,8 +8,9 @@ ghost use Rattle.fpl_routes.specs.Targets.{AreIds, IsFound, IsFoundAt, IsId, IsS
 use crate::Asks::{Command, View};
 use crate::Callers::{Both, Entry, Operator};
 use crate::CommandRoute::{
-    CancelChip, Chip, Clubs, Cups, Deadlines, Draw, Drop, Finished, Fixtures, Gone, Join, Keys,
-    Leagues, Line, Lineup, Move, Players, Prices, Season, Sheet, Squad, Transfers,
+    AmendFixture, AmendPlayer, CancelChip, Chip, Clubs, Cups, Deadlines, Draw, Drop, Finished,
+    Fixtures, Gone, Join, Keys, Leagues, Line, Lineup, Move, Players, Prices, Rekey, Season, Sheet,
+    Squad, Transfers,
 };
 use crate::ViewRoute::{
     ShowCup, ShowEntryGameweek, ShowFixture, ShowLeague, ShowMe, ShowPlayer, ShowPlayerGameweek,
@@ -42,20 +43,23 @@ struct Place {
 }
 
 // Each route: its method, the pattern of its targets with a name in braces for each id, who may ask it, what it asks.
-static SERVED: [(Method, &str, Callers, Asks); 49] = [
+static SERVED: [(Method, &str, Callers, Asks); 52] = [
     (Post, "/season", Operator, Command(Season)),
     (Post, "/deadlines", Operator, Command(Deadlines)),
     (Post, "/players", Operator, Command(Players)),
+    (Post, "/players/{p}", Operator, Command(AmendPlayer)),
     (Post, "/prices", Operator, Command(Prices)),
     (Post, "/clubs", Operator, Command(Clubs)),
     (Post, "/gone", Operator, Command(Gone)),
     (Post, "/fixtures", Operator, Command(Fixtures)),
+    (Post, "/fixtures/{f}", Operator, Command(AmendFixture)),
     (Post, "/fixtures/{f}/move", Operator, Command(Move)),
     (Post, "/fixtures/{f}/sheet", Operator, Command(Sheet)),
     (Post, "/fixtures/{f}/line", Operator, Command(Line)),
     (Post, "/fixtures/{f}/drop", Operator, Command(Drop)),
     (Post, "/fixtures/{f}/finished", Operator, Command(Finished)),
     (Post, "/keys", Operator, Command(Keys)),
+    (Post, "/keys/{e}", Operator, Command(Rekey)),
     (Post, "/squad", Entry, Command(Squad)),
     (Post, "/transfers", Entry, Command(Transfers)),
     (Post, "/lineup", Entry, Command(Lineup)),

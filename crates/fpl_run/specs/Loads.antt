@@ -1,5 +1,5 @@
 -- A run of `load`, and what it is handed.
-use Rattle.std.specs.Prelude.{◌≡◌, ℕ, List, Option, Result}
+use Rattle.std.specs.Prelude.{◌≡◌, ℕ, Bool, List, Option, Result}
 use Rattle.fpl_base.specs.Keeping.{Map}
 use Rattle.fpl_base.specs.Moments.{Moments}
 use Rattle.fpl_base.specs.declared.kinds.Profile.{Profile}
@@ -16,7 +16,7 @@ pub record Handed (F : Type 0) : Type 0 where
 
 -- the files of a folder were loaded, and what is noted of that was noted
 abbrev pub Loaded : {K F : Type 0} → (K → Type 0) → (K → Type 0) → (K → Map → Type 0) → (K → Map → Type 0) → (K → ℕ) → (F → List ℕ → Result (List ℕ) ShelfFault → F → Type 0)
-    → K → K → List ℕ → List ℕ → ℕ → Profile → Handed F → Handed F → Option Moments → Option Moments → Option (List ℕ) → Option (List ℕ) → ℕ → Type 0
-Loaded tells serves holds passes faults once old new key folder split profile handed behind moments later before after status =
-    (noted : Option Note) × Loads tells serves holds passes faults once old new key handed.texts folder split profile handed.shelf behind.shelf moments later before after status noted
+    → K → K → List ℕ → List ℕ → ℕ → Profile → Bool → Handed F → Handed F → Option Moments → Option Moments → Option (List ℕ) → Option (List ℕ) → ℕ → Type 0
+Loaded tells serves holds passes faults once old new key folder split profile more handed behind moments later before after status =
+    (noted : Option Note) × Loads tells serves holds passes faults once old new key handed.texts folder split profile more handed.shelf behind.shelf moments later before after status noted
     × (behind.noted ≡ noted_behind handed.noted noted)

@@ -106,8 +106,8 @@ RunsAs tells serves holds passes faults once (Some (order.Serve key port clients
     Serves tells serves holds passes faults old.keeper new.keeper key connections old.doors new.doors old.moments new.moments old.taken new.taken status
     × ServeCounts tells holds passes old.keeper new.keeper key connections old.doors new.doors old.moments new.moments old.reads new.reads
     × LeavesInput old new × LeavesFiles old new
-RunsAs tells serves holds passes faults once (Some (order.Load key store folder split profile)) old new status =
-    Loaded tells serves holds passes faults once old.keeper new.keeper key folder split profile old.files new.files old.moments new.moments old.taken new.taken status
+RunsAs tells serves holds passes faults once (Some (order.Load key store folder split profile more)) old new status =
+    Loaded tells serves holds passes faults once old.keeper new.keeper key folder split profile more old.files new.files old.moments new.moments old.taken new.taken status
     × LeavesInput old new × LeavesDoors old new
 RunsAs tells serves holds passes faults once (Some (order.Report key store shown)) old new status =
     Reports tells serves holds passes faults old.keeper new.keeper key shown old.moments new.moments old.taken new.taken status

@@ -18,6 +18,7 @@ pub(crate) fn load<W: Sink, C: Clock, K: Keeper, F: AskedShelf, L: Ledger>(
     folder: &Text,
     split: u8,
     profile: Profile,
+    more: bool,
     output: &mut W,
     clock: &mut C,
     keeper: &mut K,
@@ -26,7 +27,7 @@ pub(crate) fn load<W: Sink, C: Clock, K: Keeper, F: AskedShelf, L: Ledger>(
     steps: &mut Steps<L>,
 ) -> u8
     ensures loaded { Loaded K.tells K.serves K.holds K.passes K.faults F.one_read keeper.old
-        keeper.new key.now folder.now split profile
+        keeper.new key.now folder.now split profile more
         (record { shelf = shelf.old; texts = F.files shelf.old; noted = note.old })
         (record { shelf = shelf.new; texts = F.files shelf.new; noted = note.new })
         (C.left clock.old) (C.left clock.new) (W.taken output.old) (W.taken output.new) result }
@@ -37,7 +38,7 @@ pub(crate) fn load<W: Sink, C: Clock, K: Keeper, F: AskedShelf, L: Ledger>(
     ensures shelf { result ≡ 9 → Rose (F.faults shelf.old) (F.faults shelf.new) }
 {
     let end = fpl_requests::load(
-        alloc, key, folder, split, profile, output, clock, keeper, shelf, steps,
+        alloc, key, folder, split, profile, more, output, clock, keeper, shelf, steps,
     );
     put(note, end.note);
     end.status

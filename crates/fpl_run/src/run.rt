@@ -95,10 +95,11 @@ pub fn run<S: Source, W: Sink, C: Clock, K: Keeper, D: Doors, F: AskedShelf, L: 
                 dir,
                 split,
                 profile,
+                more,
                 ..
             },
         ) => load(
-            alloc, &key, &dir, split, profile, output, clock, keeper, shelf, note, steps,
+            alloc, &key, &dir, split, profile, more, output, clock, keeper, shelf, note, steps,
         ),
         Ok(Words::Report { key, what, .. }) => {
             report(alloc, &key, what, output, clock, keeper, steps)

@@ -1,4 +1,5 @@
 pub mod CourseLemmas
+pub mod LookingLemmas
 pub mod OnceLemmas
 pub mod PipeLemmas
 pub mod ReadingLemmas

@@ -11,9 +11,9 @@ use Rattle.fpl_desk.specs.Answered.{SessionsAnswer}
 use Rattle.fpl_replies.specs.Once.{MessagesActOnce}
 use Rattle.fpl_replies.specs.Replying.{IsReply, IsReplyUntil, Served}
 use Rattle.fpl_replies.specs.Whole.{IsKeptReply}
-use Rattle.fpl_serving.specs.Once.{AreHeard, HearOn, Hears, ServesActOnce, SessionsActOnce, in_turn}
-use Rattle.fpl_serving.specs.Pipe.{IsSession}
-use Rattle.fpl_serving.specs.Serve.{DoorState, IsVisit, ServesOn}
+use Rattle.fpl_serving.specs.Once.{ServesActOnce, SessionsActOnce}
+use Rattle.fpl_serving.specs.Pipe.{AreHeard, IsSession}
+use Rattle.fpl_serving.specs.Serve.{DoorState, HearOn, Hears, IsVisit, ServesOn, in_turn}
 
 -- ---- what was heard is one run
 

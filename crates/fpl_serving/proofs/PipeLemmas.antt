@@ -8,10 +8,10 @@ use Rattle.fpl_serving.specs.Keeping.{TellsFault}
 use Rattle.fpl_serving.specs.Pipe.{Pipes}
 
 module _ (K : Type 0) (tells serves : K → Type 0) (holds passes : K → Map → Type 0) (faults : K → ℕ) (old new : K) where
-  pub unopened_pipes : (key : List ℕ) (left : Option (List ℕ)) (moments : Option Moments) (before after : Option (List ℕ)) (status : ℕ) (why : OpenFault)
+  pub unopened_pipes : (key : List ℕ) (left : Option (List ℕ)) (moments : Option Moments) (before after : Option (List ℕ)) (status first : ℕ) (why : OpenFault)
       → Withholds tells holds passes faults old new why → HoldsOn tells serves holds passes old new → TellsFault why status before after
-      → Pipes tells serves holds passes faults old new key left left moments moments before after status
-  unopened_pipes key left moments before after status why withholds holds_on told = inr (refl, refl, (why, withholds, holds_on, told))
+      → Pipes tells serves holds passes faults old new key left left moments moments before after status first first
+  unopened_pipes key left moments before after status first why withholds holds_on told = inr (refl, refl, (why, withholds, holds_on, told))
 
 -- a keeper that was not asked holds what it held
 pub holds_still : (K : Type 0) (tells serves : K → Type 0) (holds passes : K → Map → Type 0) (keeper : K) → HoldsOn tells serves holds passes keeper keeper

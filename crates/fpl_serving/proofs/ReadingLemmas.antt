@@ -12,19 +12,18 @@ use Rattle.season_keeping.specs.Opening.{Opens as OpensHost}
 use Rattle.season_running.specs.Standing.{HostRows}
 use Rattle.fpl_desk.specs.Answered.{SessionsAnswer}
 use Rattle.fpl_desk.specs.Looks.{Counted, CountsLooks, ReadFew, RunsReadFew}
-use Rattle.fpl_serving.specs.Once.{HearOn, in_turn}
 use Rattle.fpl_serving.specs.Reading.{CountFew, CountOn, CountOne, CountsFrom}
-use Rattle.fpl_serving.specs.Serve.{DoorState}
+use Rattle.fpl_serving.specs.Serve.{DoorState, HearOn, in_turn}
 
 module _ (K : Type 0) where
   -- ---- from the host that was opened
 
   pub few_from : (messages : List Message) (first last : Counted K) → first.kept.host.stale ≡ false → ReadFew messages first last
       → CountFew first.kept.host.rows messages first.kept.moments last.kept.moments first.reads last.reads
-  few_from messages first last fresh (told, tells, few) = record {
-    told = told;
-    tells = tells;
-    few = λ book more stands looks none. (few book more fresh stands looks none).reads;
+  few_from messages first last fresh counts = record {
+    told = counts.told;
+    tells = counts.tells;
+    few = λ book more stands looks none. (counts.few book more fresh stands looks none).reads;
   }
 
   pub counts_from : (tells : K → Type 0) (holds passes : K → Map → Type 0) (old : K) (first last : Counted K) (key : List ℕ) (counts : HostRows → Type 0)

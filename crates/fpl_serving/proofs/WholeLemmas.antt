@@ -82,7 +82,7 @@ module _ (sessions : SessionsAreWhole) where
 
 pub pipes_are_whole : SessionsAreWhole → (K : Type 0) (tells serves : K → Type 0) (holds passes : K → Map → Type 0) (faults : K → ℕ)
     → ((old new : K) → LawfulBooksAreWhole (tells new) (holds old) (holds new) (passes new)) → PipesAreWhole tells serves holds passes faults
-pipes_are_whole sessions K tells serves holds passes faults loads old new key left now moments later before after status book tell serve keepable lawful held (inl piped) =
+pipes_are_whole sessions K tells serves holds passes faults loads old new key left now moments later before after status first last book tell serve keepable lawful held (inl piped) =
     inl (
       piped.ending,
       piped.is_status,
@@ -90,17 +90,17 @@ pipes_are_whole sessions K tells serves holds passes faults loads old new key le
           (IsSession IsWholeReply left now before after piped.ending)
           (λ from behind whole session. session_whole sessions left now before after piped.ending from behind whole session) piped.runs,
     )
-pipes_are_whole sessions K tells serves holds passes faults loads old new key left now moments later before after status book tell serve keepable lawful held (inr (same, waits, unopened)) =
+pipes_are_whole sessions K tells serves holds passes faults loads old new key left now moments later before after status first last book tell serve keepable lawful held (inr (same, waits, unopened)) =
     inr (same, waits, unopened.2.kept tell serve (records book) held, unmade sessions K tells serves holds passes faults old new (loads old new) book tell serve keepable lawful held before after status unopened)
 
 pub serves_are_whole : SessionsAreWhole → (K : Type 0) (tells serves : K → Type 0) (holds passes : K → Map → Type 0) (faults : K → ℕ)
     → ((old new : K) → LawfulBooksAreWhole (tells new) (holds old) (holds new) (passes new)) → ServesAreWhole tells serves holds passes faults
-serves_are_whole sessions K tells serves holds passes faults loads old new key count before after moments later taken takes status book tell serve keepable lawful held (inl (runs, quiet)) =
+serves_are_whole sessions K tells serves holds passes faults loads old new key count before after moments later taken takes status first last book tell serve keepable lawful held (inl (runs, quiet)) =
     inl (
       run_whole sessions K tells serves holds passes faults old new (loads old new) book tell serve keepable lawful held key moments later _ _
           (ServesOn IsWholeReply count before after status)
           (λ from behind whole on. serving_whole sessions count before after status from behind whole on) runs,
       quiet,
     )
-serves_are_whole sessions K tells serves holds passes faults loads old new key count before after moments later taken takes status book tell serve keepable lawful held (inr (same, waits, unopened)) =
+serves_are_whole sessions K tells serves holds passes faults loads old new key count before after moments later taken takes status first last book tell serve keepable lawful held (inr (same, waits, unopened)) =
     inr (same, waits, unopened.2.kept tell serve (records book) held, unmade sessions K tells serves holds passes faults old new (loads old new) book tell serve keepable lawful held taken takes status unopened)

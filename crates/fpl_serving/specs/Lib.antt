@@ -1,4 +1,5 @@
 pub mod Keeping
+pub mod Looking
 pub mod Once
 pub mod Pipe
 pub mod Reading

@@ -12,8 +12,8 @@ use Rattle.fpl_session.specs.Replies.{Speaks}
 use Rattle.fpl_session.specs.Runs.{Run}
 use Rattle.fpl_session.specs.declared.ending.Ending.{Ending}
 use Rattle.fpl_desk.specs.Looks.{AreLooks, Counted, CountsLooks, LockNone, TellsOn}
-use Rattle.fpl_serving.specs.Once.{AreHeard, HearOn, Hears, in_turn}
-use Rattle.fpl_serving.specs.Serve.{DoorState}
+use Rattle.fpl_serving.specs.Pipe.{AreHeard}
+use Rattle.fpl_serving.specs.Serve.{DoorState, HearOn, Hears, in_turn}
 
 -- the clock told moments for these messages, one after another; and in each book for which these rows stand, where the messages
 -- ask nothing but views and none of the moments locks a gameweek, no more reads were counted than the views allow in all

@@ -1,5 +1,5 @@
 -- The command that serves connections.
-use Rattle.std.specs.Prelude.{◌≡◌, ◌≢◌, ◌⊎◌, ◌<◌, ℕ, zero, suc, List, Option, Some, None, Result, Ok, Err, IfSome, drop, ⊤}
+use Rattle.std.specs.Prelude.{◌≡◌, ◌≢◌, ◌⊎◌, ◌<◌, ◌++◌, ℕ, zero, suc, List, [], ◌∷◌, Option, Some, None, Result, Ok, Err, IfSome, drop, ⊤}
 use Rattle.fpl_base.specs.Causes.{Rose}
 use Rattle.fpl_base.specs.Doors.{Ended, GivesBack, Opens}
 use Rattle.fpl_base.specs.Keeping.{Map}
@@ -12,7 +12,8 @@ use Rattle.fpl_session.specs.declared.ending.Ending.TheVariants.{Read, Write, Me
 use Rattle.fpl_replies.specs.Replying.{IsReplyUntil}
 use Rattle.fpl_replies.specs.Whole.{IsKeptReply}
 use Rattle.fpl_serving.specs.Keeping.{IsUnopened, Runs}
-use Rattle.fpl_serving.specs.Pipe.{IsSession}
+use Rattle.fpl_serving.specs.Looking.{LooksReadFew}
+use Rattle.fpl_serving.specs.Pipe.{AreHeard, IsSession}
 
 -- what doors tell, and how often they failed
 pub record DoorState : Type 0 where
@@ -58,13 +59,35 @@ ServesOn {S = S} answers (suc count) before after status old new =
     ⊎ ((status ≡ 6) × IsVisit answers before after old new Memory)
     ⊎ ((ending : Ending) × (between : DoorState) × (mid : S) × (ending ≢ Memory) × IsVisit answers before between old mid ending × ServesOn answers count between after status mid new)
 
+-- one connection came and was given back, and messages stand at the front of what was taken of it
+pub record Hears (before after : DoorState) (messages : List Request) : Type 0 where
+  pub left : Option (List ℕ)
+  pub fresh : Option (List ℕ)
+  pub back : Ended
+  pub opens : Opens before.coming after.coming left fresh
+  pub gives : GivesBack before.given_back after.given_back back
+  pub heard : AreHeard left back.left messages
+
+-- so many connections at most, one after another, each with its messages
+abbrev pub HearOn : ℕ → DoorState → DoorState → List (List Request) → Type 0
+HearOn count before after [] = (after.coming ≡ before.coming) × (after.given_back ≡ before.given_back)
+HearOn zero before after (messages ∷ more) = ⊥
+HearOn (suc count) before after (messages ∷ more) = (between : DoorState) × Hears before between messages × HearOn count between after more
+
+-- the messages of all connections, in turn
+abbrev pub in_turn : List (List Request) → List Request
+in_turn [] = []
+in_turn (messages ∷ more) = messages ++ in_turn more
+
 -- a run of the command: the connections were served by the host, from the book that the keeper's records tell, with the
--- moments that the clock told; or the host was not opened, and no door was asked
+-- moments that the clock told, and looks behind which no gameweek is locked that was not before count few reads; or the host was
+-- not opened, and no door was asked
 abbrev pub Serves : {K : Type 0} → (K → Type 0) → (K → Type 0) → (K → Map → Type 0) → (K → Map → Type 0) → (K → ℕ) → K → K → List ℕ → ℕ → DoorState → DoorState → Option Moments → Option Moments
-    → Option (List ℕ) → Option (List ℕ) → ℕ → Type 0
-Serves tells serves holds passes faults old new key count before after moments later taken takes status =
+    → Option (List ℕ) → Option (List ℕ) → ℕ → ℕ → ℕ → Type 0
+Serves tells serves holds passes faults old new key count before after moments later taken takes status first last =
     (Runs tells serves holds passes old new key moments later (faults old) (faults new)
-    (ServesOn IsReplyUntil count before after status) (ServesOn IsKeptReply count before after status) × (takes ≡ taken))
+    (λ a b. ServesOn IsReplyUntil count before after status a b × ((heard : List (List Request)) × HearOn count before after heard × LooksReadFew (in_turn heard) first last a b))
+    (ServesOn IsKeptReply count before after status) × (takes ≡ taken))
     ⊎ ((after ≡ before) × (later ≡ moments) × IsUnopened tells serves holds passes faults old new taken takes status)
 
 -- one connection fewer is to come, where they are told

@@ -28,9 +28,9 @@ IsUnmade before after status = ((status ≡ 4) ⊎ (status ≡ 6)) × (after ≡
 -- no reply of a session is 500, and its last book is lawful. Nor is the keeper found damaged as the host is opened
 abbrev pub PipesAreWhole : {K : Type 0} → (K → Type 0) → (K → Type 0) → (K → Map → Type 0) → (K → Map → Type 0) → (K → ℕ) → Type 0
 PipesAreWhole {K = K} tells serves holds passes faults =
-    (old new : K) (key : List ℕ) (left now : Option (List ℕ)) (moments later : Option Moments) (before after : Option (List ℕ)) (status : ℕ) (book : Book)
+    (old new : K) (key : List ℕ) (left now : Option (List ℕ)) (moments later : Option Moments) (before after : Option (List ℕ)) (status first last : ℕ) (book : Book)
     → tells new → serves new → IsKeepable book → IsLawful book → holds old (records book)
-    → Pipes tells serves holds passes faults old new key left now moments later before after status
+    → Pipes tells serves holds passes faults old new key left now moments later before after status first last
     → ((ending : Ending) × (status ≡ status_of ending)
     × EndsWhole holds new later (faults new) (IsSession IsWholeReply left now before after ending (opened key book moments (faults old))))
     ⊎ ((now ≡ left) × (later ≡ moments) × holds new (records book) × IsUnmade before after status)
@@ -38,8 +38,8 @@ PipesAreWhole {K = K} tells serves holds passes faults =
 -- the same of connections that are served one after another
 abbrev pub ServesAreWhole : {K : Type 0} → (K → Type 0) → (K → Type 0) → (K → Map → Type 0) → (K → Map → Type 0) → (K → ℕ) → Type 0
 ServesAreWhole {K = K} tells serves holds passes faults =
-    (old new : K) (key : List ℕ) (count : ℕ) (before after : DoorState) (moments later : Option Moments) (taken takes : Option (List ℕ)) (status : ℕ) (book : Book)
+    (old new : K) (key : List ℕ) (count : ℕ) (before after : DoorState) (moments later : Option Moments) (taken takes : Option (List ℕ)) (status first last : ℕ) (book : Book)
     → tells new → serves new → IsKeepable book → IsLawful book → holds old (records book)
-    → Serves tells serves holds passes faults old new key count before after moments later taken takes status
+    → Serves tells serves holds passes faults old new key count before after moments later taken takes status first last
     → (EndsWhole holds new later (faults new) (ServesOn IsWholeReply count before after status (opened key book moments (faults old))) × (takes ≡ taken))
     ⊎ ((after ≡ before) × (later ≡ moments) × holds new (records book) × IsUnmade taken takes status)

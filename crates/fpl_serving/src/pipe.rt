@@ -26,7 +26,7 @@ pub fn pipe<S: Source, W: Sink, C: Clock, K: Keeper, L: Ledger>(
 ) -> u8
     ensures session { Pipes K.tells K.serves K.holds K.passes K.faults keeper.old keeper.new key.now
         (S.left input.old) (S.left input.new) (C.left clock.old) (C.left clock.new)
-        (W.taken output.old) (W.taken output.new) result }
+        (W.taken output.old) (W.taken output.new) result steps.old steps.new }
     ensures reads { PipeCounts K.tells K.holds K.passes keeper.old keeper.new key.now
         (S.left input.old) (S.left input.new) (C.left clock.old) (C.left clock.new) steps.old
         steps.new }

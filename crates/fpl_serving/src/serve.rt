@@ -36,7 +36,8 @@ pub fn serve<W: Sink, C: Clock, K: Keeper, D: Doors, L: Ledger>(
         connections
         (doors_as (D.coming doors.old) (D.given_back doors.old) (D.faults doors.old))
         (doors_as (D.coming doors.new) (D.given_back doors.new) (D.faults doors.new))
-        (C.left clock.old) (C.left clock.new) (W.taken output.old) (W.taken output.new) result }
+        (C.left clock.old) (C.left clock.new) (W.taken output.old) (W.taken output.new) result
+        steps.old steps.new }
     ensures reads { ServeCounts K.tells K.holds K.passes keeper.old keeper.new key.now connections
         (doors_as (D.coming doors.old) (D.given_back doors.old) (D.faults doors.old))
         (doors_as (D.coming doors.new) (D.given_back doors.new) (D.faults doors.new))

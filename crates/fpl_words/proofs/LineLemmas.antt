@@ -5,8 +5,8 @@ use Rattle.fpl_words.specs.Lines.{AreOrdered, read_lines, unread_lines}
 
 pub are_read : AreOrdered read_lines
 unfolding clap_on_literals
-are_read = (refl, (refl, (refl, (refl, (refl, (refl, (refl, tt)))))))
+are_read = (refl, (refl, (refl, (refl, (refl, (refl, (refl, (refl, (refl, tt)))))))))
 
 pub are_unread : AreOrdered unread_lines
 unfolding clap_on_literals
-are_unread = (refl, (refl, (refl, (refl, (refl, (refl, (refl, (refl, (refl, (refl, (refl, (refl, (refl, (refl, tt))))))))))))))
+are_unread = (refl, (refl, (refl, (refl, (refl, (refl, (refl, (refl, (refl, (refl, (refl, (refl, (refl, (refl, (refl, (refl, tt))))))))))))))))

@@ -6,6 +6,7 @@ use Rattle.std.specs.Prelude.{IfOk, Option, Some, None, Result}
 use Rattle.std.specs.declared.alloc.AllocError.{AllocError}
 use Rattle.clap.specs.declared.error.Error.{Error}
 use Rattle.clap.specs.declared.error.kind.ErrorKind.TheVariants as kind
+use Rattle.clap.specs.declared.builder.action.ArgAction.TheVariants as action
 use Rattle.clap.specs.declared.builder.arg.Arg.{Arg}
 use Rattle.clap.specs.declared.builder.command.Command.{Command}
 use Rattle.clap.specs.declared.builder.command.Command.TheViews.{out-Command}
@@ -13,7 +14,7 @@ use Rattle.clap.specs.Kinds.{HasKind, IsAmong, Kinds}
 use Rattle.clap.specs.Words.{AddsArg, AddsSubcommand, App, Rule, Shape, Text, app_of, fault_of, is_simple, is_simple_and_free, kind_of, new_rule, rule_of, with_rule, with_subcommand}
 use Rattle.clap.specs.Simple.{on_top}
 use Rattle.clap.proofs.OnLiterals.{clap_on_literals}
-use Rattle.fpl_words.specs.Options.{IsCommand, option, season_host, unless_faulty, with_options}
+use Rattle.fpl_words.specs.Options.{IsCommand, flag, option, season_host, unless_faulty, with_options}
 
 pub host_is_simple : is_simple_and_free season_host ≡ true
 unfolding clap_on_literals
@@ -70,6 +71,20 @@ pub rule_is : (required : Bool) (name : Bor Text) (bare named whole : Arg)
     → rule_of whole ≡ option required name.now
 rule_is required name bare named whole new long is =
     ap rule_of is ∙ ap (λ (r : Rule). record r { required = required }) (ap rule_of long ∙ ap (λ (r : Rule). record r { long = Some name.now }) new)
+
+-- a flag with its long name
+pub flag_is : (name : Bor Text) (bare named whole : Arg) → rule_of bare ≡ new_rule name.now → named ≡ record bare { long = Some name } → whole ≡ record named { action = Some action.SetTrue }
+    → rule_of whole ≡ flag name.now
+flag_is name bare named whole new long is =
+    ap rule_of is ∙ ap (λ (r : Rule). record r { action = Some action.SetTrue }) (ap rule_of long ∙ ap (λ (r : Rule). record r { long = Some name.now }) new)
+
+-- a command with one more argument, which counts for no command below it
+pub one_beside : (old : Command) (arg : Arg) (rule : Rule) (r : Result Command AllocError) → (out-Command old).has_globals ≡ false → rule_of arg ≡ rule → arg.global ≡ false
+    → IfOk r (AddsArg old arg) → IfOk r (IsCommand (with_rule (app_of old) rule))
+one_beside old arg rule r plain is local = IfOk-weaker r (AddsArg old arg) (IsCommand (with_rule (app_of old) rule)) (λ new adds. record {
+  app = adds.shape local ∙ ap (with_rule (app_of old)) is;
+  local = adds.globals ∙ or_not _ _ local ∙ plain;
+})
 
 -- a command with one more below it
 pub one_below : (a : App) (old sub : Command) (r : Result Command AllocError) → (out-Command old).has_globals ≡ false → IsCommand a sub

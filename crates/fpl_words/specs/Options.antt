@@ -3,6 +3,7 @@ use Rattle.std.specs.Prelude.{◌≡◌, ℕ, Bool, List, [], ◌∷◌, ◌++�
 use Rattle.clap.specs.Kinds.{Kinds}
 use Rattle.clap.specs.Words.{App, Row, Rule, Text, app_of, fault_of, new_app, new_rule, subcommand_of, subcommand_rows_of, with_rule, with_subcommand}
 use Rattle.clap.specs.Simple.{on_top}
+use Rattle.clap.specs.declared.builder.action.ArgAction.TheVariants as action
 use Rattle.clap.specs.declared.builder.command.Command.{Command}
 use Rattle.clap.specs.declared.builder.command.Command.TheViews.{out-Command}
 use Rattle.clap.specs.declared.parser.matches.ArgMatches.{ArgMatches}
@@ -20,6 +21,10 @@ offered name = record (new_rule name) { long = Some name }
 -- an option that has to be given, or may be left out
 abbrev pub option : Bool → List ℕ → Rule
 option required name = record (new_rule name) { long = Some name; required = required }
+
+-- a flag `--name`, which has no value
+abbrev pub flag : List ℕ → Rule
+flag name = record (new_rule name) { long = Some name; action = Some action.SetTrue }
 
 -- a command with these options, each of which has to be given, or may be left out
 abbrev pub with_options : App → Bool → List (List ℕ) → App
@@ -44,12 +49,12 @@ serve =
     let clients = with_rule (with_rule port (offered (codes "connections"))) (offered (codes "clients")) in
     with_rule (with_rule clients (offered (codes "pages"))) (offered (codes "store"))
 
--- load --key K --store PATH --dir PATH --split N [--profile N]
+-- load --key K --store PATH --dir PATH --split N [--profile N] [--more]
 abbrev pub load : App
 load =
     let key = with_rule (new_app (codes "load")) (wanted (codes "key")) in
     let dir = with_rule (with_rule key (wanted (codes "store"))) (wanted (codes "dir")) in
-    with_rule (with_rule dir (wanted (codes "split"))) (offered (codes "profile"))
+    with_rule (with_rule (with_rule dir (wanted (codes "split"))) (offered (codes "profile"))) (flag (codes "more"))
 
 -- report --key K --store PATH --what W [--id N] [--gameweek N]
 abbrev pub report : App

@@ -6,7 +6,7 @@ use Rattle.clap.specs.Words.{Row, Text}
 use Rattle.fpl_words.specs.declared.words.Words.{Words}
 use Rattle.fpl_words.specs.declared.words.Words.TheVariants as words
 use Rattle.fpl_words.specs.Options.{entered_in}
-use Rattle.fpl_words.specs.Values.{◌>>=◌, clients, connections, key, match_length, number, pages, path, profile, report_of, store}
+use Rattle.fpl_words.specs.Values.{◌>>=◌, clients, connections, key, match_length, more, number, pages, path, profile, report_of, store}
 
 -- What each command says by the values of its options.
 
@@ -24,7 +24,7 @@ serve given =
 abbrev pub load : List Row → Option Words
 load given =
     key given >>= λ k. path (codes "store") given >>= λ kept. path (codes "dir") given >>= λ folder.
-    number (codes "split") 0 38 given >>= λ split. profile given >>= λ rules. Some (words.Load k kept folder split rules)
+    number (codes "split") 0 38 given >>= λ split. profile given >>= λ rules. Some (words.Load k kept folder split rules (more given))
 
 abbrev pub report : List Row → Option Words
 report given = key given >>= λ k. path (codes "store") given >>= λ kept. report_of given >>= λ shown. Some (words.Report k kept shown)

@@ -1,5 +1,5 @@
 -- What the values of options say.
-use Rattle.std.specs.Prelude.{◌≡◌, ◌^◌, ◌-◌, ℕ, ◌&&◌, ◌==◌, nat_le, List, length, codes, if◌then◌else◌, Option, Some, None, is_some, Result, MatchResult}
+use Rattle.std.specs.Prelude.{◌≡◌, ◌^◌, ◌-◌, ℕ, Bool, false, ◌&&◌, ◌==◌, nat_le, List, length, codes, if◌then◌else◌, Option, Some, None, is_some, Result, MatchResult}
 use Rattle.std.specs.Fmt.{decimal}
 use Rattle.std.specs.Str.{bytes_eq}
 use Rattle.std.specs.Str.Parse.{digits_value}
@@ -94,6 +94,14 @@ profile_or_first (Some text) = profile_named text
 -- the rules of a season, A where none are named
 abbrev pub profile : List Row → Option Profile
 profile given = profile_or_first (first_of (codes "profile") given)
+
+abbrev pub is_true : Option Text → Bool
+is_true None = false
+is_true (Some text) = bytes_eq text (codes "true")
+
+-- whether what the season lacks is to be loaded: a flag
+abbrev pub more : List Row → Bool
+more given = is_true (first_of (codes "more") given)
 
 abbrev pub length_or_full : Option Text → Option ℕ
 length_or_full None = Some 90

@@ -1,12 +1,12 @@
 // The commands and their options, as `clap` knows them.
 ghost use Rattle.std.specs.Prelude.{◌≡◌, IfOk, false, map, option_map};
-ghost use Rattle.clap.specs.Words.{app_of, first_of, found_of, rows_of, rule_of, subcommand_rows_of, with_subcommand};
+ghost use Rattle.clap.specs.Words.{app_of, first_of, found_of, rows_of, rule_of, subcommand_rows_of, with_rule, with_subcommand};
 ghost use Rattle.clap.specs.declared.builder.command.Command.TheViews.{out-Command};
-ghost use Rattle.fpl_words.specs.Options.{IsCommand, IsParsed, bare, command_of, option, season_host, with_further, with_options};
+ghost use Rattle.fpl_words.specs.Options.{IsCommand, IsParsed, bare, command_of, flag, load, option, season_host, with_further, with_options};
 
 use crate::words::WordFault;
 use clap::error::ErrorKind;
-use clap::{Arg, ArgMatches, Command};
+use clap::{Arg, ArgAction, ArgMatches, Command};
 use std::alloc::{AllocError, Global};
 
 /// What `clap` makes of the words: it refuses them exactly where it finds a fault in them, or memory runs out.
@@ -31,12 +31,42 @@ fn host_command<'a>(alloc: Global) -> Result<Command<'a>, AllocError>
     let command = with_command(alloc, command, "pipe", &["key"], &["store"])?;
     let offered = &["connections", "clients", "pages", "store"];
     let command = with_command(alloc, command, "serve", &["key", "port"], offered)?;
-    let wanted = &["key", "store", "dir", "split"];
-    let command = with_command(alloc, command, "load", wanted, &["profile"])?;
+    let command = with_load(alloc, command)?;
     let wanted = &["key", "store", "what"];
     let command = with_command(alloc, command, "report", wanted, &["id", "gameweek"])?;
     let command = with_command(alloc, command, "generate", &["seed"], &["store"])?;
     with_further(alloc, command)
+}
+
+// The command with the one that loads a season below it, which has a flag.
+fn with_load<'a>(alloc: Global, command: Command<'a>) -> Result<Command<'a>, AllocError>
+    requires { (out-Command command).has_globals ≡ false }
+    ensures { IfOk result (IsCommand (with_subcommand (app_of command.entry) load.top)) }
+{
+    let wanted = &["key", "store", "dir", "split"];
+    let bare = command_of(alloc, "load", wanted, &["profile"])?;
+    let other = with_flag(alloc, bare, "more")?;
+    command.subcommand(other)
+}
+
+// The command with a flag.
+fn with_flag<'a>(
+    alloc: Global,
+    command: Command<'a>,
+    name: &'a str,
+) -> Result<Command<'a>, AllocError>
+    requires { (out-Command command).has_globals ≡ false }
+    ensures { IfOk result (IsCommand (with_rule (app_of command.entry) (flag name.entry.now))) }
+{
+    command.arg(flag(alloc, name))
+}
+
+// The flag `--name`.
+fn flag<'a>(alloc: Global, name: &'a str) -> Arg<'a>
+    ensures rule { rule_of result ≡ flag name.entry.now }
+    ensures local { result.global ≡ false }
+{
+    Arg::new(alloc, name).long(name).action(ArgAction::SetTrue)
 }
 
 // The command with those below it that stand beside the season: the team of the week, the events of a match, a draft.

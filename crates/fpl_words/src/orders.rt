@@ -7,7 +7,7 @@ ghost use Rattle.fpl_words.specs.Values.{Answers};
 
 use crate::options::{entered, parse};
 use crate::values::{
-    clients_of, connections_of, gameweek_of, is_word, key_of, length_of, number_of, pages_of,
+    clients_of, connections_of, gameweek_of, is_word, key_of, length_of, more_of, number_of, pages_of,
     path_of, profile_of, store_of, what_of,
 };
 use crate::words::{WordFault, Words};
@@ -152,6 +152,7 @@ fn load(alloc: Global, given: &ArgMatches<'_>) -> Result<Words, WordFault>
         dir,
         split: split as u8,
         profile,
+        more: more_of(given),
     })
 }
 

@@ -2,7 +2,7 @@
 ghost use Rattle.std.specs.Prelude.{◌≡◌, ◌≤◌, IfOk, None, Some, codes, is_some};
 ghost use Rattle.clap.specs.Words.{first_of, rows_of, found_of};
 ghost use Rattle.std.specs.Str.{bytes_eq};
-ghost use Rattle.fpl_words.specs.Values.{Answers, clients, connections, entry_report, fixture_report, id, if_given, if_key, if_path, key, match_length, messages, number, number_in, pages, path, profile, profile_named, report_named, report_of, season_report, store, table_report, without};
+ghost use Rattle.fpl_words.specs.Values.{Answers, clients, connections, entry_report, fixture_report, id, if_given, if_key, if_path, key, match_length, messages, more, number, number_in, pages, path, profile, profile_named, report_named, report_of, season_report, store, table_report, without};
 
 use crate::options::value_of;
 use crate::words::{What, WordFault};
@@ -109,6 +109,16 @@ fn number_in(text: &str, least: u64, greatest: u64) -> Result<u64, WordFault>
             }
         }
         None => Err(WordFault::Unread),
+    }
+}
+
+// Whether what the season lacks is to be loaded.
+pub fn more_of(given: &ArgMatches<'_>) -> bool
+    ensures { result ≡ more (rows_of (found_of given.now)) }
+{
+    match value_of(given, "more") {
+        Some(text) => is_word(text, "true"),
+        None => false,
     }
 }
 

@@ -23,13 +23,15 @@ pub enum Words {
         pages: Option<Text>,
         store: Option<Text>,
     },
-    /// Loads a season from the three files of a folder. Its first half ends with the gameweek `split`, 0 to 38.
+    /// Loads a season from the three files of a folder, or what the season lacks of them. Its first half ends with the gameweek
+    /// `split`, 0 to 38.
     Load {
         key: Key,
         store: Text,
         dir: Text,
         split: u8,
         profile: Profile,
+        more: bool,
     },
     /// Writes one view of a season.
     Report {

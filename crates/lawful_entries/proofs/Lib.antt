@@ -10,3 +10,4 @@ pub mod Standing
 pub mod Stay
 pub mod Transfers
 pub mod Unbroken
+pub mod Amended

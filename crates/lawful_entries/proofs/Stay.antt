@@ -34,10 +34,10 @@ empty_is_lawful facts = record {
 }
 
 -- who is there stays there, at his position, and the first half ends as it did
-record IsSteady (facts behind : Facts) : Type 0 where
-  there : (p : ℕ) → has_player facts p ≡ true → has_player behind p ≡ true
-  position : (p : ℕ) → has_player facts p ≡ true → position_in behind.players p ≡ position_in facts.players p
-  split : facts.calendar.split ≡ behind.calendar.split
+pub record IsSteady (facts behind : Facts) : Type 0 where
+  pub there : (p : ℕ) → has_player facts p ≡ true → has_player behind p ≡ true
+  pub position : (p : ℕ) → has_player facts p ≡ true → position_in behind.players p ≡ position_in facts.players p
+  pub split : facts.calendar.split ≡ behind.calendar.split
 
 module _ (facts behind : Facts) (steady : IsSteady facts behind) where
   all_there : (players : List ℕ) → AreThere facts players → AreThere behind players
@@ -78,7 +78,7 @@ module _ (facts behind : Facts) (steady : IsSteady facts behind) where
   deeds_stay [] all = tt
   deeds_stay (e ∷ h) all = (deed_stays e.deed all.0, deeds_stay h all.1)
 
-  history_stays : (h : List Event) → IsLawfulHistory facts h → IsLawfulHistory behind h
+  pub history_stays : (h : List Event) → IsLawfulHistory facts h → IsLawfulHistory behind h
   history_stays h lawful = record {
     deeds = deeds_stay h lawful.deeds;
     gameweeks = lawful.gameweeks;

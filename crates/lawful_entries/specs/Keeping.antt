@@ -1,5 +1,5 @@
 -- That a history's records stay lawful: whatever its manager does, the operator changes or a moment locks.
-use Rattle.std.specs.Prelude.{◌≡◌, ◌≢◌, ℕ, ⊤, true, List, [], Some, None, length}
+use Rattle.std.specs.Prelude.{◌≡◌, ◌≢◌, ◌⊎◌, ℕ, ⊤, true, false, List, [], Some, None, length}
 use Rattle.fpl_base.specs.declared.kinds.Chip.TheVariants.{None as NoChip}
 use Rattle.rule_book.specs.declared.player.Player.{Player}
 use Rattle.rule_book.specs.History.{Event, kept}
@@ -9,11 +9,13 @@ use Rattle.rule_book.specs.HistoryTeam.{is_begun}
 use Rattle.rule_book.specs.PlayerFigures.{position_in}
 use Rattle.rule_book.specs.Players.{player_of, price_refusal}
 use Rattle.rule_book.specs.Squads.{has_squad_shape, positions_of}
+use Rattle.rule_book.specs.Uses.{has_had}
 use Rattle.season_book.specs.Book.{Facts}
 use Rattle.season_book.specs.Commands.{changed_by}
 use Rattle.season_book.specs.Doing.{IsGranted}
 use Rattle.season_book.specs.EntryCommands.{deed_refusal, history_after, names_players}
 use Rattle.season_book.specs.EntryViews.{gameweek_seen}
+use Rattle.season_book.specs.PlayerCommands.{Amendment, facts_amended}
 use Rattle.season_book.specs.Verdict.{locked_at}
 use Rattle.season_book.specs.declared.command.Command.{Command}
 use Rattle.season_book.specs.declared.command.Command.TheVariants as command
@@ -27,6 +29,12 @@ EmptyIsLawful = (facts : Facts) → IsLawfulHistory facts []
 abbrev pub ChangesKeepHistories : Type 0
 ChangesKeepHistories = (facts : Facts) (now : ℕ) (command : Command) (h : List Event)
     → IsGranted facts now command → IsLawfulHistory facts h → IsLawfulHistory (changed_by facts command) h
+
+-- so does another name and another position of a player, where it is his position already or the history has not had him
+abbrev pub AmendmentsKeepHistories : Type 0
+AmendmentsKeepHistories = (facts : Facts) (given : Amendment) (h : List Event) → IsHistory h
+    → (position_in facts.players given.player ≡ given.position) ⊎ (has_had h given.player ≡ false)
+    → IsLawfulHistory facts h → IsLawfulHistory (facts_amended facts given) h
 
 -- and so does a moment, which may lock gameweeks
 abbrev pub MomentsKeepHistories : Type 0

@@ -1,4 +1,4 @@
-ghost use Rattle.lawful_entries.specs.Keeping.{ChangesKeepHistories, DeedsKeepHistories, EmptyIsLawful, MomentsKeepHistories};
+ghost use Rattle.lawful_entries.specs.Keeping.{AmendmentsKeepHistories, ChangesKeepHistories, DeedsKeepHistories, EmptyIsLawful, MomentsKeepHistories};
 ghost use Rattle.lawful_entries.specs.Recorded.{FirstTeamsAreTold, TeamsAreInSeason, TransfersAreLawful};
 
 /// A law on the definitions: the history of a manager who did nothing is lawful, and a lawful one stays so behind a
@@ -7,6 +7,7 @@ ghost use Rattle.lawful_entries.specs.Recorded.{FirstTeamsAreTold, TeamsAreInSea
 pub fn histories_stay_lawful()
     ensures empty { EmptyIsLawful }
     ensures change { ChangesKeepHistories }
+    ensures amended { AmendmentsKeepHistories }
     ensures moment { MomentsKeepHistories }
     ensures deed { DeedsKeepHistories }
 {}

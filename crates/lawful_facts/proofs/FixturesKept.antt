@@ -10,7 +10,7 @@ use Rattle.std.proofs.lemmas.Option.{none-some}
 use Rattle.fpl_base.specs.declared.rule.Rule.TheVariants as rule
 use Rattle.rule_book.specs.declared.line.Line.{Line}
 use Rattle.rule_book.specs.declared.season.Fixture.{Fixture}
-use Rattle.rule_book.specs.Calendar.{CalendarFacts, facts_held, fixture_of, fixture_there, fixtures_full, gameweek_full, is_gameweek, is_locked_place, kickoff_early, moved_to, standing, standing_among, with_fixture, with_move}
+use Rattle.rule_book.specs.Calendar.{CalendarFacts, between, facts_held, fixture_of, fixture_there, fixtures_full, gameweek_full, is_gameweek, is_locked_place, kickoff_early, moved_to, standing, standing_among, with_fixture, with_move, with_opponents}
 use Rattle.rule_book.specs.CalendarCalls.{fixture_refusal, move_refusal}
 use Rattle.rule_book.specs.MatchFacts.{Lines, MatchFacts, has_facts, is_finished, line_in, line_of, lines_of}
 use Rattle.season_book.specs.Book.{Facts}
@@ -212,3 +212,57 @@ module _ (facts : Facts) (lawful : AreLawful facts) where
                 lawful.few_standing g,
                 gone_pass (λ (x : Fixture). x.id) (λ (x : Fixture). is_gameweek g x.gw) f (λ x. record x { gw = to; kickoff = kickoff }) (λ x. here) xs,
               )
+
+  -- a fixture without lines, between other clubs
+  pub fixture_amended : (f home away : ℕ) → has_club facts home ≡ true → has_club facts away ≡ true → home ≢ away → AreLawful (record facts { calendar = with_opponents facts.calendar f home away })
+  fixture_amended f home away home_there away_there two =
+      with_fixtures (map (between f home away) xs) (omega (arith, length-map xs (between f home away), lawful.few_fixtures)) crowd
+      (λ q x at. mapped_found (λ (x : Fixture). x.id) (IsLawfulFixture facts) (between f home away) keeps xs q x (λ y found. amended y (y.id == f) (lawful.fixtures q y found)) at)
+      (λ q p line at. (
+      let old = of_line q p line at in (
+        between f home away old.0,
+        found_mapped (λ (x : Fixture). x.id) (between f home away) keeps xs q ∙ ap (option_map (between f home away)) old.1,
+        stays old.0 (old.0.id == f) old.2,
+      )))
+    where
+      xs : List Fixture
+      xs = facts.calendar.fixtures
+
+      keeps : (x : Fixture) → (between f home away x).id ≡ x.id
+      keeps x = by (x.id == f)
+        where
+          by : (b : Bool) → (if b then record x { home = home; away = away } else x).id ≡ x.id
+          by true = refl
+          by false = refl
+
+      amended : (x : Fixture) (b : Bool) → IsLawfulFixture facts x → IsLawfulFixture facts (if b then record x { home = home; away = away } else x)
+      amended x false old = old
+      amended x true old = record { home = home_there; away = away_there; two = two; place = old.place; kickoff = old.kickoff; finished = old.finished }
+
+      stays : (x : Fixture) (b : Bool) → is_locked_place facts.calendar x.gw ≡ true → is_locked_place facts.calendar (if b then record x { home = home; away = away } else x).gw ≡ true
+      stays x false old = old
+      stays x true old = old
+
+      same_standing : (xs : List Fixture) (g : ℕ) → standing_among (map (between f home away) xs) g ≡ standing_among xs g
+      same_standing [] g = refl
+      same_standing (x ∷ xs) g = by (x.id == f) (same_standing xs g)
+        where
+          by : (b : Bool) → standing_among (map (between f home away) xs) g ≡ standing_among xs g
+              → standing_among ((if b then record x { home = home; away = away } else x) ∷ map (between f home away) xs) g ≡ standing_among (x ∷ xs) g
+          by true rest = here (is_gameweek g x.gw) rest
+            where
+              here : (t : Bool) → standing_among (map (between f home away) xs) g ≡ standing_among xs g
+                  → map (λ (y : Fixture). y.id) (cond t (record x { home = home; away = away } ∷ filter (λ (y : Fixture). is_gameweek g y.gw) (map (between f home away) xs)) (filter (λ (y : Fixture). is_gameweek g y.gw) (map (between f home away) xs)))
+                  ≡ map (λ (y : Fixture). y.id) (cond t (x ∷ filter (λ (y : Fixture). is_gameweek g y.gw) xs) (filter (λ (y : Fixture). is_gameweek g y.gw) xs))
+              here true rest = ap (λ l. x.id ∷ l) rest
+              here false rest = rest
+          by false rest = here (is_gameweek g x.gw) rest
+            where
+              here : (t : Bool) → standing_among (map (between f home away) xs) g ≡ standing_among xs g
+                  → map (λ (y : Fixture). y.id) (cond t (x ∷ filter (λ (y : Fixture). is_gameweek g y.gw) (map (between f home away) xs)) (filter (λ (y : Fixture). is_gameweek g y.gw) (map (between f home away) xs)))
+                  ≡ map (λ (y : Fixture). y.id) (cond t (x ∷ filter (λ (y : Fixture). is_gameweek g y.gw) xs) (filter (λ (y : Fixture). is_gameweek g y.gw) xs))
+              here true rest = ap (λ l. x.id ∷ l) rest
+              here false rest = rest
+
+      crowd : (g : ℕ) → length (standing_among (map (between f home away) xs) g) ≤ 20
+      crowd g = subst (λ (l : List ℕ). length l ≤ 20) (sym (same_standing xs g)) (lawful.few_standing g)

@@ -6,8 +6,8 @@ use Rattle.season_book.specs.Commands.{has_club, has_fixture, has_place, has_pla
 use Rattle.season_book.specs.declared.command.Command.TheVariants as command
 use Rattle.std.specs.Prelude.{is_some}
 use Rattle.std.specs.List.{list_all}
-use Rattle.lawful_facts.specs.Keeping.{GrantedAreLawful}
-use Rattle.lawful_facts.proofs.FixturesKept.{fixture_added, fixture_moved, is_its_place}
+use Rattle.lawful_facts.specs.Keeping.{AmendmentsAreLawful, GrantedAreLawful}
+use Rattle.lawful_facts.proofs.FixturesKept.{fixture_added, fixture_amended, fixture_moved, is_its_place}
 use Rattle.lawful_facts.proofs.MatchesKept.{line_dropped, line_replaced, mark_set, sheet_replaced}
 use Rattle.lawful_facts.proofs.PlayersKept.{player_added, player_changed}
 use Rattle.lawful_facts.proofs.SeasonKept.{deadline_moved}
@@ -31,6 +31,10 @@ granted_are_lawful facts now (command.Fixture id home away g kickoff) order lawf
 granted_are_lawful facts now (command.Move f g kickoff) order lawful is ranges granted =
     let there = and_parts (has_fixture facts f) (has_place facts g) granted.there in
     fixture_moved facts lawful f g kickoff (is_its_place facts g ranges.1 there.1) order granted.unbroken
+granted_are_lawful facts now (command.AmendFixture f home away) order lawful is ranges granted =
+    let there = and_parts (has_fixture facts f) (has_club facts home && has_club facts away) granted.there in
+    let clubs = and_parts (has_club facts home) (has_club facts away) there.1 in
+    fixture_amended facts lawful f home away clubs.0 clubs.1 is
 granted_are_lawful facts now (command.Sheet f lines finished) order lawful is ranges granted =
     let there = and_parts (has_fixture facts f) (list_all (λ row. has_player facts row.0) lines) granted.there in
     sheet_replaced facts lawful f lines finished there.0 there.1 granted.unbroken
@@ -42,3 +46,7 @@ granted_are_lawful facts now (command.Drop f p) order lawful is ranges granted =
     line_dropped facts lawful f p there.0
 granted_are_lawful facts now (command.Finished f finished) order lawful is ranges granted = mark_set facts lawful f finished granted.unbroken
 granted_are_lawful facts now command order lawful is ranges granted = lawful
+
+pub amendments_are_lawful : AmendmentsAreLawful
+amendments_are_lawful facts given lawful =
+    player_changed facts lawful (λ p. record p { name = given.name; position = given.position }) given.player (λ p. refl) (λ p old. record { club = old.club; price = old.price })

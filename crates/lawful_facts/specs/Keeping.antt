@@ -4,6 +4,7 @@ use Rattle.rule_book.specs.Calendar.{deadlines_order}
 use Rattle.season_book.specs.Book.{Facts}
 use Rattle.season_book.specs.Commands.{IsCommand, begun_by, changed_by}
 use Rattle.season_book.specs.Doing.{IsGranted}
+use Rattle.season_book.specs.PlayerCommands.{Amendment, facts_amended}
 use Rattle.season_book.specs.Verdict.{locked_at}
 use Rattle.season_book.specs.declared.command.Command.{Command}
 use Rattle.record_codec.specs.Ranges.{HasRanges}
@@ -19,6 +20,10 @@ NewSeasonsAreLawful = (command : Command) (facts : Facts) → IsCommand command 
 abbrev pub GrantedAreLawful : Type 0
 GrantedAreLawful = (facts : Facts) (now : ℕ) (command : Command) → AreInOrder facts → AreLawful facts
     → IsCommand command → HasRanges command → IsGranted facts now command → AreLawful (changed_by facts command)
+
+-- those in which a player has another name and another position
+abbrev pub AmendmentsAreLawful : Type 0
+AmendmentsAreLawful = (facts : Facts) (given : Amendment) → AreLawful facts → AreLawful (facts_amended facts given)
 
 -- those behind a moment
 abbrev pub MomentsAreLawful : Type 0

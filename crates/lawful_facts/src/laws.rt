@@ -1,4 +1,4 @@
-ghost use Rattle.lawful_facts.specs.Keeping.{GrantedAreLawful, MomentsAreLawful, NewSeasonsAreLawful};
+ghost use Rattle.lawful_facts.specs.Keeping.{AmendmentsAreLawful, GrantedAreLawful, MomentsAreLawful, NewSeasonsAreLawful};
 ghost use Rattle.lawful_facts.specs.Rules.{FactsBreakNoRule};
 ghost use Rattle.lawful_facts.specs.Telling.{AreFamilies, FewStand, FewerStand, NoneIsFull};
 ghost use Rattle.lawful_facts.specs.Telling.{RecordsAreThere, RecordsAreTold};
@@ -25,6 +25,7 @@ pub fn few_records_stand()
 pub fn facts_stay_lawful()
     ensures begin { NewSeasonsAreLawful }
     ensures command { GrantedAreLawful }
+    ensures amended { AmendmentsAreLawful }
     ensures moment { MomentsAreLawful }
 {}
 

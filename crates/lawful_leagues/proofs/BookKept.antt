@@ -24,11 +24,14 @@ use Rattle.rule_book.specs.LeagueCalls.{create_refusal, draw_refusal, has_room_f
 use Rattle.rule_book.specs.Leagues.{LeagueFacts}
 use Rattle.rule_book.proofs.AtId.{one_other, one_same, placed_other, placed_same}
 use Rattle.season_book.specs.Book.{Book, EntryFacts, Facts, Last, caller_number, histories_with, last_number}
-use Rattle.season_book.specs.Commands.{IsCommand, are_there, begun_by, changed_by, has_gameweek, refusal_of}
+use Rattle.season_book.specs.Commands.{IsCommand, are_there, begun_by, changed_by, has_gameweek, has_player, refusal_of}
 use Rattle.season_book.specs.EntryCommands.{deed_refusal, history_after, names_players}
 use Rattle.season_book.specs.EntryViews.{gameweek_seen}
+use Rattle.season_book.specs.Hosts.{keys_of}
+use Rattle.season_book.specs.KeyCommands.{NewKey, entries_rekeyed, key_given, rekey_refusal, with_key}
 use Rattle.season_book.specs.LeagueCommands.{cup_broken, cup_made, cup_there, is_issued, is_registered, league_made, league_refusal, leagues_after, leagues_there}
-use Rattle.season_book.specs.Verdict.{Outcome, Verdict, accepted, begun, cups_ruled, in_season, judged, key_refusal, keyed, leagues_ruled, locked_at, number_refusal, ruled, ruled_by, ruled_for, ruled_of, settled, unless_broken, unless_misnumbered, unless_refused, with_entry, with_history}
+use Rattle.season_book.specs.PlayerCommands.{Amendment, facts_amended, have_had, position_refusal}
+use Rattle.season_book.specs.Verdict.{Outcome, Verdict, accepted, amend_ruled, amends_ruled, begun, cups_ruled, in_season, judged, key_refusal, key_ruled, keyed, keys_ruled, leagues_ruled, locked_at, number_refusal, ruled, ruled_by, ruled_for, ruled_of, settled, unless_broken, unless_misnumbered, unless_refused, with_entry, with_history}
 use Rattle.season_book.specs.declared.answer.Answer.{Answer}
 use Rattle.season_book.specs.declared.answer.Answer.TheVariants as answer
 use Rattle.season_book.specs.declared.command.Command.{Command}
@@ -42,8 +45,8 @@ use Rattle.season_records.proofs.Finds.{member_beside, more_from, none_in}
 use Rattle.lawful_leagues.specs.Keeping.{EmptyIsLawful, IsCaller, MomentsKeepLaws, VerdictsKeepLaws}
 use Rattle.lawful_leagues.specs.Leagues.{AreLawful, IsLawfulCup, IsLawfulLast, IsLawfulLeague, IsMade, gameweeks_of, plays_from}
 use Rattle.lawful_leagues.proofs.CupsKept.{coins_small, cup_kept, last_kept, open_cup}
-use Rattle.lawful_leagues.proofs.Grown.{IsGrown, grown_history, grown_more, grown_same}
-use Rattle.lawful_leagues.proofs.Keys.{keys_kept, keys_more, room_and_new}
+use Rattle.lawful_leagues.proofs.Grown.{IsGrown, grown_history, grown_more, grown_rekeyed, grown_same}
+use Rattle.lawful_leagues.proofs.Keys.{keys_kept, keys_more, keys_rekeyed, room_and_new}
 use Rattle.lawful_leagues.proofs.LeaguesKept.{drawn_lawful, early_plays, joined_lawful, league_kept, new_lawful}
 use Rattle.lawful_leagues.proofs.Memberships.{count_changed, count_more, count_same, leagues_count}
 use Rattle.lawful_leagues.proofs.Numbers.{changed_at, there_is, last_there, length_changed, length_histories, stays_beside, stays_changed}
@@ -200,6 +203,44 @@ module _ (book : Book) (order : IsInOrder book) (lawful : AreLawful book) (early
         };
         begun = λ is. none-some facts (sym is ∙ there);
         made = last_there book.entries new;
+        issued = grown.issued;
+      })
+
+  -- another name and another position of a player
+  amend_lawful : (given : Amendment) (facts : Facts) → book.facts ≡ Some facts → StaysLawful book (amend_ruled book facts given)
+  amend_lawful given facts there =
+      there_lawful (record { made = made.Nothing; book = record book { facts = Some (facts_amended facts given) } })
+      (has_player facts given.player) (position_refusal facts (have_had book.entries given.player) given) (λ has unbroken. record {
+        lawful = with_facts book (Some (facts_amended facts given)) lawful (λ none. absurd (none-some (facts_amended facts given) (sym none)))
+            (subst (λ (some : Option Facts). option_map_or (λ (facts : Facts). length facts.calendar.deadlines) some 0 ≤ length facts.calendar.deadlines) (sym there) (omega arith));
+        begun = λ none. none-some (facts_amended facts given) (sym none);
+        made = tt;
+        issued = λ e is. is;
+      })
+
+  -- another key of an entry
+  rekey_lawful : (operator : List ℕ) (given : NewKey) (facts : Facts) → book.facts ≡ Some facts → StaysLawful book (key_ruled operator book given)
+  rekey_lawful operator given facts there =
+      there_lawful (record { made = made.Nothing; book = record book { entries = entries_rekeyed book.entries given } })
+      (is_issued book.entries given.entry) (rekey_refusal operator (keys_of book.entries) given.entry given.key) (λ issued unbroken.
+      let found = there_is (entry_in book.entries given.entry) issued in
+      let after : List EntryFacts = entries_rekeyed book.entries given in
+      let grown : IsGrown book.entries after = grown_rekeyed book.entries given in
+      let weeks : ℕ = gameweeks_of book in
+      record {
+        lawful = record {
+          blank = λ is. absurd (none-some facts (sym is ∙ there));
+          few_entries = subst (λ n. n ≤ most_entries) (sym (length_changed (with_key given) book.entries given.entry)) lawful.few_entries;
+          keys = keys_rekeyed operator book.entries given found.0 found.1 lawful.keys unbroken;
+          few_leagues = lawful.few_leagues;
+          leagues = λ l league at. league_kept book.entries after grown weeks weeks (omega arith) league (lawful.leagues l league at);
+          memberships = lawful.memberships;
+          few_cups = lawful.few_cups;
+          cups = λ c cup at. cup_kept book.entries after grown weeks weeks (omega arith) cup (lawful.cups c cup at);
+          lasts = λ c last at. last_kept book.entries after grown book.leagues book.leagues (λ l is. is) book.cups book.cups (λ c is. is) c last (lawful.lasts c last at);
+        };
+        begun = λ is. none-some facts (sym is ∙ there);
+        made = tt;
         issued = grown.issued;
       })
 
@@ -440,6 +481,10 @@ module _ (book : Book) (order : IsInOrder book) (lawful : AreLawful book) (early
   ruled_lawful : (operator : List ℕ) (caller : Caller) (now : ℕ) (command : Command) → IsCommand command → StaysLawful book (ruled operator book caller now command)
   ruled_lawful operator caller now (command.Key key name) is =
       in_season_lawful (λ facts. keyed operator book (command.Key key name)) (key_lawful operator key name) book.facts refl
+  ruled_lawful operator caller now (command.AmendPlayer p name position) is =
+      in_season_lawful (λ facts. amends_ruled book facts (command.AmendPlayer p name position)) (amend_lawful (record { player = p; name = name; position = position })) book.facts refl
+  ruled_lawful operator caller now (command.Rekey e key name) is =
+      in_season_lawful (λ facts. keys_ruled operator book (command.Rekey e key name)) (rekey_lawful operator (record { entry = e; key = key; name = name })) book.facts refl
   ruled_lawful operator caller now (command.Squad players captain vice) is = deeds_lawful caller (command.Squad players captain vice)
   ruled_lawful operator caller now (command.Transfers swaps) is = deeds_lawful caller (command.Transfers swaps)
   ruled_lawful operator caller now (command.Lineup players captain vice) is = deeds_lawful caller (command.Lineup players captain vice)

@@ -10,12 +10,13 @@ use Rattle.rule_book.specs.History.{Event}
 use Rattle.rule_book.specs.HistoryRules.{is_started}
 use Rattle.rule_book.specs.UpTo.{start_of}
 use Rattle.season_book.specs.Book.{EntryFacts, histories_with}
+use Rattle.season_book.specs.KeyCommands.{NewKey, entries_rekeyed, with_key}
 use Rattle.season_book.specs.LeagueCommands.{is_issued, is_registered}
 use Rattle.season_book.specs.LeagueViews.{first_of}
 use Rattle.season_records.proofs.Deeds.{entry_kept, one_here}
-use Rattle.season_records.proofs.Finds.{numbered_more}
+use Rattle.season_records.proofs.Finds.{numbered_changed, numbered_more}
 use Rattle.lawful_leagues.specs.Leagues.{plays_from}
-use Rattle.lawful_leagues.proofs.Numbers.{stays_beside}
+use Rattle.lawful_leagues.proofs.Numbers.{stays_beside, stays_changed}
 use Rattle.lawful_leagues.proofs.Tests.{all_also}
 
 -- each entry that was issued is still there, with the first gameweek that it had
@@ -74,6 +75,14 @@ grown_more entries key name = record {
   issued = stays_beside entries (record { key = key; name = name; history = [] } ∷ []);
   first = λ e g is.
       sym (numbered_more (λ o. start_of (option_map_or (λ (entry : EntryFacts). entry.history) o [])) entries (record { key = key; name = name; history = [] }) e (λ last. refl)) ∙ is;
+}
+
+-- one with another key
+pub grown_rekeyed : (entries : List EntryFacts) (given : NewKey) → IsGrown entries (entries_rekeyed entries given)
+grown_rekeyed entries given = record {
+  issued = stays_changed (with_key given) entries given.entry;
+  first = λ e g is.
+      sym (numbered_changed (λ o. start_of (option_map_or (λ (entry : EntryFacts). entry.history) o [])) (with_key given) entries given.entry e (λ same x at. refl)) ∙ is;
 }
 
 -- one with a history that goes on

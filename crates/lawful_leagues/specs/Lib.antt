@@ -1,3 +1,4 @@
 pub mod Keeping
 pub mod Leagues
+pub mod Rekeyed
 pub mod Rules

@@ -1,4 +1,5 @@
 ghost use Rattle.lawful_leagues.specs.Keeping.{EmptyIsLawful, MomentsKeepLaws, VerdictsKeepLaws};
+ghost use Rattle.lawful_leagues.specs.Rekeyed.{KeysChangeHands};
 ghost use Rattle.lawful_leagues.specs.Rules.{CupsBreakNone, LastsBreakNone, LeaguesBreakNone, MembersBreakNone};
 ghost use Rattle.lawful_leagues.specs.Rules.{EntriesAreIssuedRightly, IssuesBreakNone};
 
@@ -24,4 +25,10 @@ pub fn leagues_break_no_rule()
 pub fn entries_are_issued_rightly()
     ensures issued { EntriesAreIssuedRightly }
     ensures rules { IssuesBreakNone }
+{}
+
+/// A law on the definitions: where an entry of a lawful book was given another key, that key is the entry's, and the one that
+/// it had is nobody's.
+pub fn keys_change_hands()
+    ensures { KeysChangeHands }
 {}

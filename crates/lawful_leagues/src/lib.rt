@@ -4,4 +4,6 @@
 
 mod laws;
 
-pub use laws::{books_keep_leagues, entries_are_issued_rightly, leagues_break_no_rule};
+pub use laws::{
+    books_keep_leagues, entries_are_issued_rightly, keys_change_hands, leagues_break_no_rule,
+};

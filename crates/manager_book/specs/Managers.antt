@@ -1,15 +1,16 @@
 -- The entries of a season, in the order of issue.
-use Rattle.std.specs.Prelude.{◌≡◌, ◌≢◌, ◌≤◌, ◌+◌, ◌-◌, ℕ, not, List, [], ◌∷◌, length, map, Option, Some, None, is_some, slice_get, slice_index_or, if◌then◌else◌, nat_lt}
+use Rattle.std.specs.Prelude.{◌≡◌, ◌≢◌, ◌≤◌, ◌+◌, ◌-◌, ℕ, Bool, not, ◌||◌, ◌==◌, List, [], ◌∷◌, length, map, Option, Some, None, is_some, slice_get, slice_index_or, ⊤, if◌then◌else◌, nat_lt}
+use Rattle.std.specs.List.{list_any}
 use Rattle.std.specs.Option.{option_map}
 use Rattle.std.specs.Str.{bytes_eq}
 use Rattle.fpl_base.specs.declared.kinds.Profile.{Profile}
 use Rattle.fpl_base.specs.declared.rule.Rule.{Rule}
 use Rattle.fpl_base.specs.declared.rule.Rule.TheVariants as rule
 use Rattle.rule_book.specs.declared.transfers.Sale.{Sale}
-use Rattle.rule_book.specs.Entries.{most_entries}
+use Rattle.rule_book.specs.Entries.{changed_in, most_entries}
 use Rattle.rule_book.specs.Refusals.{first_broken, unless}
 use Rattle.season_ledger.specs.declared.row.Row.{Row}
-use Rattle.season_ledger.specs.Rows.{Rise}
+use Rattle.season_ledger.specs.Rows.{Rise, rows_had}
 use Rattle.manager_book.specs.declared.manager.Manager.{Manager}
 
 -- by which rules the season is played, and the managers: entry 1 is the first
@@ -33,6 +34,18 @@ season_of book e = (manager_in book.managers e).season
 abbrev pub sales_of : Managers → ℕ → List (ℕ × Sale)
 sales_of book e = (manager_in book.managers e).sales
 
+-- a transfer names a player
+abbrev pub sales_name : List (ℕ × Sale) → ℕ → Bool
+sales_name sales p = list_any (λ made. (made.1.out == p) || (made.1.into == p)) sales
+
+-- a player stands in a team of a manager's, or one of his transfers names him
+abbrev pub manager_had : Manager → ℕ → Bool
+manager_had m p = rows_had m.season p || sales_name m.sales p
+
+-- some manager's so
+abbrev pub managers_had : List Manager → ℕ → Bool
+managers_had managers p = list_any (λ m. manager_had m p) managers
+
 -- the rows of each manager rise by gameweek
 abbrev pub AreRisen : List Manager → Type 0
 AreRisen managers = (e : ℕ) → Rise (manager_in managers e).season
@@ -52,6 +65,19 @@ number_from n (m ∷ managers) key = if bytes_eq key m.key then Some n else numb
 -- the entry with a key
 abbrev pub entry_with : Managers → List ℕ → Option ℕ
 entry_with book key = number_from 1 book.managers key
+
+-- no two managers have the same key: nobody behind a manager has his
+abbrev pub AreApart : List Manager → Type 0
+AreApart [] = ⊤
+AreApart (m ∷ managers) = (number_from 1 managers m.key ≡ None) × AreApart managers
+
+-- an entry with another key and another name
+abbrev pub with_key : List ℕ → List ℕ → Manager → Manager
+with_key key name m = record m { key = key; name = name }
+
+-- the managers where one has another key and another name
+abbrev pub rekeyed : List Manager → ℕ → List ℕ → List ℕ → List Manager
+rekeyed managers e key name = changed_in (with_key key name) managers e
 
 -- other entries stay, and so do all keys and names and the profile
 pub record IsSameBut (e : ℕ) (old new : Managers) : Type 0 where

@@ -1,5 +1,5 @@
 //! The entries of a season.
-ghost use Rattle.std.specs.Prelude.{◌≡◌, ◌≢◌, ◌<◌, ◌≤◌, ◌+◌, ◌++◌, ◌∷◌, ℕ, List, [], None, Some, length, OnOk, OnErr, IfOk, option_copied, slice_get, ◌-◌, map, All, IsSome, IsNone, IsTrue, ◌↔◌, IfSome};
+ghost use Rattle.std.specs.Prelude.{◌≡◌, ◌≢◌, ◌<◌, ◌≤◌, ◌+◌, ◌++◌, ◌∷◌, ℕ, List, [], None, Some, length, OnOk, OnErr, IfOk, option_copied, slice_get, ◌-◌, map, All, IsSome, IsNone, IsTrue, ◌↔◌, IfSome, if◌then◌else◌};
 ghost use Rattle.fpl_base.specs.declared.kinds.Chip.TheVariants.{None as NoChip};
 ghost use Rattle.fpl_base.specs.declared.kinds.Position.{Position};
 ghost use Rattle.rule_book.specs.Batch.{HavePositions, AreIncomersThere};
@@ -16,7 +16,9 @@ ghost use Rattle.season_ledger.specs.Rows.{AllUpTo, put_chip, used_by, first_in,
 ghost use Rattle.season_ledger.specs.Stands.{StandsFor};
 ghost use Rattle.rule_book.specs.EntryCalls.{in_next, slot_of, picks_from};
 ghost use Rattle.manager_book.specs.Calls.{team_at, register_broken, transfer_broken, Moves, LinesUp, Registers, lineup_broken, play_broken, cancel_broken, with_gameweek};
-ghost use Rattle.manager_book.specs.Managers.{Managers, AreRisen, IsSameBut, season_of, sales_of, key_of, name_of, entry_with, issue_refusal};
+ghost use Rattle.manager_book.specs.Managers.{Managers, AreRisen, IsSameBut, season_of, sales_of, key_of, name_of, entry_with, issue_refusal, managers_had, rekeyed};
+ghost use Rattle.manager_book.specs.Indexed.{number_at};
+ghost use Rattle.std.specs.Str.{bytes_eq};
 
 use crate::batch::transfer;
 use crate::chips::{cancel, play};
@@ -63,6 +65,32 @@ fn copied(alloc: Global, bytes: &[u8]) -> Result<Vec<u8>, Memory>
         return Err(Memory);
     }
     Ok(copy)
+}
+
+// Puts a number that stood at one key at another one; unchanged where memory is wanting.
+fn renumber(
+    alloc: Global,
+    numbers: &mut BTreeMap<Vec<u8>, u32>,
+    old: &[u8],
+    new: &[u8],
+    number: u32,
+) -> Result<(), Memory>
+    ensures ok { OnOk result
+        ((key : List ℕ) → number_at numbers.new key
+        ≡ (if bytes_eq key new.now then Some number
+        else if bytes_eq key old.now then None
+        else number_at numbers.old key)) }
+    ensures err { OnErr result (numbers.new ≡ numbers.old) }
+{
+    let bytes = copied(alloc, new)?;
+    if numbers.insert(bytes, number).is_err() {
+        return Err(Memory);
+    }
+    if old == new {
+        return Ok(());
+    }
+    numbers.remove(old);
+    Ok(())
 }
 
 impl ManagerBook {
@@ -478,6 +506,13 @@ impl ManagerBook {
         done
     }
 
+    /// Whether a player stands in a team of some entry, or a transfer names him.
+    pub fn have_had(&self, player: PlayerId) -> bool
+        ensures { result ≡ managers_had self.now.managers player }
+    {
+        self.managers.iter().any(|manager| manager.has_had(player))
+    }
+
     /// A law: the rows of each entry rise by gameweek.
     pub fn keeps_rows(&self)
         ensures { AreRisen self.now.managers }
@@ -516,6 +551,27 @@ impl ManagerBook {
             self.managers.pop();
             return Err(Memory);
         }
+        Ok(())
+    }
+
+    /// Gives an entry this key and this name; its old key is nobody's from then on. A key that it has already may be named
+    /// again.
+    pub fn rekey(&mut self, e: EntryId, key: Key, name: Name) -> Result<(), Memory>
+        requires issued { e ≤ length self.old.managers }
+        requires free { IfSome (entry_with self.old key) (λ owner. owner ≡ e) }
+        ensures ok { OnOk result
+            (self.new
+            ≡ record self.old { managers = rekeyed self.old.managers e key name }) }
+        ensures err { OnErr result (self.new ≡ self.old) }
+    {
+        let place = e.get() as usize - 1;
+        let old = self.managers[place].key.bytes();
+        renumber(self.alloc, &mut self.numbers, old, key.bytes(), e.get())?;
+        let manager = &mut self.managers[place];
+        manager.key = key;
+        manager.name = name;
+        // The law that the rows rise, for the prover.
+        manager.season.keeps_rows();
         Ok(())
     }
 

@@ -1,8 +1,9 @@
 // The transfers of one entry.
 ghost use Rattle.std.specs.Prelude.{◌≡◌, ◌++◌, ℕ, [], length, take, IfOk, OnOk, OnErr};
 ghost use Rattle.manager_book.specs.Calls.{with_gameweek};
+ghost use Rattle.manager_book.specs.Managers.{sales_name};
 
-use fpl_base::{Gw, Memory};
+use fpl_base::{Gw, Memory, PlayerId};
 use rule_book::Sale;
 use std::alloc::Global;
 use std::marker::Model;
@@ -54,6 +55,15 @@ impl EntrySales {
         ensures { result ≡ length self.now }
     {
         self.made.len()
+    }
+
+    /// Whether one of them names a player.
+    pub fn names(&self, player: PlayerId) -> bool
+        ensures { result ≡ sales_name self.now player }
+    {
+        self.made
+            .iter()
+            .any(|made| made.1.out == player || made.1.into == player)
     }
 
     /// Adds those of a batch behind the others; unchanged where memory is wanting.

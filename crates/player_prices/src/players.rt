@@ -1,11 +1,11 @@
 // The players of a season, by ascending id in one table.
 ghost use Rattle.std.specs.Prelude.{◌≡◌, ◌<◌, ◌↔◌, None, IsTrue, [], length, slice_get, option_copied, OnOk, OnErr, IfOk, IfErr, IfSome};
-ghost use Rattle.rule_book.specs.Players.{ArePlayers, IsPrice, most_players, player_of, with_player, with_price, with_club, with_gone, price_refusal, player_refusal};
+ghost use Rattle.rule_book.specs.Players.{ArePlayers, IsPrice, most_players, player_of, with_player, with_price, with_club, with_gone, with_details, price_refusal, player_refusal};
 ghost use Rattle.rule_book.specs.declared.player.Player.{Player};
 ghost use Rattle.rule_book.specs.Refusals.{IsJudged, IsJudgedOrOut};
 ghost use Rattle.player_prices.specs.Places.{StandsAt, IsPlaceFor};
 
-use fpl_base::{ClubId, PlayerId, Refused, Rule, Tenths};
+use fpl_base::{ClubId, Name, PlayerId, Position, Refused, Rule, Tenths};
 use rule_book::Player;
 use std::alloc::Global;
 use std::marker::Model;
@@ -32,6 +32,14 @@ impl Model for Players {
     ghost view = { λ s. map (λ b. b.value) s.rows.items };
 
     ghost invariant = { λ s. ArePlayers (map (λ b. b.value) s.rows.items) };
+}
+
+// Gives a player this name and this position.
+fn amend(player: &mut Player, name: Name, position: Position)
+    ensures { player.new ≡ record player.old { name = name; position = position } }
+{
+    player.name = name;
+    player.position = position;
 }
 
 impl Players {
@@ -118,6 +126,15 @@ impl Players {
     {
         if let Ok(place) = self.search(player) {
             self.rows[place].club = club;
+        }
+    }
+
+    /// Sets a player's name and his position. Where the player is not there nothing changes.
+    pub fn set_details(&mut self, player: PlayerId, name: Name, position: Position)
+        ensures { self.new ≡ with_details self.old player name position }
+    {
+        if let Ok(place) = self.search(player) {
+            amend(&mut self.rows[place], name, position);
         }
     }
 

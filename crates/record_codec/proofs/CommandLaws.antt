@@ -25,7 +25,7 @@ use Rattle.record_fields.specs.Ranges.{is_between, IsClub, IsPlayer, IsId, IsGam
 use Rattle.record_fields.specs.Reading.{Reader, ◌>>=◌, ◌then◌, kept, numbered}
 use Rattle.record_fields.proofs.FieldLaws.{IsBytes, Taken, Takes, Reads, ReadsLast, at_last, got, byte_reads, u16_reads, u32_reads, u64_reads, both_reads, both_last, meant_reads, kept_reads, numbered_reads, within_reads, gameweek_reads, counted_reads, text_reads, whole_again, whole_takes, refit}
 use Rattle.record_codec.specs.Commands.{bytes_of_command, is_command}
-use Rattle.record_codec.specs.CommandReading.{made, season_at, deadline_at, new_player_at, price_at, new_club_at, gone_at, new_fixture_at, move_at, sheet_at, one_line_at, drop_at, finished_at, new_key_at, squad_at, transfers_at, lineup_at, new_chip_at, cancel_at, new_league_at, join_at, draw_at, new_cup_at, command_at, command_of}
+use Rattle.record_codec.specs.CommandReading.{made, season_at, deadline_at, new_player_at, amend_player_at, price_at, new_club_at, gone_at, new_fixture_at, move_at, amend_fixture_at, sheet_at, one_line_at, drop_at, finished_at, new_key_at, rekey_at, squad_at, transfers_at, lineup_at, new_chip_at, cancel_at, new_league_at, join_at, draw_at, new_cup_at, command_at, command_of}
 use Rattle.record_codec.specs.Ranges.{HasRanges, IsCommand}
 
 -- Members.
@@ -228,6 +228,10 @@ player_takes : (bytes : List ℕ) (x : Command × List ℕ) → IsBytes bytes �
 unfolding new_player_at
 player_takes = made_takes (λ (x : ℕ × (List ℕ × (Position × (ℕ × ℕ)))). command.Player x.0 x.1.0 x.1.1.0 x.1.1.1.0 x.1.1.1.1) 3 (at_last (both_reads player_reads (λ a. both_reads name_reads (λ b. both_reads position_reads (λ c. both_reads club_reads (λ d. figure_reads)))))) (λ a f. (f.0, f.1.0, f.1.1.1.0, f.1.1.1.1)) (λ a. simp append_assoc)
 
+amend_player_takes : (bytes : List ℕ) (x : Command × List ℕ) → IsBytes bytes → amend_player_at bytes ≡ Some x → TakesCommand 24 bytes x
+unfolding amend_player_at
+amend_player_takes = made_takes (λ (x : ℕ × (List ℕ × Position)). command.AmendPlayer x.0 x.1.0 x.1.1) 24 (at_last (both_reads u32_reads (λ a. both_reads name_reads (λ b. position_reads)))) (λ a f. (f.0, f.1.0)) (λ a. simp append_assoc)
+
 price_takes : (bytes : List ℕ) (x : Command × List ℕ) → IsBytes bytes → price_at bytes ≡ Some x → TakesCommand 4 bytes x
 unfolding price_at
 price_takes = made_takes (λ (x : ℕ × ℕ). command.Price x.0 x.1) 4 (at_last (both_reads player_reads (λ a. figure_reads))) (λ a f. f) (λ a. refl)
@@ -248,6 +252,10 @@ move_takes : (bytes : List ℕ) (x : Command × List ℕ) → IsBytes bytes → 
 unfolding move_at
 move_takes = made_takes (λ (x : ℕ × (Option ℕ × ℕ)). command.Move x.0 x.1.0 x.1.1) 8 (at_last (both_reads u32_reads (λ a. both_reads place_reads (λ b. moment_reads)))) (λ a f. (f.0, f.1.0, f.1.1)) (λ a. simp append_assoc)
 
+amend_fixture_takes : (bytes : List ℕ) (x : Command × List ℕ) → IsBytes bytes → amend_fixture_at bytes ≡ Some x → TakesCommand 25 bytes x
+unfolding amend_fixture_at
+amend_fixture_takes = made_takes (λ (x : ℕ × (ℕ × ℕ)). command.AmendFixture x.0 x.1.0 x.1.1) 25 (at_last (both_reads u32_reads (λ a. both_reads club_reads (λ b. club_reads)))) (λ a f. (f.0, f.1.0, f.1.1)) (λ a. simp append_assoc)
+
 sheet_takes : (bytes : List ℕ) (x : Command × List ℕ) → IsBytes bytes → sheet_at bytes ≡ Some x → TakesCommand 9 bytes x
 unfolding sheet_at
 sheet_takes = made_takes (λ (x : ℕ × (List (ℕ × Line) × Bool)). command.Sheet x.0 x.1.0 x.1.1) 9 (at_last (both_reads u32_reads (λ a. both_reads (list_reads row_reads) (λ b. flag_reads)))) (λ a f. (f.0, f.1.0.1)) (λ a. simp append_assoc)
@@ -267,6 +275,10 @@ finished_takes = made_takes (λ (x : ℕ × Bool). command.Finished x.0 x.1) 12 
 key_takes : (bytes : List ℕ) (x : Command × List ℕ) → IsBytes bytes → new_key_at bytes ≡ Some x → TakesCommand 13 bytes x
 unfolding new_key_at
 key_takes = made_takes (λ (x : List ℕ × List ℕ). command.Key x.0 x.1) 13 (at_last (both_reads key_reads (λ a. name_reads))) (λ a f. f) (λ a. refl)
+
+rekey_takes : (bytes : List ℕ) (x : Command × List ℕ) → IsBytes bytes → rekey_at bytes ≡ Some x → TakesCommand 23 bytes x
+unfolding rekey_at
+rekey_takes = made_takes (λ (x : ℕ × (List ℕ × List ℕ)). command.Rekey x.0 x.1.0 x.1.1) 23 (at_last (both_reads u32_reads (λ a. both_reads key_reads (λ b. name_reads)))) (λ a f. (f.0, f.1.0, f.1.1)) (λ a. simp append_assoc)
 
 squad_takes : (bytes : List ℕ) (x : Command × List ℕ) → IsBytes bytes → squad_at bytes ≡ Some x → TakesCommand 14 bytes x
 unfolding squad_at
@@ -342,7 +354,10 @@ command_takes (n ∷ bytes) x whole_fits e =
     (choose n 20 bytes x _ _ (join_takes bytes x fits)
     (choose n 21 bytes x _ _ (draw_takes bytes x fits)
     (choose n 22 bytes x _ _ (cup_takes bytes x fits)
-    (λ nothing. absurd (none-some x nothing))))))))))))))))))))))) e
+    (choose n 23 bytes x _ _ (rekey_takes bytes x fits)
+    (choose n 24 bytes x _ _ (amend_player_takes bytes x fits)
+    (choose n 25 bytes x _ _ (amend_fixture_takes bytes x fits)
+    (λ nothing. absurd (none-some x nothing)))))))))))))))))))))))))) e
 
 at_most : (most n : ℕ) → most < 2 ^ 16 → nat_le n most ≡ true → n < 2 ^ 16
 at_most most n small is = grind (arith, nat_tests, is)
@@ -363,20 +378,23 @@ cup_coins : (g : ℕ) (s c : List ℕ) → is_command (command.Cup g s c) ≡ tr
 cup_coins g s c is = grind (arith, nat_tests, is)
 
 command_again : (c : Command) → IsCommand c → command_at (bytes_of_command c) ≡ Some (c, [])
-unfolding command_at season_at deadline_at new_player_at price_at new_club_at gone_at new_fixture_at move_at sheet_at one_line_at drop_at finished_at new_key_at squad_at transfers_at lineup_at new_chip_at cancel_at new_league_at join_at draw_at new_cup_at
+unfolding command_at season_at deadline_at new_player_at amend_player_at price_at new_club_at gone_at new_fixture_at move_at amend_fixture_at sheet_at one_line_at drop_at finished_at new_key_at rekey_at squad_at transfers_at lineup_at new_chip_at cancel_at new_league_at join_at draw_at new_cup_at
 command_again (command.Season p d s c) fits = command_made (λ (x : List ℕ × (ℕ × (List (ℕ × List ℕ) × Profile))). command.Season x.1.1.1 x.0 x.1.0 x.1.1.0) 1 season_reads (λ a. simp append_assoc) (λ t. refl) (d, (s, (c, p))) ((season_deadlines p d s c fits.1, fits.0.0), (fits.0.1, ((season_clubs p d s c fits.1, fits.0.2), tt))) fits.1
 command_again (command.Deadline g d) fits = command_made (λ (x : ℕ × ℕ). command.Deadline x.0 x.1) 2 (at_last (both_reads start_reads (λ a. moment_reads))) (λ a. refl) (λ t. refl) (g, d) fits.0 fits.1
 command_again (command.Player id n p c t) fits = command_made (λ (x : ℕ × (List ℕ × (Position × (ℕ × ℕ)))). command.Player x.0 x.1.0 x.1.1.0 x.1.1.1.0 x.1.1.1.1) 3 (at_last (both_reads player_reads (λ a. both_reads name_reads (λ b. both_reads position_reads (λ c. both_reads club_reads (λ d. figure_reads)))))) (λ a. simp append_assoc) (λ t. refl) (id, (n, (p, (c, t)))) (fits.0.0, (fits.0.1, (tt, (fits.0.2, fits.0.3)))) fits.1
+command_again (command.AmendPlayer p n o) fits = command_made (λ (x : ℕ × (List ℕ × Position)). command.AmendPlayer x.0 x.1.0 x.1.1) 24 (at_last (both_reads u32_reads (λ a. both_reads name_reads (λ b. position_reads)))) (λ a. simp append_assoc) (λ t. refl) (p, (n, o)) (fits.0.0, (fits.0.1, tt)) fits.1
 command_again (command.Price p t) fits = command_made (λ (x : ℕ × ℕ). command.Price x.0 x.1) 4 (at_last (both_reads player_reads (λ a. figure_reads))) (λ a. refl) (λ t. refl) (p, t) fits.0 fits.1
 command_again (command.Club p c) fits = command_made (λ (x : ℕ × ℕ). command.Club x.0 x.1) 5 (at_last (both_reads player_reads (λ a. club_reads))) (λ a. refl) (λ t. refl) (p, c) fits.0 fits.1
 command_again (command.Gone p g) fits = command_made (λ (x : ℕ × Bool). command.Gone x.0 x.1) 6 (at_last (both_reads player_reads (λ a. flag_reads))) (λ a. refl) (λ t. refl) (p, g) (fits.0, tt) fits.1
 command_again (command.Fixture id h a g k) fits = command_made (λ (x : ℕ × (ℕ × (ℕ × (Option ℕ × ℕ)))). command.Fixture x.0 x.1.0 x.1.1.0 x.1.1.1.0 x.1.1.1.1) 7 (at_last (both_reads player_reads (λ a. both_reads club_reads (λ b. both_reads club_reads (λ c. both_reads place_reads (λ d. moment_reads)))))) (λ a. simp append_assoc) (λ t. refl) (id, (h, (a, (g, k)))) (fits.0.0, (fits.0.1, (fits.0.2, (fits.0.3, fits.0.4)))) fits.1
 command_again (command.Move x g k) fits = command_made (λ (x : ℕ × (Option ℕ × ℕ)). command.Move x.0 x.1.0 x.1.1) 8 (at_last (both_reads u32_reads (λ a. both_reads place_reads (λ b. moment_reads)))) (λ a. simp append_assoc) (λ t. refl) (x, (g, k)) (fits.0.0, (fits.0.1, fits.0.2)) fits.1
+command_again (command.AmendFixture x h a) fits = command_made (λ (x : ℕ × (ℕ × ℕ)). command.AmendFixture x.0 x.1.0 x.1.1) 25 (at_last (both_reads u32_reads (λ a. both_reads club_reads (λ b. club_reads)))) (λ a. simp append_assoc) (λ t. refl) (x, (h, a)) (fits.0.0, (fits.0.1, fits.0.2)) fits.1
 command_again (command.Sheet x l m) fits = command_made (λ (x : ℕ × (List (ℕ × Line) × Bool)). command.Sheet x.0 x.1.0 x.1.1) 9 (at_last (both_reads u32_reads (λ a. both_reads (list_reads row_reads) (λ b. flag_reads)))) (λ a. simp append_assoc) (λ t. refl) (x, (l, m)) (fits.0.0, ((at_most 100 (length l) (omega arith) fits.1, fits.0.1), tt)) fits.1
 command_again (command.Line x p l) fits = command_made (λ (x : ℕ × (ℕ × Line)). command.Line x.0 x.1.0 x.1.1) 10 (at_last (both_reads u32_reads (λ a. both_reads player_reads (λ b. line_reads)))) (λ a. simp append_assoc) (λ t. refl) (x, (p, l)) (fits.0.0, (fits.0.1, fits.0.2)) fits.1
 command_again (command.Drop x p) fits = command_made (λ (x : ℕ × ℕ). command.Drop x.0 x.1) 11 (at_last (both_reads u32_reads (λ a. player_reads))) (λ a. refl) (λ t. refl) (x, p) fits.0 fits.1
 command_again (command.Finished x m) fits = command_made (λ (x : ℕ × Bool). command.Finished x.0 x.1) 12 (at_last (both_reads u32_reads (λ a. flag_reads))) (λ a. refl) (λ t. refl) (x, m) (fits.0, tt) fits.1
 command_again (command.Key k n) fits = command_made (λ (x : List ℕ × List ℕ). command.Key x.0 x.1) 13 (at_last (both_reads key_reads (λ a. name_reads))) (λ a. refl) (λ t. refl) (k, n) fits.0 fits.1
+command_again (command.Rekey e k n) fits = command_made (λ (x : ℕ × (List ℕ × List ℕ)). command.Rekey x.0 x.1.0 x.1.1) 23 (at_last (both_reads u32_reads (λ a. both_reads key_reads (λ b. name_reads)))) (λ a. simp append_assoc) (λ t. refl) (e, (k, n)) (fits.0.0, (fits.0.1, fits.0.2)) fits.1
 command_again (command.Squad p c v) fits = command_made (λ (x : List ℕ × (ℕ × ℕ)). command.Squad x.0 x.1.0 x.1.1) 14 (at_last (both_reads fifteen_reads (λ a. both_reads player_reads (λ b. player_reads)))) (λ a. simp append_assoc) (λ t. refl) (p, (c, v)) ((fits.0.0, fits.0.1), (fits.0.2, fits.0.3)) fits.1
 command_again (command.Transfers s) fits = command_made (λ (x : List Swap). command.Transfers x) 15 (at_last (list_reads swap_reads)) (λ a. refl) (λ t. refl) s (swaps_len s fits.1, fits.0) fits.1
 command_again (command.Lineup p c v) fits = command_made (λ (x : List ℕ × (ℕ × ℕ)). command.Lineup x.0 x.1.0 x.1.1) 16 (at_last (both_reads fifteen_reads (λ a. both_reads player_reads (λ b. player_reads)))) (λ a. simp append_assoc) (λ t. refl) (p, (c, v)) ((fits.0.0, fits.0.1), (fits.0.2, fits.0.3)) fits.1

@@ -31,6 +31,9 @@ new_player_at =
     made (λ x. command.Player x.0 x.1.0 x.1.1.0 x.1.1.1.0 x.1.1.1.1)
     (player_at then long_text_at is_name then position_at then club_at then whole_in 0 65535)
 
+unfoldable pub amend_player_at : Reader Command
+amend_player_at = made (λ x. command.AmendPlayer x.0 x.1.0 x.1.1) (target_at then long_text_at is_name then position_at)
+
 unfoldable pub price_at : Reader Command
 price_at = made (λ x. command.Price x.0 x.1) (player_at then whole_in 0 65535)
 
@@ -47,6 +50,9 @@ new_fixture_at =
 unfoldable pub move_at : Reader Command
 move_at = made (λ x. command.Move x.0 x.1.0 x.1.1) (target_at then place_at then moment_at)
 
+unfoldable pub amend_fixture_at : Reader Command
+amend_fixture_at = made (λ x. command.AmendFixture x.0 x.1.0 x.1.1) (target_at then club_at then club_at)
+
 unfoldable pub sheet_at : Reader Command
 sheet_at = made (λ x. command.Sheet x.0 x.1.0 x.1.1) (target_at then list_at row_at then flag_at)
 
@@ -61,6 +67,9 @@ finished_at = made (λ x. command.Finished x.0 x.1) (target_at then flag_at)
 
 unfoldable pub new_key_at : Reader Command
 new_key_at = made (λ x. command.Key x.0 x.1) (long_text_at is_key then long_text_at is_name)
+
+unfoldable pub rekey_at : Reader Command
+rekey_at = made (λ x. command.Rekey x.0 x.1.0 x.1.1) (target_at then long_text_at is_key then long_text_at is_name)
 
 unfoldable pub squad_at : Reader Command
 squad_at = made (λ x. command.Squad x.0 x.1.0 x.1.1) (fifteen_at then player_at then player_at)
@@ -116,6 +125,9 @@ numbered_at n bytes =
     else if n == 20 then join_at bytes
     else if n == 21 then draw_at bytes
     else if n == 22 then new_cup_at bytes
+    else if n == 23 then rekey_at bytes
+    else if n == 24 then amend_player_at bytes
+    else if n == 25 then amend_fixture_at bytes
     else None
 
 unfoldable pub command_at : Reader Command

@@ -19,16 +19,19 @@ bytes_of_command (command.Deadline gameweek deadline) = byte 2 ++ whole gameweek
 bytes_of_command (command.Player id name position club price) =
     byte 3 ++ whole id ++ long_text name ++ byte (position_number position) ++ whole club ++ whole price
 bytes_of_command (command.Price player price) = byte 4 ++ whole player ++ whole price
+bytes_of_command (command.AmendPlayer player name position) = byte 24 ++ target player ++ long_text name ++ byte (position_number position)
 bytes_of_command (command.Club player club) = byte 5 ++ whole player ++ whole club
 bytes_of_command (command.Gone player gone) = byte 6 ++ whole player ++ byte (flag gone)
 bytes_of_command (command.Fixture id home away gameweek kickoff) =
     byte 7 ++ whole id ++ whole home ++ whole away ++ whole (or_zero gameweek) ++ whole kickoff
 bytes_of_command (command.Move fixture gameweek kickoff) = byte 8 ++ target fixture ++ whole (or_zero gameweek) ++ whole kickoff
+bytes_of_command (command.AmendFixture fixture home away) = byte 25 ++ target fixture ++ whole home ++ whole away
 bytes_of_command (command.Sheet fixture lines finished) = byte 9 ++ target fixture ++ listed row_bytes lines ++ byte (flag finished)
 bytes_of_command (command.Line fixture player line) = byte 10 ++ target fixture ++ whole player ++ line_bytes line
 bytes_of_command (command.Drop fixture player) = byte 11 ++ target fixture ++ whole player
 bytes_of_command (command.Finished fixture finished) = byte 12 ++ target fixture ++ byte (flag finished)
 bytes_of_command (command.Key key name) = byte 13 ++ long_text key ++ long_text name
+bytes_of_command (command.Rekey entry key name) = byte 23 ++ target entry ++ long_text key ++ long_text name
 bytes_of_command (command.Squad players captain vice) = byte 14 ++ listed whole players ++ whole captain ++ whole vice
 bytes_of_command (command.Transfers swaps) = byte 15 ++ listed swap_bytes swaps
 bytes_of_command (command.Lineup players captain vice) = byte 16 ++ listed whole players ++ whole captain ++ whole vice
@@ -56,15 +59,18 @@ is_command (command.Season profile deadlines split clubs) =
 is_command (command.Deadline gameweek deadline) = true
 is_command (command.Player id name position club price) = true
 is_command (command.Price player price) = true
+is_command (command.AmendPlayer player name position) = true
 is_command (command.Club player club) = true
 is_command (command.Gone player gone) = true
 is_command (command.Fixture id home away gameweek kickoff) = not (home == away)
 is_command (command.Move fixture gameweek kickoff) = true
+is_command (command.AmendFixture fixture home away) = not (home == away)
 is_command (command.Sheet fixture lines finished) = nat_le (length lines) 100
 is_command (command.Line fixture player line) = true
 is_command (command.Drop fixture player) = true
 is_command (command.Finished fixture finished) = true
 is_command (command.Key key name) = true
+is_command (command.Rekey entry key name) = true
 is_command (command.Squad players captain vice) = true
 is_command (command.Transfers swaps) = is_between 1 15 (length swaps)
 is_command (command.Lineup players captain vice) = true

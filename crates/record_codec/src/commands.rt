@@ -44,6 +44,11 @@ pub fn append_command(bytes: &mut Vec<u8>, command: &Command) -> Result<(), Memo
             club,
             price,
         } => append_player(bytes, id, name, position, club, price),
+        Command::AmendPlayer {
+            player,
+            ref name,
+            position,
+        } => append_amend_player(bytes, player, name, position),
         Command::Price { player, price } => append_two(bytes, 4, player.get() as u64, price as u64),
         Command::Club { player, club } => append_two(
             bytes,
@@ -64,6 +69,11 @@ pub fn append_command(bytes: &mut Vec<u8>, command: &Command) -> Result<(), Memo
             gameweek,
             kickoff,
         } => append_move(bytes, fixture, gameweek, kickoff),
+        Command::AmendFixture {
+            fixture,
+            home,
+            away,
+        } => append_amend_fixture(bytes, fixture, home, away),
         Command::Sheet {
             fixture,
             ref lines,
@@ -77,6 +87,11 @@ pub fn append_command(bytes: &mut Vec<u8>, command: &Command) -> Result<(), Memo
         Command::Drop { fixture, player } => append_drop(bytes, fixture, player),
         Command::Finished { fixture, finished } => append_finished(bytes, fixture, finished),
         Command::Key { ref key, ref name } => append_key(bytes, key, name),
+        Command::Rekey {
+            entry,
+            ref key,
+            ref name,
+        } => append_rekey(bytes, entry, key, name),
         Command::Squad {
             ref players,
             captain,
@@ -170,6 +185,23 @@ fn append_player(
     append_u64(bytes, price as u64)
 }
 
+fn append_amend_player(
+    bytes: &mut Vec<u8>,
+    player: u32,
+    name: &Name,
+    position: Position,
+) -> Result<(), Memory>
+    ensures written { OnOk result
+        (bytes.new.items
+        ≡ bytes.old.items ++ bytes_of_command (command.AmendPlayer player name.now position)) }
+    ensures fits { OnOk result (HasRanges (command.AmendPlayer player name.now position)) }
+{
+    append_u8(bytes, 24)?;
+    append_u32(bytes, player)?;
+    append_long_text(bytes, name.bytes())?;
+    append_u8(bytes, position_byte(position))
+}
+
 fn append_gone(bytes: &mut Vec<u8>, player: PlayerId, gone: bool) -> Result<(), Memory>
     ensures written { OnOk result
         (bytes.new.items ≡ bytes.old.items ++ bytes_of_command (command.Gone player gone)) }
@@ -216,6 +248,23 @@ fn append_move(
     append_u32(bytes, fixture)?;
     append_u64(bytes, gameweek_byte(gameweek) as u64)?;
     append_u64(bytes, kickoff.get())
+}
+
+fn append_amend_fixture(
+    bytes: &mut Vec<u8>,
+    fixture: u32,
+    home: ClubId,
+    away: ClubId,
+) -> Result<(), Memory>
+    ensures written { OnOk result
+        (bytes.new.items
+        ≡ bytes.old.items ++ bytes_of_command (command.AmendFixture fixture home away)) }
+    ensures fits { OnOk result (HasRanges (command.AmendFixture fixture home away)) }
+{
+    append_u8(bytes, 25)?;
+    append_u32(bytes, fixture)?;
+    append_u64(bytes, home.get() as u64)?;
+    append_u64(bytes, away.get() as u64)
 }
 
 fn append_sheet(
@@ -281,6 +330,18 @@ fn append_key(bytes: &mut Vec<u8>, key: &Key, name: &Name) -> Result<(), Memory>
     ensures fits { OnOk result (HasRanges (command.Key key.now name.now)) }
 {
     append_u8(bytes, 13)?;
+    append_long_text(bytes, key.bytes())?;
+    append_long_text(bytes, name.bytes())
+}
+
+fn append_rekey(bytes: &mut Vec<u8>, entry: u32, key: &Key, name: &Name) -> Result<(), Memory>
+    ensures written { OnOk result
+        (bytes.new.items
+        ≡ bytes.old.items ++ bytes_of_command (command.Rekey entry key.now name.now)) }
+    ensures fits { OnOk result (HasRanges (command.Rekey entry key.now name.now)) }
+{
+    append_u8(bytes, 23)?;
+    append_u32(bytes, entry)?;
     append_long_text(bytes, key.bytes())?;
     append_long_text(bytes, name.bytes())
 }

@@ -17,7 +17,9 @@ pub fn is_orderable(command: &Command) -> bool
             ref clubs,
             ..
         } => begins(deadlines.as_slice().len(), split, clubs.as_slice()),
-        Command::Fixture { home, away, .. } => home != away,
+        Command::Fixture { home, away, .. } | Command::AmendFixture { home, away, .. } => {
+            home != away
+        }
         Command::Sheet { ref lines, .. } => lines.as_slice().len() <= 100,
         Command::Transfers { ref swaps } => is_long(swaps.as_slice().len(), 1, 15),
         Command::Chip { chip } => chip != Chip::None,

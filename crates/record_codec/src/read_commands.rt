@@ -1,7 +1,7 @@
 // Commands, read from bytes.
 ghost use Rattle.record_fields.specs.Given.{IsGiven, IsRead};
 ghost use Rattle.record_fields.specs.Reading.{kept};
-ghost use Rattle.record_codec.specs.CommandReading.{season_at, deadline_at, new_player_at, price_at, new_club_at, gone_at, new_fixture_at, move_at, sheet_at, one_line_at, drop_at, finished_at, new_key_at, squad_at, transfers_at, lineup_at, new_chip_at, new_league_at, join_at, draw_at, new_cup_at, cancel_at, numbered_at, command_at};
+ghost use Rattle.record_codec.specs.CommandReading.{season_at, deadline_at, new_player_at, amend_player_at, price_at, new_club_at, gone_at, new_fixture_at, move_at, amend_fixture_at, sheet_at, one_line_at, drop_at, finished_at, new_key_at, rekey_at, squad_at, transfers_at, lineup_at, new_chip_at, new_league_at, join_at, draw_at, new_cup_at, cancel_at, numbered_at, command_at};
 ghost use Rattle.record_codec.specs.Commands.{is_command};
 
 use crate::orderable::is_orderable;
@@ -46,6 +46,9 @@ fn numbered_at(alloc: Global, reading: &mut Reading<'_>, number: u8) -> Result<C
         20 => join_at(alloc, reading),
         21 => draw_at(alloc, reading),
         22 => new_cup_at(alloc, reading),
+        23 => rekey_at(alloc, reading),
+        24 => amend_player_at(alloc, reading),
+        25 => amend_fixture_at(reading),
         _ => Err(Unread::Nothing),
     }
 }
@@ -93,6 +96,20 @@ fn new_player_at(alloc: Global, reading: &mut Reading<'_>) -> Result<Command, Un
         position,
         club,
         price,
+    })
+}
+
+#[tactic(auto, unfolding(crate::specs::CommandReading::amend_player_at))]
+fn amend_player_at(alloc: Global, reading: &mut Reading<'_>) -> Result<Command, Unread>
+    ensures { IsRead result reading.new (amend_player_at reading.old) }
+{
+    let player = reading.u32()?;
+    let name = reading.long_name(alloc)?;
+    let position = reading.position()?;
+    Ok(Command::AmendPlayer {
+        player,
+        name,
+        position,
     })
 }
 
@@ -155,6 +172,20 @@ fn move_at(reading: &mut Reading<'_>) -> Result<Command, Unread>
     })
 }
 
+#[tactic(auto, unfolding(crate::specs::CommandReading::amend_fixture_at))]
+fn amend_fixture_at(reading: &mut Reading<'_>) -> Result<Command, Unread>
+    ensures { IsRead result reading.new (amend_fixture_at reading.old) }
+{
+    let fixture = reading.u32()?;
+    let home = reading.whole_club()?;
+    let away = reading.whole_club()?;
+    ordered(Command::AmendFixture {
+        fixture,
+        home,
+        away,
+    })
+}
+
 #[tactic(auto, unfolding(crate::specs::CommandReading::sheet_at, record_fields::specs::ListReading::list_at))]
 fn sheet_at(alloc: Global, reading: &mut Reading<'_>) -> Result<Command, Unread>
     ensures { IsRead result reading.new (sheet_at reading.old) }
@@ -209,6 +240,16 @@ fn new_key_at(alloc: Global, reading: &mut Reading<'_>) -> Result<Command, Unrea
     let key = reading.long_key(alloc)?;
     let name = reading.long_name(alloc)?;
     Ok(Command::Key { key, name })
+}
+
+#[tactic(auto, unfolding(crate::specs::CommandReading::rekey_at))]
+fn rekey_at(alloc: Global, reading: &mut Reading<'_>) -> Result<Command, Unread>
+    ensures { IsRead result reading.new (rekey_at reading.old) }
+{
+    let entry = reading.u32()?;
+    let key = reading.long_key(alloc)?;
+    let name = reading.long_name(alloc)?;
+    Ok(Command::Rekey { entry, key, name })
 }
 
 #[tactic(auto, unfolding(crate::specs::CommandReading::squad_at))]

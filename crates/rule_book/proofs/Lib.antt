@@ -12,3 +12,5 @@ pub mod UpToFacts
 pub mod Worked
 pub mod WorkedLeagues
 pub mod WorkedSeason
+pub mod DetailsFacts
+pub mod HadFacts

@@ -127,6 +127,10 @@ abbrev pub facts_held : CalendarFacts → ℕ → Option ℕ → Bool → Option
 facts_held c f to has_facts =
     if has_facts && not (is_locked_place c to) then Some (rule.HasFacts f) else None
 
+-- the fixture has facts, so that its clubs stay
+abbrev pub clubs_held : ℕ → Bool → Option Rule
+clubs_held f has_facts = if has_facts then Some (rule.FactsThere f) else None
+
 -- twenty other fixtures stand in the gameweek in which the fixture is to stand
 abbrev pub gameweek_full : CalendarFacts → ℕ → Option ℕ → Option Rule
 gameweek_full c f None = None
@@ -164,3 +168,11 @@ moved_to f to kickoff x = if x.id == f then record x { gw = to; kickoff = kickof
 -- fixture f stands there and kicks off then
 abbrev pub with_move : CalendarFacts → ℕ → Option ℕ → ℕ → CalendarFacts
 with_move c f to kickoff = record c { fixtures = map (moved_to f to kickoff) c.fixtures }
+
+-- fixture f is between these clubs; the other fixtures stay
+abbrev pub between : ℕ → ℕ → ℕ → Fixture → Fixture
+between f home away x = if x.id == f then record x { home = home; away = away } else x
+
+-- fixture f is between these clubs
+abbrev pub with_opponents : CalendarFacts → ℕ → ℕ → ℕ → CalendarFacts
+with_opponents c f home away = record c { fixtures = map (between f home away) c.fixtures }

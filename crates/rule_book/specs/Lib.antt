@@ -54,3 +54,4 @@ pub mod Teams
 pub mod Totals
 pub mod UpTo
 pub mod UpToLaws
+pub mod Uses

@@ -1,5 +1,6 @@
 -- The players of a season, as a list by ascending id.
 use Rattle.std.specs.Prelude.{ℕ, ◌<◌, ◌≤◌, Bool, ◌||◌, List, ◌∷◌, ◌++◌, length, map, filter, find, Option, Some, None, is_some, nat_lt, nat_le, ◌==◌, if◌then◌else◌, All, AllPairs}
+use Rattle.fpl_base.specs.declared.kinds.Position.{Position}
 use Rattle.fpl_base.specs.declared.rule.Rule.{Rule}
 use Rattle.fpl_base.specs.declared.rule.Rule.TheVariants as rule
 use Rattle.rule_book.specs.declared.player.Player.{Player}
@@ -41,6 +42,10 @@ with_club players id club = with_change (λ p. record p { club = club }) players
 -- the players, the one of an id with another mark
 abbrev pub with_gone : List Player → ℕ → Bool → List Player
 with_gone players id gone = with_change (λ p. record p { gone = gone }) players id
+
+-- the players, the one of an id with another name and at another position
+abbrev pub with_details : List Player → ℕ → List ℕ → Position → List Player
+with_details players id name position = with_change (λ p. record p { name = name; position = position }) players id
 
 -- why a price is refused, if it is: no player can have it
 abbrev pub price_refusal : ℕ → Option Rule

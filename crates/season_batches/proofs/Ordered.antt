@@ -57,6 +57,7 @@ has_bytes (command.Season profile deadlines split clubs) is =
     (between 1 20 (length clubs) is.3 is.4))
     (all_differ (club_ids clubs) is.5)
 has_bytes (command.Fixture id home away gameweek kickoff) is = ap not (other_number home away is)
+has_bytes (command.AmendFixture fixture home away) is = ap not (other_number home away is)
 has_bytes (command.Sheet fixture lines finished) is = at_most (length lines) 100 is
 has_bytes (command.Transfers swaps) is = between 1 15 (length swaps) is.0 is.1
 has_bytes (command.Chip played) is = a_chip played is
@@ -75,6 +76,8 @@ has_bytes (command.Line fixture player line) is = refl
 has_bytes (command.Drop fixture player) is = refl
 has_bytes (command.Finished fixture finished) is = refl
 has_bytes (command.Key key name) is = refl
+has_bytes (command.Rekey e key name) is = refl
+has_bytes (command.AmendPlayer p name position) is = refl
 has_bytes (command.Squad players captain vice) is = refl
 has_bytes (command.Lineup players captain vice) is = refl
 has_bytes command.CancelChip is = refl

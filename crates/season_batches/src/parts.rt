@@ -49,9 +49,9 @@ pub fn fact_slots(
         | Command::Club { player, .. }
         | Command::Gone { player, .. } => two(alloc, last, Slot::Player(player.get())),
         Command::Fixture { id, .. } => two(alloc, last, Slot::Fixture(id.get())),
-        Command::Move { fixture, .. } | Command::Finished { fixture, .. } => {
-            two(alloc, last, Slot::Fixture(fixture))
-        }
+        Command::Move { fixture, .. }
+        | Command::AmendFixture { fixture, .. }
+        | Command::Finished { fixture, .. } => { two(alloc, last, Slot::Fixture(fixture)) }
         Command::Sheet {
             fixture,
             ref lines,
@@ -241,6 +241,34 @@ pub fn entry_slots(
     let last = Slot::Last(caller);
     match command {
         Command::Key { .. } => two(alloc, last, Slot::Entry(managers.entries() + 1)),
+        _ => one(alloc, last),
+    }
+}
+
+// Those of another name and another position of a player.
+pub fn player_slots(alloc: Global, caller: u32, command: &Command) -> Result<Vec<Slot>, Memory>
+    requires { part_of command.now ≡ part.Players }
+    ensures { (book : Book)
+        → IfOk result
+        (λ slots. slots.items ≡ slot.Last caller ∷ records.touched_by book caller command.now) }
+{
+    let last = Slot::Last(caller);
+    match *command {
+        Command::AmendPlayer { player, .. } => two(alloc, last, Slot::Player(player)),
+        _ => one(alloc, last),
+    }
+}
+
+// Those of another key of an entry.
+pub fn key_slots(alloc: Global, caller: u32, command: &Command) -> Result<Vec<Slot>, Memory>
+    requires { part_of command.now ≡ part.Keys }
+    ensures { (book : Book)
+        → IfOk result
+        (λ slots. slots.items ≡ slot.Last caller ∷ records.touched_by book caller command.now) }
+{
+    let last = Slot::Last(caller);
+    match *command {
+        Command::Rekey { entry, .. } => two(alloc, last, Slot::Entry(entry)),
         _ => one(alloc, last),
     }
 }

@@ -6,7 +6,10 @@ ghost use Rattle.season_records.specs.Touched as records;
 ghost use Rattle.season_running.specs.Standing.{Plays};
 
 use crate::listing::one;
-use crate::parts::{cup_slots, deed_slots, entry_slots, fact_slots, league_slots, season_slots};
+use crate::parts::{
+    cup_slots, deed_slots, entry_slots, fact_slots, key_slots, league_slots, player_slots,
+    season_slots,
+};
 use fpl_base::{Caller, Memory};
 use record_codec::Slot;
 use season_book::{Command, Part};
@@ -28,7 +31,9 @@ pub fn touched(
     let number = number_of(caller);
     match command.part() {
         Part::Facts => fact_slots(alloc, running.season(), number, command),
+        Part::Players => player_slots(alloc, number, command),
         Part::Entries => entry_slots(alloc, running.managers(), number, command),
+        Part::Keys => key_slots(alloc, number, command),
         Part::Deeds => deed_slots(alloc, running.season(), running.managers(), number, command),
         Part::Leagues => league_slots(alloc, running.leagues(), number, command),
         Part::Cups => cup_slots(alloc, running.cups(), number, command),

@@ -17,20 +17,22 @@ use Rattle.rule_book.specs.ById.{at_id, placed_at}
 use Rattle.rule_book.proofs.AtId.{placed_other, placed_same}
 use Rattle.season_book.specs.Book.{Book, EntryFacts, Facts, Last, caller_number, last_number}
 use Rattle.season_book.specs.declared.command.Command.{Command}
-use Rattle.season_book.specs.Commands.{are_there, begun_by, changed_by, part_of, refusal_of}
+use Rattle.season_book.specs.Commands.{are_there, begun_by, changed_by, has_player, part_of, refusal_of}
 use Rattle.season_book.specs.declared.command.Command.TheVariants as command
 use Rattle.season_book.specs.declared.part.Part.{Part}
 use Rattle.season_book.specs.declared.part.Part.TheVariants as part
 use Rattle.season_book.specs.EntryCommands.{deed_refusal, history_after, names_players}
 use Rattle.season_book.specs.EntryViews.{entry_shown, me_shown}
-use Rattle.season_book.specs.Hosts.{number_in}
+use Rattle.season_book.specs.Hosts.{keys_of, number_in}
+use Rattle.season_book.specs.KeyCommands.{NewKey, entries_rekeyed, key_given, rekey_refusal}
 use Rattle.season_book.specs.LeagueCommands.{cup_broken, cup_drawn, cup_made, cup_there, is_issued, is_registered, league_made, league_refusal, leagues_after, leagues_there}
 use Rattle.season_book.specs.LeagueViews.{cup_shown, league_shown}
 use Rattle.season_book.specs.Once.{Acted, Acts, CommandsActOnce, Rests, RiseByOne, WasDone, acted_numbers, number_asked}
 use Rattle.season_book.specs.Runs.{Asked}
-use Rattle.season_book.specs.Verdict.{Failures, IsVerdictIn, MayAnswer, MayBeLeft, Outcome, Verdict, accepted, begun, cup_ruled, cups_ruled, in_season, judged, key_refusal, keyed, leagues_ruled, my_answer, number_refusal, pass, ruled, ruled_by, ruled_in, ruled_of, page_of, seen_in, settled, shown_or_unknown, unless_broken, unless_misnumbered, unless_refused, unseen, view_answer, wants_no_season, with_entry, with_history}
+use Rattle.season_book.specs.Verdict.{Failures, IsVerdictIn, MayAnswer, MayBeLeft, Outcome, Verdict, accepted, amend_ruled, amends_ruled, begun, cup_ruled, cups_ruled, in_season, judged, key_refusal, key_ruled, keyed, keys_ruled, leagues_ruled, my_answer, number_refusal, pass, ruled, ruled_by, ruled_in, ruled_of, page_of, seen_in, settled, shown_or_unknown, unless_broken, unless_misnumbered, unless_refused, unseen, view_answer, wants_no_season, with_entry, with_history}
 use Rattle.season_book.specs.AllWindows.{window_data}
 use Rattle.season_book.specs.Windows.{me_window}
+use Rattle.season_book.specs.PlayerCommands.{Amendment, amendment, facts_amended, have_had, position_refusal}
 use Rattle.season_book.specs.Views.{shown_of}
 use Rattle.season_book.specs.declared.answer.Answer.{Answer}
 use Rattle.season_book.specs.declared.answer.Answer.TheVariants as answer
@@ -119,14 +121,17 @@ is_keyed P operator book (command.Season a b c d) made unknown = unknown
 is_keyed P operator book (command.Deadline a b) made unknown = unknown
 is_keyed P operator book (command.Player a b c d e) made unknown = unknown
 is_keyed P operator book (command.Price a b) made unknown = unknown
+is_keyed P operator book (command.AmendPlayer a b c) made unknown = unknown
 is_keyed P operator book (command.Club a b) made unknown = unknown
 is_keyed P operator book (command.Gone a b) made unknown = unknown
 is_keyed P operator book (command.Fixture a b c d e) made unknown = unknown
 is_keyed P operator book (command.Move a b c) made unknown = unknown
+is_keyed P operator book (command.AmendFixture a b c) made unknown = unknown
 is_keyed P operator book (command.Sheet a b c) made unknown = unknown
 is_keyed P operator book (command.Line a b c) made unknown = unknown
 is_keyed P operator book (command.Drop a b) made unknown = unknown
 is_keyed P operator book (command.Finished a b) made unknown = unknown
+is_keyed P operator book (command.Rekey a b c) made unknown = unknown
 is_keyed P operator book (command.Squad a b c) made unknown = unknown
 is_keyed P operator book (command.Transfers a) made unknown = unknown
 is_keyed P operator book (command.Lineup a b c) made unknown = unknown
@@ -145,6 +150,34 @@ undone_keyed operator book command (Some facts) =
 chosen_outcome : (b : Bool) (P : Result Outcome Answer → Type 0) (x y : Result Outcome Answer) → P x → P y → P (if b then x else y)
 chosen_outcome true P x y px py = px
 chosen_outcome false P x y px py = py
+
+abbrev key_outcome : Book → NewKey → Outcome
+key_outcome book given = record { made = made.Nothing; book = record book { entries = entries_rekeyed book.entries given } }
+
+undone_key : (operator : List ℕ) (book : Book) (given : Option NewKey) → IfErr (option_map_or (key_ruled operator book) given (Err answer.Unknown)) IsUndone
+undone_key operator book None = tt
+undone_key operator book (Some given) =
+    let broken = rekey_refusal operator (keys_of book.entries) given.entry given.key in
+    let behind : Result Outcome Answer = unless_broken broken (key_outcome book given) in
+    chosen_outcome (is_issued book.entries given.entry) (λ r. IfErr r IsUndone) behind (Err answer.Unknown) (undone_unbroken broken (key_outcome book given)) tt
+
+undone_keys : (operator : List ℕ) (book : Book) (command : Command) (facts : Option Facts) → IfErr (in_season facts (λ f. keys_ruled operator book command)) IsUndone
+undone_keys operator book command None = tt
+undone_keys operator book command (Some facts) = undone_key operator book (key_given command)
+
+abbrev amend_outcome : Book → Facts → Amendment → Outcome
+amend_outcome book facts given = record { made = made.Nothing; book = record book { facts = Some (facts_amended facts given) } }
+
+undone_amend : (book : Book) (facts : Facts) (given : Option Amendment) → IfErr (option_map_or (amend_ruled book facts) given (Err answer.Unknown)) IsUndone
+undone_amend book facts None = tt
+undone_amend book facts (Some given) =
+    let broken = position_refusal facts (have_had book.entries given.player) given in
+    let behind : Result Outcome Answer = unless_broken broken (amend_outcome book facts given) in
+    chosen_outcome (has_player facts given.player) (λ r. IfErr r IsUndone) behind (Err answer.Unknown) (undone_unbroken broken (amend_outcome book facts given)) tt
+
+undone_amends : (book : Book) (command : Command) (facts : Option Facts) → IfErr (in_season facts (λ f. amends_ruled book f command)) IsUndone
+undone_amends book command None = tt
+undone_amends book command (Some facts) = undone_amend book facts (amendment command)
 
 undone_of : (book : Book) (facts : Facts) (e : ℕ) (command : Command) (entry : Option EntryFacts) → IfErr (ruled_of book facts e command entry) IsUndone
 undone_of book facts e command None = tt
@@ -188,7 +221,9 @@ undone_by book (Err refused) un = un
 
 undone_ruled : (part : Part) (operator : List ℕ) (book : Book) (caller : Caller) (now : ℕ) (command : Command) → IfErr (ruled_in part operator book caller now command) IsUndone
 undone_ruled part.Facts operator book caller now command = undone_by book (judged book.facts now command) (undone_judged book.facts now command)
+undone_ruled part.Players operator book caller now command = undone_amends book command book.facts
 undone_ruled part.Entries operator book caller now command = undone_keyed operator book command book.facts
+undone_ruled part.Keys operator book caller now command = undone_keys operator book command book.facts
 undone_ruled part.Deeds operator book caller now command = undone_for book caller command book.facts
 undone_ruled part.Leagues operator book caller now command = undone_leagues book (caller_number caller) command book.facts
 undone_ruled part.Cups operator book caller now command = undone_cups book command book.facts
@@ -338,6 +373,28 @@ lasts_keyed operator book command None = refl
 lasts_keyed operator book command (Some facts) =
     is_keyed (λ r. lasts_in r book.lasts ≡ book.lasts) operator book command (λ key name. lasts_unbroken (key_refusal operator book.entries key) (with_entry book key name) book.lasts refl) refl
 
+lasts_key : (operator : List ℕ) (book : Book) (given : Option NewKey) → lasts_in (option_map_or (key_ruled operator book) given (Err answer.Unknown)) book.lasts ≡ book.lasts
+lasts_key operator book None = refl
+lasts_key operator book (Some given) =
+    let broken = rekey_refusal operator (keys_of book.entries) given.entry given.key in
+    let behind : Result Outcome Answer = unless_broken broken (key_outcome book given) in
+    chosen_outcome (is_issued book.entries given.entry) (λ r. lasts_in r book.lasts ≡ book.lasts) behind (Err answer.Unknown) (lasts_unbroken broken (key_outcome book given) book.lasts refl) refl
+
+lasts_keys : (operator : List ℕ) (book : Book) (command : Command) (facts : Option Facts) → lasts_in (in_season facts (λ f. keys_ruled operator book command)) book.lasts ≡ book.lasts
+lasts_keys operator book command None = refl
+lasts_keys operator book command (Some facts) = lasts_key operator book (key_given command)
+
+lasts_amend : (book : Book) (facts : Facts) (given : Option Amendment) → lasts_in (option_map_or (amend_ruled book facts) given (Err answer.Unknown)) book.lasts ≡ book.lasts
+lasts_amend book facts None = refl
+lasts_amend book facts (Some given) =
+    let broken = position_refusal facts (have_had book.entries given.player) given in
+    let behind : Result Outcome Answer = unless_broken broken (amend_outcome book facts given) in
+    chosen_outcome (has_player facts given.player) (λ r. lasts_in r book.lasts ≡ book.lasts) behind (Err answer.Unknown) (lasts_unbroken broken (amend_outcome book facts given) book.lasts refl) refl
+
+lasts_amends : (book : Book) (command : Command) (facts : Option Facts) → lasts_in (in_season facts (λ f. amends_ruled book f command)) book.lasts ≡ book.lasts
+lasts_amends book command None = refl
+lasts_amends book command (Some facts) = lasts_amend book facts (amendment command)
+
 lasts_of : (book : Book) (facts : Facts) (e : ℕ) (command : Command) (entry : Option EntryFacts) → lasts_in (ruled_of book facts e command entry) book.lasts ≡ book.lasts
 lasts_of book facts e command None = refl
 lasts_of book facts e command (Some entry) =
@@ -370,7 +427,9 @@ lasts_cups book command (Some facts) = lasts_cup book facts (cup_drawn command)
 
 lasts_ruled : (part : Part) (operator : List ℕ) (book : Book) (caller : Caller) (now : ℕ) (command : Command) → lasts_in (ruled_in part operator book caller now command) book.lasts ≡ book.lasts
 lasts_ruled part.Facts operator book caller now command = lasts_by book (judged book.facts now command)
+lasts_ruled part.Players operator book caller now command = lasts_amends book command book.facts
 lasts_ruled part.Entries operator book caller now command = lasts_keyed operator book command book.facts
+lasts_ruled part.Keys operator book caller now command = lasts_keys operator book command book.facts
 lasts_ruled part.Deeds operator book caller now command = lasts_for book caller command book.facts
 lasts_ruled part.Leagues operator book caller now command = lasts_leagues book (caller_number caller) command book.facts
 lasts_ruled part.Cups operator book caller now command = lasts_cups book command book.facts

@@ -6,7 +6,7 @@ use Rattle.fpl_base.specs.declared.kinds.Chip.TheVariants.{None as NoChip}
 use Rattle.fpl_base.specs.declared.kinds.Profile.{Profile}
 use Rattle.fpl_base.specs.declared.rule.Rule.{Rule}
 use Rattle.rule_book.specs.ById.{placed_at}
-use Rattle.rule_book.specs.Calendar.{fixture_of, is_locked_place, new_calendar, stands_in, with_deadline, with_fixture, with_move}
+use Rattle.rule_book.specs.Calendar.{clubs_held, fixture_of, is_locked_place, new_calendar, stands_in, with_deadline, with_fixture, with_move, with_opponents}
 use Rattle.rule_book.specs.MatchCalls.{drop_line, line_refusal, not_locked, put_line, put_sheet, set_finished, sheet_refusal}
 use Rattle.rule_book.specs.MatchFacts.{has_facts, line_of}
 use Rattle.rule_book.specs.Players.{player_of, player_refusal, price_refusal, with_club, with_gone, with_player, with_price}
@@ -30,6 +30,7 @@ IsCommand (command.Season profile deadlines split clubs) =
     (1 ≤ length deadlines) × (length deadlines ≤ 38) × (split ≤ length deadlines)
     × (1 ≤ length clubs) × (length clubs ≤ 20) × AllDiffer (club_ids clubs)
 IsCommand (command.Fixture id home away g kickoff) = home ≢ away
+IsCommand (command.AmendFixture f home away) = home ≢ away
 IsCommand (command.Sheet f lines finished) = length lines ≤ 100
 IsCommand (command.Transfers swaps) = (1 ≤ length swaps) × (length swaps ≤ 15)
 IsCommand (command.Chip chip) = chip ≢ NoChip
@@ -42,6 +43,8 @@ IsCommand command = ⊤
 -- the part of the book that a command changes
 abbrev pub part_of : Command → Part
 part_of (command.Key key name) = part.Entries
+part_of (command.AmendPlayer p name position) = part.Players
+part_of (command.Rekey e key name) = part.Keys
 part_of (command.Squad players captain vice) = part.Deeds
 part_of (command.Transfers swaps) = part.Deeds
 part_of (command.Lineup players captain vice) = part.Deeds
@@ -82,6 +85,7 @@ are_there facts (command.Club p club) = has_player facts p && has_club facts clu
 are_there facts (command.Gone p gone) = has_player facts p
 are_there facts (command.Fixture id home away g kickoff) = has_club facts home && (has_club facts away && has_place facts g)
 are_there facts (command.Move f g kickoff) = has_fixture facts f && has_place facts g
+are_there facts (command.AmendFixture f home away) = has_fixture facts f && (has_club facts home && has_club facts away)
 are_there facts (command.Sheet f lines finished) = has_fixture facts f && list_all (λ row. has_player facts row.0) lines
 are_there facts (command.Line f p line) = has_fixture facts f && has_player facts p
 are_there facts (command.Drop f p) = has_fixture facts f && is_some (line_of facts.matches f p)
@@ -102,6 +106,7 @@ refusal_of facts now (command.Price p price) = price_refusal price
 refusal_of facts now (command.Fixture id home away g kickoff) =
     fixture_refusal facts.calendar (record { id = id; home = home; away = away; gw = g; kickoff = kickoff })
 refusal_of facts now (command.Move f g kickoff) = move_refusal facts.calendar f g kickoff (has_facts facts.matches f)
+refusal_of facts now (command.AmendFixture f home away) = clubs_held f (has_facts facts.matches f)
 refusal_of facts now (command.Sheet f lines finished) = sheet_refusal f (is_in_locked facts f) lines
 refusal_of facts now (command.Line f p line) = line_refusal facts.matches f (is_in_locked facts f) p line
 refusal_of facts now (command.Finished f finished) = not_locked f (is_in_locked facts f)
@@ -136,6 +141,7 @@ changed_by facts (command.Fixture id home away g kickoff) = record facts {
   calendar = with_fixture facts.calendar (record { id = id; home = home; away = away; gw = g; kickoff = kickoff });
 }
 changed_by facts (command.Move f g kickoff) = record facts { calendar = with_move facts.calendar f g kickoff }
+changed_by facts (command.AmendFixture f home away) = record facts { calendar = with_opponents facts.calendar f home away }
 changed_by facts (command.Sheet f lines finished) = record facts { matches = put_sheet facts.matches f lines finished }
 changed_by facts (command.Line f p line) = record facts { matches = put_line facts.matches f p line }
 changed_by facts (command.Drop f p) = record facts { matches = drop_line facts.matches f p }

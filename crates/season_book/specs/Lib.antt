@@ -23,6 +23,7 @@ pub mod HeadMatches
 pub mod HeadStandings
 pub mod HistoryWindow
 pub mod Hosts
+pub mod KeyCommands
 pub mod LeagueCommands
 pub mod LeaguePages
 pub mod LeagueTables
@@ -32,6 +33,7 @@ pub mod LiveWindow
 pub mod MomentText
 pub mod Once
 pub mod PicksWindow
+pub mod PlayerCommands
 pub mod Runs
 pub mod TeamOfTheWeek
 pub mod Teams

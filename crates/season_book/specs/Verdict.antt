@@ -16,12 +16,14 @@ use Rattle.season_book.specs.declared.command.Command.{Command}
 use Rattle.season_book.specs.declared.command.Command.TheVariants as command
 use Rattle.season_book.specs.declared.made.Made.{Made}
 use Rattle.season_book.specs.declared.made.Made.TheVariants as made
-use Rattle.season_book.specs.Commands.{are_there, begun_by, changed_by, part_of, refusal_of}
+use Rattle.season_book.specs.Commands.{are_there, begun_by, changed_by, has_player, part_of, refusal_of}
 use Rattle.season_book.specs.EntryCommands.{deed_refusal, history_after, names_players}
 use Rattle.season_book.specs.EntryViews.{entry_shown, me_shown}
 use Rattle.season_book.specs.Hosts.{caller_with, keys_of}
+use Rattle.season_book.specs.KeyCommands.{NewKey, entries_rekeyed, key_given, rekey_refusal}
 use Rattle.season_book.specs.LeagueCommands.{cup_broken, cup_drawn, cup_made, cup_there, is_issued, is_registered, league_made, league_refusal, leagues_after, leagues_there}
 use Rattle.season_book.specs.LeagueViews.{cup_shown, league_shown}
+use Rattle.season_book.specs.PlayerCommands.{Amendment, amendment, facts_amended, have_had, position_refusal}
 use Rattle.season_book.specs.Views.{shown_of}
 use Rattle.season_book.specs.AllWindows.{window_data}
 use Rattle.season_book.specs.Windows.{me_window}
@@ -115,6 +117,17 @@ abbrev pub keyed : List ℕ → Book → Command → Result Outcome Answer
 keyed operator book (command.Key key name) = unless_broken (key_refusal operator book.entries key) (with_entry book key name)
 keyed operator book command = Err answer.Unknown
 
+-- what another key of an entry leads to: by an entry that is not there, then by whose key it is
+abbrev pub key_ruled : List ℕ → Book → NewKey → Result Outcome Answer
+key_ruled operator book given =
+    if is_issued book.entries given.entry then
+    unless_broken (rekey_refusal operator (keys_of book.entries) given.entry given.key)
+    (record { made = made.Nothing; book = record book { entries = entries_rekeyed book.entries given } })
+    else Err answer.Unknown
+
+abbrev pub keys_ruled : List ℕ → Book → Command → Result Outcome Answer
+keys_ruled operator book command = option_map_or (key_ruled operator book) (key_given command) (Err answer.Unknown)
+
 -- the book where an entry's manager did this
 abbrev pub with_history : Book → ℕ → List Event → Book
 with_history book e h = record book { entries = histories_with book.entries e h }
@@ -158,10 +171,23 @@ abbrev pub ruled_by : Book → Result Facts Answer → Result Outcome Answer
 ruled_by book (Err refused) = Err refused
 ruled_by book (Ok facts) = Ok (record { made = made.Nothing; book = record book { facts = Some facts } })
 
+-- what another name and position of a player lead to: by a player who is not there, then by who has had him
+abbrev pub amend_ruled : Book → Facts → Amendment → Result Outcome Answer
+amend_ruled book facts given =
+    if has_player facts given.player then
+    unless_broken (position_refusal facts (have_had book.entries given.player) given)
+    (record { made = made.Nothing; book = record book { facts = Some (facts_amended facts given) } })
+    else Err answer.Unknown
+
+abbrev pub amends_ruled : Book → Facts → Command → Result Outcome Answer
+amends_ruled book facts command = option_map_or (amend_ruled book facts) (amendment command) (Err answer.Unknown)
+
 -- what a caller's command leads to at a moment, by the part of the book that it changes
 abbrev pub ruled_in : Part → List ℕ → Book → Caller → ℕ → Command → Result Outcome Answer
 ruled_in part.Facts operator book caller now command = ruled_by book (judged book.facts now command)
+ruled_in part.Players operator book caller now command = in_season book.facts (λ facts. amends_ruled book facts command)
 ruled_in part.Entries operator book caller now command = in_season book.facts (λ facts. keyed operator book command)
+ruled_in part.Keys operator book caller now command = in_season book.facts (λ facts. keys_ruled operator book command)
 ruled_in part.Deeds operator book caller now command = ruled_for book caller command
 ruled_in part.Leagues operator book caller now command = in_season book.facts (λ facts. leagues_ruled book facts (caller_number caller) command)
 ruled_in part.Cups operator book caller now command = in_season book.facts (λ facts. cups_ruled book facts command)

@@ -5,7 +5,7 @@ use rule_book::{LeagueKind, Line};
 /// What a caller orders: one variant for each command, with the ids of its target and its members. An id of a target
 /// is any number that can be spelled, since what is not there is only told when the command is judged. Prices are in
 /// tenths of a million, from 0 to 65535; which of them a player can have is judged too. The operator gives the commands
-/// up to `Finished`, `Key`, `Draw` and `Cup`, and an entry's manager the others.
+/// up to `Finished`, `Key`, `Rekey`, `Draw` and `Cup`, and an entry's manager the others.
 #[derive(Drop)]
 pub enum Command {
     /// Begins the season: by which rules it is played, its deadlines, the last gameweek of its first half, and its clubs.
@@ -27,6 +27,12 @@ pub enum Command {
         position: Position,
         club: ClubId,
         price: u16,
+    },
+    /// Sets a player's name and his position.
+    AmendPlayer {
+        player: u32,
+        name: Name,
+        position: Position,
     },
     /// Sets a player's price.
     Price {
@@ -57,6 +63,12 @@ pub enum Command {
         gameweek: Option<Gw>,
         kickoff: Moment,
     },
+    /// Sets the clubs of a fixture, which differ.
+    AmendFixture {
+        fixture: u32,
+        home: ClubId,
+        away: ClubId,
+    },
     /// Replaces all lines of a fixture, and its mark.
     Sheet {
         fixture: u32,
@@ -81,6 +93,12 @@ pub enum Command {
     },
     /// Makes an entry, which is let in with this key.
     Key {
+        key: Key,
+        name: Name,
+    },
+    /// Gives an entry another key and another name. Its old key is nobody's from then on.
+    Rekey {
+        entry: u32,
         key: Key,
         name: Name,
     },

@@ -39,6 +39,15 @@ impl Command {
                 club,
                 price,
             }),
+            Command::AmendPlayer {
+                player,
+                ref name,
+                position,
+            } => Ok(Command::AmendPlayer {
+                player,
+                name: name.copy()?,
+                position,
+            }),
             Command::Price { player, price } => Ok(Command::Price { player, price }),
             Command::Club { player, club } => Ok(Command::Club { player, club }),
             Command::Gone { player, gone } => Ok(Command::Gone { player, gone }),
@@ -64,6 +73,15 @@ impl Command {
                 gameweek,
                 kickoff,
             }),
+            Command::AmendFixture {
+                fixture,
+                home,
+                away,
+            } => Ok(Command::AmendFixture {
+                fixture,
+                home,
+                away,
+            }),
             Command::Sheet {
                 fixture,
                 ref lines,
@@ -85,6 +103,15 @@ impl Command {
             Command::Drop { fixture, player } => Ok(Command::Drop { fixture, player }),
             Command::Finished { fixture, finished } => Ok(Command::Finished { fixture, finished }),
             Command::Key { ref key, ref name } => Ok(Command::Key {
+                key: key.copy()?,
+                name: name.copy()?,
+            }),
+            Command::Rekey {
+                entry,
+                ref key,
+                ref name,
+            } => Ok(Command::Rekey {
+                entry,
                 key: key.copy()?,
                 name: name.copy()?,
             }),

@@ -4,11 +4,14 @@ ghost use Rattle.season_book.specs.Commands.{part_of};
 
 use crate::Command;
 
-/// A part of the book: the facts, the list of entries, what the caller's entry did, the leagues, or the cups.
+/// A part of the book: the facts, the name and the position of one of their players, the list of entries, the keys and names
+/// that they have, what the caller's entry did, the leagues, or the cups.
 #[derive(Clone, Copy, Debug, PartialEq, Eq)]
 pub enum Part {
     Facts,
+    Players,
     Entries,
+    Keys,
     Deeds,
     Leagues,
     Cups,
@@ -20,7 +23,9 @@ impl Command {
         ensures { result ≡ part_of self.now }
     {
         match self {
+            Command::AmendPlayer { .. } => Part::Players,
             Command::Key { .. } => Part::Entries,
+            Command::Rekey { .. } => Part::Keys,
             Command::Squad { .. }
             | Command::Transfers { .. }
             | Command::Lineup { .. }
@@ -34,6 +39,7 @@ impl Command {
             | Command::Gone { .. }
             | Command::Fixture { .. }
             | Command::Move { .. }
+            | Command::AmendFixture { .. }
             | Command::Sheet { .. }
             | Command::Line { .. }
             | Command::Drop { .. }

@@ -29,6 +29,11 @@ impl Command {
                 club,
                 price,
             } => is_player(other, *id, name, *position, *club, *price),
+            Command::AmendPlayer {
+                player,
+                name,
+                position,
+            } => is_amend_player(other, *player, name, *position),
             Command::Price { player, price } => is_price(other, *player, *price),
             Command::Club { player, club } => is_club(other, *player, *club),
             Command::Gone { player, gone } => is_gone(other, *player, *gone),
@@ -44,6 +49,11 @@ impl Command {
                 gameweek,
                 kickoff,
             } => is_move(other, *fixture, *gameweek, *kickoff),
+            Command::AmendFixture {
+                fixture,
+                home,
+                away,
+            } => is_amend_fixture(other, *fixture, *home, *away),
             Command::Sheet {
                 fixture,
                 lines,
@@ -57,6 +67,7 @@ impl Command {
             Command::Drop { fixture, player } => is_drop(other, *fixture, *player),
             Command::Finished { fixture, finished } => is_finished(other, *fixture, *finished),
             Command::Key { key, name } => is_key(other, key, name),
+            Command::Rekey { entry, key, name } => is_rekey(other, *entry, key, name),
             Command::Squad {
                 players,
                 captain,
@@ -148,6 +159,21 @@ fn is_player(
     }
 }
 
+fn is_amend_player(command: &Command, player: u32, name: &Name, position: Position) -> bool
+    ensures { IsTrue result ↔ (command.now ≡ Command.AmendPlayer player name.now position) }
+{
+    match command {
+        Command::AmendPlayer {
+            player: other_player,
+            name: other_name,
+            position: other_position,
+        } => player == *other_player
+            && name.bytes() == other_name.bytes()
+            && position == *other_position,
+        _ => false,
+    }
+}
+
 fn is_price(command: &Command, player: PlayerId, price: u16) -> bool
     ensures { IsTrue result ↔ (command.now ≡ Command.Price player price) }
 {
@@ -223,6 +249,19 @@ fn is_move(command: &Command, fixture: u32, gameweek: Option<Gw>, kickoff: Momen
     }
 }
 
+fn is_amend_fixture(command: &Command, fixture: u32, home: ClubId, away: ClubId) -> bool
+    ensures { IsTrue result ↔ (command.now ≡ Command.AmendFixture fixture home away) }
+{
+    match command {
+        Command::AmendFixture {
+            fixture: other_fixture,
+            home: other_home,
+            away: other_away,
+        } => fixture == *other_fixture && home == *other_home && away == *other_away,
+        _ => false,
+    }
+}
+
 fn is_sheet(command: &Command, fixture: u32, lines: &Lines, finished: bool) -> bool
     ensures { IsTrue result ↔ (command.now ≡ Command.Sheet fixture lines.now finished) }
 {
@@ -283,6 +322,21 @@ fn is_key(command: &Command, key: &Key, name: &Name) -> bool
             key: other_key,
             name: other_name,
         } => key.bytes() == other_key.bytes() && name.bytes() == other_name.bytes(),
+        _ => false,
+    }
+}
+
+fn is_rekey(command: &Command, entry: u32, key: &Key, name: &Name) -> bool
+    ensures { IsTrue result ↔ (command.now ≡ Command.Rekey entry key.now name.now) }
+{
+    match command {
+        Command::Rekey {
+            entry: other_entry,
+            key: other_key,
+            name: other_name,
+        } => entry == *other_entry
+            && key.bytes() == other_key.bytes()
+            && name.bytes() == other_name.bytes(),
         _ => false,
     }
 }

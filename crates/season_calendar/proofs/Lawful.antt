@@ -1,8 +1,8 @@
 -- The calendar stays lawful, and its lists are kept, through each change.
-use Rattle.std.proofs.Common.{◌≡◌, ◌≢◌, ◌∙◌, sym, ap, subst, refl, ℕ, zero, suc, ◌+◌, ◌-◌, ◌<◌, ◌≤◌, true, false, not, ltb, leb, eqb, ◌&&◌, List, [], ◌∷◌, ◌++◌, length, get_or, set, take, drop, map, filter, find, Option, Some, None, IfSome, MatchOption, arith, inl, inr}
+use Rattle.std.proofs.Common.{◌≡◌, ◌≢◌, ◌∙◌, sym, ap, subst, refl, ℕ, zero, suc, ◌+◌, ◌-◌, ◌<◌, ◌≤◌, true, false, not, ltb, leb, eqb, ◌&&◌, List, [], ◌∷◌, ◌++◌, length, get_or, set, take, drop, map, filter, find, Bool, cond, Option, Some, None, IfSome, MatchOption, arith, inl, inr}
 use Rattle.std.specs.Bool.{⊤}
 use Rattle.std.specs.List.{All, AllPairs, insert}
-use Rattle.std.proofs.lemmas.List.{length-set, get_or-set_same, get_or-set_other, take-append-drop}
+use Rattle.std.proofs.lemmas.List.{length-set, get_or_default, get_or-set_same, get_or-set_other, take-append-drop}
 use Rattle.std.proofs.lemmas.List.Edits.{length-insert}
 use Rattle.std.proofs.lemmas.List.Elements.{All-cons, All-append, All-map, All-take, All-drop, All-set, All-weaker, All-get_or}
 use Rattle.std.proofs.lemmas.List.Kept.{AllPairs-cons, AllPairs-filter}
@@ -247,6 +247,60 @@ module _ (c : CalendarFacts) (lists : List (List ℕ)) (x : Fixture) (at : ℕ) 
     standing = let P : List Fixture → Type 0 = λ l. AreStanding (put_in (taken_out lists old.gw x.id) x.gw x.id) l in
         subst P (sym (set_parts c.fixtures at x there.within)) (lists_put_in (taken_out lists old.gw x.id) front back x x.gw refl there.before there.after (in_season (taken_out lists old.gw x.id) c.deadlines x.gw (length_taken_out lists old.gw x.id ∙ kept.one_each) from_1 within) taken);
   }
+
+-- Other clubs for a fixture: it stands where it stood.
+
+id_stays : (xs : List Fixture) (at k : ℕ) (x d : Fixture) → x.id ≡ (get_or xs at x).id → (get_or (set xs at x) k d).id ≡ (get_or xs k d).id
+id_stays [] at k x d e = refl
+id_stays (y ∷ ys) zero zero x d e = e
+id_stays (y ∷ ys) zero (suc k) x d e = refl
+id_stays (y ∷ ys) (suc at) zero x d e = refl
+id_stays (y ∷ ys) (suc at) (suc k) x d e = id_stays ys at k x d e
+
+standing_stays : (xs : List Fixture) (at : ℕ) (x : Fixture) (g : ℕ) → x.id ≡ (get_or xs at x).id → x.gw ≡ (get_or xs at x).gw → standing_among (set xs at x) g ≡ standing_among xs g
+standing_stays [] at x g id gw = refl
+standing_stays (y ∷ ys) zero x g id gw = ap (λ p. map (λ (z : Fixture). z.id) (cond (is_gameweek g p) (x ∷ filter (λ (z : Fixture). is_gameweek g z.gw) ys) (filter (λ (z : Fixture). is_gameweek g z.gw) ys))) gw ∙ by_test (is_gameweek g y.gw)
+  where
+    by_test : (b : Bool) → map (λ (z : Fixture). z.id) (cond b (x ∷ filter (λ (z : Fixture). is_gameweek g z.gw) ys) (filter (λ (z : Fixture). is_gameweek g z.gw) ys))
+        ≡ map (λ (z : Fixture). z.id) (cond b (y ∷ filter (λ (z : Fixture). is_gameweek g z.gw) ys) (filter (λ (z : Fixture). is_gameweek g z.gw) ys))
+    by_test true = ap (λ n. n ∷ standing_among ys g) id
+    by_test false = refl
+standing_stays (y ∷ ys) (suc at) x g id gw = by_test (is_gameweek g y.gw) (standing_stays ys at x g id gw)
+  where
+    by_test : (b : Bool) → standing_among (set ys at x) g ≡ standing_among ys g
+        → map (λ (z : Fixture). z.id) (cond b (y ∷ filter (λ (z : Fixture). is_gameweek g z.gw) (set ys at x)) (filter (λ (z : Fixture). is_gameweek g z.gw) (set ys at x)))
+        ≡ map (λ (z : Fixture). z.id) (cond b (y ∷ filter (λ (z : Fixture). is_gameweek g z.gw) ys) (filter (λ (z : Fixture). is_gameweek g z.gw) ys))
+    by_test true same = ap (λ l. y.id ∷ l) same
+    by_test false same = same
+
+module _ (c : CalendarFacts) (lists : List (List ℕ)) (at : ℕ) (old : Fixture) (home away : ℕ) (kept : IsKept c lists) (within : at < length c.fixtures) (here : old ≡ get_or c.fixtures at old) where
+  abbrev between_others : Fixture
+  between_others = record old { home = home; away = away }
+
+  as_it_was : old ≡ get_or c.fixtures at between_others
+  as_it_was = here ∙ get_or_default c.fixtures at old between_others within
+
+  pub kept_between : IsKept (record c { fixtures = set c.fixtures at between_others }) lists
+  kept_between =
+      let id = ap (λ (x : Fixture). x.id) as_it_was in
+      let gw = ap (λ (x : Fixture). x.gw) as_it_was in
+      let stands : (g : ℕ) → standing_among (set c.fixtures at between_others) g ≡ standing_among c.fixtures g = λ g. standing_stays c.fixtures at between_others g id gw in
+      record {
+        lawful = record {
+          has_gameweeks = kept.lawful.has_gameweeks;
+          at_most_38 = kept.lawful.at_most_38;
+          deadlines_rise = kept.lawful.deadlines_rise;
+          split_within = kept.lawful.split_within;
+          locked_within = kept.lawful.locked_within;
+          ids_rise = λ i j d lt le. omega (arith, id_stays c.fixtures at i between_others d id, id_stays c.fixtures at j between_others d id, kept.lawful.ids_rise i j d lt (omega (arith, le, length-set c.fixtures at between_others)));
+          at_most_380 = omega (arith, length-set c.fixtures at between_others, kept.lawful.at_most_380);
+          stand_rightly = All-set (StandsRightly c.deadlines) c.fixtures at between_others
+              (subst (StandsRightly c.deadlines) (sym here) (All-get_or (StandsRightly c.deadlines) c.fixtures at old within kept.lawful.stand_rightly)) kept.lawful.stand_rightly;
+          at_most_20_each = λ g. omega (arith, ap length (stands g), kept.lawful.at_most_20_each g);
+        };
+        one_each = kept.one_each;
+        standing = record { lists_are = λ k lt. kept.standing.lists_are k lt ∙ sym (stands (k + 1)) };
+      }
 
 -- a new deadline between its neighbours, for which no fixture is early
 module _ (c : CalendarFacts) (lists : List (List ℕ)) (g t : ℕ) (kept : IsKept c lists) (from_1 : 1 ≤ g) (within : g ≤ length c.deadlines) where

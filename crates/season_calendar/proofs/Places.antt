@@ -9,7 +9,7 @@ use Rattle.std.proofs.lemmas.List.Elements.{All-head, All-tail, All-append, All-
 use Rattle.std.proofs.lemmas.Bool.{cases_eq, eq-eqb, ne_eqb}
 use Rattle.std.proofs.lemmas.Bool.Decides.{nat_tests}
 use Rattle.rule_book.specs.declared.season.Fixture.{Fixture}
-use Rattle.rule_book.specs.Calendar.{moved_to}
+use Rattle.rule_book.specs.Calendar.{between, moved_to}
 use Rattle.season_calendar.specs.Kept.{IsAt, IsGap}
 use Rattle.season_calendar.proofs.Around.{All-take_from, All-drop_from, find_none, find_behind, parts_at, set_parts}
 
@@ -72,6 +72,18 @@ module _ (xs : List Fixture) (f i : ℕ) (at : IsAt xs f i) where
 
       moved_parts : map (moved_to f to k) (take i xs) ++ map (moved_to f to k) (get_or xs i d ∷ drop (i + 1) xs) ≡ take i xs ++ record (get_or xs i d) { gw = to; kickoff = k } ∷ drop (i + 1) xs
       moved_parts = rw (stays (take i xs) (none_before f (take i xs) at.before), stays (drop (i + 1) xs) (none_after f (drop (i + 1) xs) at.after), eq-eqb (get_or xs i d).id f (at.here d)) refl
+
+module _ (xs : List Fixture) (f i : ℕ) (at : IsAt xs f i) where
+  pub between_at : (home away : ℕ) (d : Fixture) → map (between f home away) xs ≡ set xs i (record (get_or xs i d) { home = home; away = away })
+  between_at home away d =
+      ap (map (between f home away)) (parts_at xs i d at.within) ∙ (map-append (between f home away) (take i xs) (get_or xs i d ∷ drop (i + 1) xs) ∙ (between_parts ∙ sym (set_parts xs i (record (get_or xs i d) { home = home; away = away }) at.within)))
+    where
+      stays : (ys : List Fixture) → All (λ x. eqb x.id f ≡ false) ys → map (between f home away) ys ≡ ys
+      stays [] h = refl
+      stays (y ∷ ys) h = rw (All-head (λ x. eqb x.id f ≡ false) y ys h) (ap (λ l. y ∷ l) (stays ys (All-tail (λ x. eqb x.id f ≡ false) y ys h)))
+
+      between_parts : map (between f home away) (take i xs) ++ map (between f home away) (get_or xs i d ∷ drop (i + 1) xs) ≡ take i xs ++ record (get_or xs i d) { home = home; away = away } ∷ drop (i + 1) xs
+      between_parts = rw (stays (take i xs) (none_before f (take i xs) at.before), stays (drop (i + 1) xs) (none_after f (drop (i + 1) xs) at.after), eq-eqb (get_or xs i d).id f (at.here d)) refl
 
 module _ (xs : List Fixture) (f i : ℕ) (gap : IsGap xs f i) where
   pub none_there : All (λ x. eqb x.id f ≡ false) xs

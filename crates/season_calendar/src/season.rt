@@ -3,7 +3,7 @@ ghost use Rattle.std.specs.List.{take_while};
 ghost use Rattle.rule_book.specs.Refusals.{IsJudged, IsJudgedOrOut};
 
 use crate::gameweek_lists::{GameweekLists, MOST_IN_A_GAMEWEEK};
-use fpl_base::{FixtureId, Gw, Memory, Moment, Refused, Rule};
+use fpl_base::{ClubId, FixtureId, Gw, Memory, Moment, Refused, Rule};
 use rule_book::Fixture;
 use std::alloc::Global;
 use std::marker::Model;
@@ -50,7 +50,7 @@ impl Model for Calendar {
 }
 
 impl Calendar {
-    ghost use Rattle.rule_book.specs.Calendar.{IsCalendar, new_calendar, deadlines_order, next_gameweek, deadline_of, fixture_of, is_locked_place, stands_in, standing, after_pass, with_deadline, with_fixture, with_move};
+    ghost use Rattle.rule_book.specs.Calendar.{IsCalendar, new_calendar, deadlines_order, next_gameweek, deadline_of, fixture_of, is_locked_place, stands_in, standing, after_pass, with_deadline, with_fixture, with_move, with_opponents};
     ghost use Rattle.rule_book.specs.CalendarCalls.{deadline_refusal, place_refusal, fixture_refusal, move_refusal};
 
     /// The calendar of a season that has not begun: no gameweek is locked, and no fixture is there. The first `split`
@@ -329,6 +329,23 @@ impl Calendar {
             return Err(Rule::HasFacts { fixture: f });
         }
         self.judge_place(f, to, kickoff)
+    }
+
+    /// Sets the clubs of a fixture.
+    pub fn set_opponents(&mut self, f: FixtureId, home: ClubId, away: ClubId)
+        requires there { IsSome (fixture_of self.old f) }
+        ensures { self.new ≡ with_opponents self.old f home away }
+    {
+        let at = match place_of(&self.fixtures, f) {
+            Ok(at) => at,
+            Err(_) => unreachable!(),
+        };
+        let fixture = self.fixtures[at];
+        self.fixtures[at] = Fixture {
+            home,
+            away,
+            ..fixture
+        };
     }
 
     // Whether a place is a locked gameweek.

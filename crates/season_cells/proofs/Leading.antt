@@ -5,6 +5,7 @@ use Rattle.std.proofs.lemmas.Bool.{and_parts, false≢true}
 use Rattle.std.proofs.lemmas.Bool.Decides.{nat_tests}
 use Rattle.std.proofs.lemmas.Option.{none-some}
 use Rattle.fpl_base.specs.declared.kinds.Caller.{Caller}
+use Rattle.fpl_base.specs.declared.kinds.Position.{Position}
 use Rattle.fpl_base.specs.declared.rule.Rule.{Rule}
 use Rattle.fpl_base.specs.declared.rule.Rule.TheVariants as rule
 use Rattle.rule_book.specs.declared.cup.Bracket.{Bracket}
@@ -21,12 +22,15 @@ use Rattle.rule_book.specs.MatchCalls.{drop_line, put_line, put_sheet, set_finis
 use Rattle.rule_book.specs.MatchFacts.{Lines, MatchFacts, Sheet, by_player, is_finished, line_in, line_of, lines_of, sheet_of, with_line, with_sheet, without_line}
 use Rattle.rule_book.specs.Refusals.{first_broken, unless}
 use Rattle.rule_book.specs.Repeats.{first_repeat}
+use Rattle.rule_book.specs.Batch.{is_same_position}
+use Rattle.rule_book.specs.PlayerFigures.{position_in}
 use Rattle.rule_book.specs.Players.{player_of}
+use Rattle.rule_book.specs.Uses.{has_lines}
 use Rattle.classic_leagues.specs.Books.{Rise}
 use Rattle.cup_rounds.specs.Shapes.{HasShape}
 use Rattle.match_facts.specs.Laws.{LinesAreAMap, LinesGo, SheetsAreAMap, SheetsHaveTheirLines}
 use Rattle.manager_book.specs.declared.manager.Manager.{Manager}
-use Rattle.manager_book.specs.Managers.{AreRisen, manager_in}
+use Rattle.manager_book.specs.Managers.{AreRisen, manager_in, managers_had}
 use Rattle.rule_book.specs.EntryCalls.{in_next}
 use Rattle.season_book.specs.Book.{Facts, caller_number}
 use Rattle.season_book.specs.Commands.{changed_by, has_fixture, has_player, is_in_locked, part_of}
@@ -37,15 +41,18 @@ use Rattle.season_book.specs.declared.command.Command.TheVariants as command
 use Rattle.season_book.specs.declared.part.Part.{Part}
 use Rattle.season_book.specs.declared.part.Part.TheVariants as part
 use Rattle.season_competitions.specs.Cups.{IsCupGranted, cups_after}
+use Rattle.season_entries.specs.Amended.{CanAmend}
 use Rattle.season_entries.specs.Deeds.{rows_refused_in}
+use Rattle.season_entries.proofs.Amended.{no_line, no_use, one_position}
+use Rattle.rule_book.proofs.HadFacts.{neither}
 use Rattle.season_entries.specs.Earlier.{EarlierRowsTell}
 use Rattle.season_facts.proofs.KeptFacts.{among_lines, line_in_range, ranged_lines, sheet_parts}
-use Rattle.season_graph.specs.BookChanges.{AreOthers, AreSheetLines, ClubChanges, CupIsDrawn, DeadlineMoves, FixtureComes, FixtureMoves, GoneChanges, LeagueIsDrawn, LeagueIsJoined, LeagueIsMade, LineIsDropped, LineIsPut, ManagersChange, MarkIsSet, PlayerComes, PriceChanges, SheetIsPut}
+use Rattle.season_graph.specs.BookChanges.{AreOthers, AreSheetLines, ClubChanges, CupIsDrawn, DeadlineMoves, OpponentsChange, FixtureComes, FixtureMoves, GoneChanges, LeagueIsDrawn, LeagueIsJoined, LeagueIsMade, LineIsDropped, LineIsPut, ManagersChange, MarkIsSet, PlayerComes, PositionChanges, PriceChanges, SheetIsPut}
 use Rattle.season_graph.specs.Changes.{AreAlike, EntriesStay, DifferInLeague, DifferInLine, DifferInMark, DifferInPlace, DifferInSheet, SameIsAlike}
 use Rattle.season_graph.specs.Touched.{is_other}
 use Rattle.season_nodes.specs.Season.{IsSeason, SeasonFacts}
-use Rattle.season_running.specs.Accepting.{IsGrantedIn}
-use Rattle.season_running.specs.Changed.{IsChangedIn, managers_with}
+use Rattle.season_running.specs.Accepting.{IsAmendable, IsGrantedIn}
+use Rattle.season_running.specs.Changed.{IsChangedIn, facts_with, managers_rekeyed, managers_with}
 use Rattle.season_running.specs.Standing.{Running}
 use Rattle.season_cells.specs.Kept.{season_seen}
 use Rattle.season_cells.specs.Leading.{LeadsTo, PlansLead}
@@ -54,7 +61,7 @@ use Rattle.season_cells.specs.declared.plan.Plan.{Plan}
 use Rattle.season_cells.specs.declared.plan.Plan.TheVariants as plan
 use Rattle.season_cells.proofs.Drawn.{can_be_drawn}
 use Rattle.season_cells.proofs.Places.{comes_from_nowhere, comes_there, moves_there}
-use Rattle.season_cells.proofs.Stays.{deed_stays, key_stays}
+use Rattle.season_cells.proofs.Stays.{deed_stays, key_stays, rekey_stays}
 
 -- the laws of which it is made
 pub record AreLaws : Type 0 where
@@ -65,10 +72,12 @@ pub record AreLaws : Type 0 where
   pub moves : FixtureMoves
   pub comes : FixtureComes
   pub deadline : DeadlineMoves
+  pub opponents : OpponentsChange
   pub player : PlayerComes
   pub price : PriceChanges
   pub club : ClubChanges
   pub gone : GoneChanges
+  pub position : PositionChanges
   pub managers : ManagersChange
   pub made : LeagueIsMade
   pub joined : LeagueIsJoined
@@ -269,6 +278,8 @@ module _ (laws : AreLaws) where
     facts_lead (command.Move k g kickoff) made e is granted h lawful =
         let left = laws.moves b k g kickoff is lawful in
         place_leads b (behind (command.Move k g kickoff)) k (stands_in f.calendar k) g made is left.0 left.1 refl (moves_there f.calendar k g kickoff (and_parts (has_fixture f k) _ granted.there).0) h
+    facts_lead (command.AmendFixture k home away) made e is granted h lawful = nothing_leads b (behind (command.AmendFixture k home away)) made h (laws.opponents b k home away is lawful)
+    facts_lead (command.AmendPlayer p name position) made e is granted h lawful = absurd cc
     facts_lead (command.Sheet k lines finished) made e is granted h lawful = sheet_leads k lines finished made is granted h
     facts_lead (command.Line k p line) made e is granted h lawful =
         let left = laws.put b k p line is (line_in_range f.matches k (is_in_locked f k) p line granted.unbroken) (and_parts (has_fixture f k) _ granted.there).1 in
@@ -280,6 +291,7 @@ module _ (laws : AreLaws) where
         let left = laws.marked b k finished is in
         mark_leads b (behind (command.Finished k finished)) k (is_finished f.matches k) finished made left.0 left.1 refl (mark_put f.matches k finished) h
     facts_lead (command.Key key name) made e is granted h lawful = absurd cc
+    facts_lead (command.Rekey entry key name) made e is granted h lawful = absurd cc
     facts_lead (command.Squad players captain vice) made e is granted h lawful = absurd cc
     facts_lead (command.Transfers swaps) made e is granted h lawful = absurd cc
     facts_lead (command.Lineup players captain vice) made e is granted h lawful = absurd cc
@@ -318,11 +330,14 @@ module _ (laws : AreLaws) where
     leagues_lead (command.Gone p gone) made i is there unbroken h = absurd cc
     leagues_lead (command.Fixture id home away g kickoff) made i is there unbroken h = absurd cc
     leagues_lead (command.Move k g kickoff) made i is there unbroken h = absurd cc
+    leagues_lead (command.AmendFixture k home away) made i is there unbroken h = absurd cc
+    leagues_lead (command.AmendPlayer p name position) made i is there unbroken h = absurd cc
     leagues_lead (command.Sheet k lines finished) made i is there unbroken h = absurd cc
     leagues_lead (command.Line k p line) made i is there unbroken h = absurd cc
     leagues_lead (command.Drop k p) made i is there unbroken h = absurd cc
     leagues_lead (command.Finished k finished) made i is there unbroken h = absurd cc
     leagues_lead (command.Key key name) made i is there unbroken h = absurd cc
+    leagues_lead (command.Rekey entry key name) made i is there unbroken h = absurd cc
     leagues_lead (command.Squad players captain vice) made i is there unbroken h = absurd cc
     leagues_lead (command.Transfers swaps) made i is there unbroken h = absurd cc
     leagues_lead (command.Lineup players captain vice) made i is there unbroken h = absurd cc
@@ -370,11 +385,14 @@ module _ (laws : AreLaws) where
   nothing_of f leagues (command.Gone p gone) made other another h = absurd (other refl)
   nothing_of f leagues (command.Fixture id home away g kickoff) made other another h = absurd (other refl)
   nothing_of f leagues (command.Move k g kickoff) made other another h = absurd (other refl)
+  nothing_of f leagues (command.AmendFixture k home away) made other another h = absurd (other refl)
+  nothing_of f leagues (command.AmendPlayer p name position) made other another h = h
   nothing_of f leagues (command.Sheet k lines finished) made other another h = absurd (other refl)
   nothing_of f leagues (command.Line k p line) made other another h = absurd (other refl)
   nothing_of f leagues (command.Drop k p) made other another h = absurd (other refl)
   nothing_of f leagues (command.Finished k finished) made other another h = absurd (other refl)
   nothing_of f leagues (command.Key key name) made other another h = h
+  nothing_of f leagues (command.Rekey entry key name) made other another h = h
   nothing_of f leagues (command.Squad players captain vice) made other another h = h
   nothing_of f leagues (command.Transfers swaps) made other another h = h
   nothing_of f leagues (command.Lineup players captain vice) made other another h = h
@@ -395,11 +413,14 @@ module _ (laws : AreLaws) where
   with_stays f managers leagues cups (command.Gone p gone) = same_stays f managers leagues cups
   with_stays f managers leagues cups (command.Fixture id home away g kickoff) = same_stays f managers leagues cups
   with_stays f managers leagues cups (command.Move k g kickoff) = same_stays f managers leagues cups
+  with_stays f managers leagues cups (command.AmendFixture k home away) = same_stays f managers leagues cups
+  with_stays f managers leagues cups (command.AmendPlayer p name position) = same_stays f managers leagues cups
   with_stays f managers leagues cups (command.Sheet k lines finished) = same_stays f managers leagues cups
   with_stays f managers leagues cups (command.Line k p line) = same_stays f managers leagues cups
   with_stays f managers leagues cups (command.Drop k p) = same_stays f managers leagues cups
   with_stays f managers leagues cups (command.Finished k finished) = same_stays f managers leagues cups
   with_stays f managers leagues cups (command.Key key name) = key_stays f leagues cups managers key name
+  with_stays f managers leagues cups (command.Rekey entry key name) = same_stays f managers leagues cups
   with_stays f managers leagues cups (command.Squad players captain vice) = same_stays f managers leagues cups
   with_stays f managers leagues cups (command.Transfers swaps) = same_stays f managers leagues cups
   with_stays f managers leagues cups (command.Lineup players captain vice) = same_stays f managers leagues cups
@@ -409,6 +430,33 @@ module _ (laws : AreLaws) where
   with_stays f managers leagues cups (command.Join league code) = same_stays f managers leagues cups
   with_stays f managers leagues cups (command.Draw league order) = same_stays f managers leagues cups
   with_stays f managers leagues cups (command.Cup start slots coins) = same_stays f managers leagues cups
+
+  -- another key leaves what each manager did
+  rekeyed_stays : (f : Facts) (managers : List Manager) (leagues : List LeagueFacts) (cups : List Bracket) (command : Command)
+      → EntriesStay (season_seen f managers leagues cups) (season_seen f (managers_rekeyed managers command) leagues cups)
+  rekeyed_stays f managers leagues cups (command.Rekey entry key name) = rekey_stays key name f leagues cups managers entry
+  rekeyed_stays f managers leagues cups command = same_stays f managers leagues cups
+
+  -- another position is that of a player who has no line, or it is the same
+  lines_fit : (f : Facts) (managers : List Manager) (p : ℕ) (position : Position) → CanAmend f managers p position
+      → (k : ℕ) → is_some (line_of f.matches k p) ≡ true → position_in f.players p ≡ position
+  lines_fit f managers p position can k has = by_position (is_same_position (position_in f.players p) position) refl
+    where
+      by_position : (b : Bool) → is_same_position (position_in f.players p) position ≡ b → position_in f.players p ≡ position
+      by_position true same = one_position (position_in f.players p) position same
+      by_position false other =
+          let unused = no_use f p position (managers_had managers p) other can.unbroken in
+          absurd (false≢true (sym (no_line f.matches k p (neither (managers_had managers p) (has_lines f.matches p) unused).1) ∙ has))
+
+  players_lead : (f : Facts) (managers : List Manager) (leagues : List LeagueFacts) (cups : List Bracket) (command : Command) (made : Plan) → made ≡ plan.Nothing
+      → IsSeason (season_seen f managers leagues cups) → IsAmendable f managers command
+      → LeadsTo (season_seen f managers leagues cups) (season_seen (facts_with f command) managers leagues cups) made
+  players_lead f managers leagues cups (command.AmendPlayer p name position) made e is can =
+      let b = season_seen f managers leagues cups in
+      nothing_leads b (season_seen (facts_with f (command.AmendPlayer p name position)) managers leagues cups) made e (laws.position b p name position is (lines_fit f managers p position can))
+  players_lead f managers leagues cups command made e is can =
+      let b = season_seen f managers leagues cups in
+      nothing_leads b b made e (laws.managers b (record { profile = f.profile; managers = managers }) is (same_stays f managers leagues cups))
 
   next_there : (o : Option ℕ) (judged : ℕ → Option Rule) → in_next o judged ≡ None → (n : ℕ) × (o ≡ Some n)
   next_there None judged e = absurd (none-some _ (sym e))
@@ -424,6 +472,16 @@ module _ (laws : AreLaws) where
     in_part part.Facts e granted changed =
         subst (λ (r : Running). LeadsTo (season_seen old.facts old.managers old.leagues old.cups) (season_seen r.facts r.managers r.leagues r.cups) made) (sym changed)
         (facts_lead old.facts old.managers old.leagues old.cups now command made e is granted planned (subst (λ (r : Running). IsCalendar r.facts.calendar) changed lawful))
+    in_part part.Players e granted changed =
+        subst (λ (r : Running). LeadsTo (season_seen old.facts old.managers old.leagues old.cups) (season_seen r.facts r.managers r.leagues r.cups) made) (sym changed)
+        (players_lead old.facts old.managers old.leagues old.cups command made
+        (nothing_of old.facts old.leagues command made (λ i. players_apart (sym e ∙ i)) (λ i. leagues_apart (sym e ∙ i)) planned) is granted)
+      where
+        players_apart : part.Players ≡ part.Facts → ⊥
+        players_apart i = cc
+
+        leagues_apart : part.Players ≡ part.Leagues → ⊥
+        leagues_apart i = cc
     in_part part.Entries e granted changed =
         subst (λ (r : Running). LeadsTo (season_seen old.facts old.managers old.leagues old.cups) (season_seen r.facts r.managers r.leagues r.cups) made) (sym changed)
         (managers_lead old.facts old.leagues old.cups old.managers (managers_with old.managers command) made
@@ -433,6 +491,16 @@ module _ (laws : AreLaws) where
         entries_apart i = cc
 
         leagues_apart : part.Entries ≡ part.Leagues → ⊥
+        leagues_apart i = cc
+    in_part part.Keys e granted changed =
+        subst (λ (r : Running). LeadsTo (season_seen old.facts old.managers old.leagues old.cups) (season_seen r.facts r.managers r.leagues r.cups) made) (sym changed)
+        (managers_lead old.facts old.leagues old.cups old.managers (managers_rekeyed old.managers command) made
+        (nothing_of old.facts old.leagues command made (λ i. keys_apart (sym e ∙ i)) (λ i. leagues_apart (sym e ∙ i)) planned) is (rekeyed_stays old.facts old.managers old.leagues old.cups command))
+      where
+        keys_apart : part.Keys ≡ part.Facts → ⊥
+        keys_apart i = cc
+
+        leagues_apart : part.Keys ≡ part.Leagues → ⊥
         leagues_apart i = cc
     in_part part.Deeds e granted changed =
         let next = next_there (next_gameweek old.facts.calendar) (rows_refused_in old.facts (manager_in old.managers (caller_number caller)).season command) granted.2.unbroken in

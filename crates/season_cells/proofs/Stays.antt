@@ -7,11 +7,12 @@ use Rattle.std.proofs.lemmas.List.{length-map}
 use Rattle.std.proofs.lemmas.Option.{same_Some}
 use Rattle.rule_book.specs.declared.cup.Bracket.{Bracket}
 use Rattle.rule_book.specs.Calendar.{CalendarFacts, next_gameweek}
+use Rattle.rule_book.specs.Entries.{changed_in}
 use Rattle.rule_book.specs.Leagues.{LeagueFacts}
 use Rattle.season_ledger.specs.declared.row.Row.{Row}
 use Rattle.season_ledger.specs.Rows.{cost_by, first_in, is_begun_by, standing_at, team_in}
 use Rattle.manager_book.specs.declared.manager.Manager.{Manager}
-use Rattle.manager_book.specs.Managers.{AreRisen, IsSameBut, manager_in, nobody}
+use Rattle.manager_book.specs.Managers.{AreRisen, IsSameBut, manager_in, nobody, rekeyed, with_key}
 use Rattle.season_book.specs.Book.{Facts}
 use Rattle.season_entries.specs.Earlier.{EarlierRowsTell, RowsStayBefore, TellAlike, rows_before}
 use Rattle.season_entries.specs.Keys.{new_manager}
@@ -156,4 +157,29 @@ module _ (facts : Facts) (leagues : List LeagueFacts) (cups : List Bracket) (old
     begun = λ k g w. begun_same k g;
     team = λ k g l. ap (λ rows. unwrap_or (team_in (standing_at rows g)) no_team) (sym (rows_same k));
     cost = λ k g l. ap (λ rows. cost_by facts.profile rows g) (sym (rows_same k));
+  }
+
+-- another key of an entry leaves what each did
+
+module _ (key name : List ℕ) where
+  season_same : (ms : List Manager) (e j : ℕ) → (slice_index_or (changed_in (with_key key name) ms e) j nobody).season ≡ (slice_index_or ms j nobody).season
+  season_same [] e j = refl
+  season_same (m ∷ ms) zero j = refl
+  season_same (m ∷ ms) (suc zero) zero = refl
+  season_same (m ∷ ms) (suc zero) (suc j) = refl
+  season_same (m ∷ ms) (suc (suc e)) zero = refl
+  season_same (m ∷ ms) (suc (suc e)) (suc j) = season_same ms (suc e) j
+
+  as_many : (ms : List Manager) (e : ℕ) → length (changed_in (with_key key name) ms e) ≡ length ms
+  as_many [] e = refl
+  as_many (m ∷ ms) zero = refl
+  as_many (m ∷ ms) (suc zero) = refl
+  as_many (m ∷ ms) (suc (suc e)) = ap suc (as_many ms (suc e))
+
+  pub rekey_stays : (facts : Facts) (leagues : List LeagueFacts) (cups : List Bracket) (olds : List Manager) (e : ℕ)
+      → EntriesStay (season_seen facts olds leagues cups) (season_seen facts (rekeyed olds e key name) leagues cups)
+  rekey_stays facts leagues cups olds e = record {
+    begun = λ k g w i. (nat_le 1 k && nat_le k (sym (as_many olds e) i)) && option_map_or (λ first. nat_le first g) (first_in (sym (season_same olds e (k - 1)) i)) false;
+    team = λ k g l. ap (λ rows. unwrap_or (team_in (standing_at rows g)) no_team) (sym (season_same olds e (k - 1)));
+    cost = λ k g l. ap (λ rows. cost_by facts.profile rows g) (sym (season_same olds e (k - 1)));
   }

@@ -88,9 +88,12 @@ pub fn planned<L: Ledger>(
         Command::Season { .. }
         | Command::Deadline { .. }
         | Command::Price { .. }
+        | Command::AmendPlayer { .. }
         | Command::Club { .. }
         | Command::Gone { .. }
+        | Command::AmendFixture { .. }
         | Command::Key { .. }
+        | Command::Rekey { .. }
         | Command::Squad { .. }
         | Command::Transfers { .. }
         | Command::Lineup { .. }

@@ -1,5 +1,7 @@
 -- The keys of managers and those of the entries for which they stand.
-use Rattle.std.proofs.Common.{◌≡◌, ◌+◌, ◌++◌, ◌∷◌, [], ℕ, suc, Bool, true, false, not, ◌||◌, cond, nat_lt, List, Option, Some, None, is_some, length, refl, sym, ap, ◌∙◌}
+use Rattle.std.proofs.Common.{◌≡◌, ◌≢◌, ◌<◌, ◌≤◌, ◌+◌, ◌==◌, ◌++◌, ◌∷◌, [], ℕ, zero, suc, Bool, true, false, not, ◌||◌, cond, if◌then◌else◌, ◌&&◌, nat_le, nat_lt, List, Option, Some, None, is_some, length, IfSome, arith, refl, sym, ap, inl, inr, ◌∙◌}
+use Rattle.std.proofs.lemmas.Bool.{cases_lt}
+use Rattle.std.proofs.lemmas.Bool.Decides.{nat_tests}
 use Rattle.std.specs.List.{position_from}
 use Rattle.std.specs.Option.{option_map}
 use Rattle.std.specs.Str.{bytes_eq}
@@ -9,17 +11,23 @@ use Rattle.fpl_base.specs.declared.kinds.Caller.TheVariants.{Operator, Entry}
 use Rattle.fpl_base.specs.declared.rule.Rule.{Rule}
 use Rattle.fpl_base.specs.declared.rule.Rule.TheVariants as rules
 use Rattle.rule_book.specs.declared.player.Player.{Player}
-use Rattle.rule_book.specs.Entries.{most_entries}
+use Rattle.rule_book.specs.Entries.{changed_in, most_entries}
 use Rattle.rule_book.specs.Refusals.{first_broken, unless}
 use Rattle.manager_book.specs.declared.manager.Manager.{Manager}
-use Rattle.manager_book.specs.Managers.{Managers, entry_with, issue_refusal, number_from}
+use Rattle.manager_book.specs.Managers.{Managers, entry_with, issue_refusal, number_from, rekeyed, with_key}
 use Rattle.season_book.specs.Book.{EntryFacts}
 use Rattle.season_book.specs.Hosts as hosts
+use Rattle.season_book.specs.KeyCommands as KeyCommands
+use Rattle.season_book.specs.KeyCommands.{is_open_to, rekey_refusal}
+use Rattle.season_book.specs.LeagueCommands.{is_issued}
 use Rattle.season_book.specs.Verdict.{key_refusal}
+use Rattle.season_book.specs.declared.answer.Answer.{Answer}
+use Rattle.season_book.specs.declared.answer.Answer.TheVariants as answer
 use Rattle.season_entries.specs.Deeds.{AreInTime}
 use Rattle.season_entries.specs.Entries.{AreEntries}
 use Rattle.season_entries.specs.EntryLaws.{OwnersAreAlike}
-use Rattle.season_entries.specs.Keys.{StandForBooksWith, key_broken, keys_of, new_entry, new_manager}
+use Rattle.season_entries.specs.Keys.{StandForBooksRekeyed, StandForBooksWith, key_broken, keys_of, new_entry, new_manager, rekey_answer, rekey_broken}
+use Rattle.season_entries.proofs.Issued.{entries_issued}
 use Rattle.season_entries.proofs.Times.{nothing_in_time}
 
 -- by the room and the key
@@ -110,3 +118,94 @@ books_with key name managers players entries a = walk managers entries a
 pub in_time_with : (next : Option ℕ) (key name : List ℕ) (managers : List Manager) → AreInTime next managers → AreInTime next (managers ++ new_manager key name ∷ [])
 in_time_with next key name [] a = (nothing_in_time next, tt)
 in_time_with next key name (m ∷ managers) a = (a.0, in_time_with next key name managers a.1)
+
+-- Another key of an entry.
+
+module _ (operator : List ℕ) (book : Managers) (e : ℕ) (key : List ℕ) where
+  abbrev broken_if : Bool → Option Answer
+  broken_if there = if there then option_map answer.Rule (rekey_refusal operator (keys_of book.managers) e key) else Some answer.Unknown
+
+  -- by whose key it is
+  abbrev by_owner : Bool → Option ℕ → Option Answer
+  by_owner own owner = option_map answer.Rule (unless (is_open_to e (cond own (Some Operator) (option_map Entry owner))) rules.KeyThere)
+
+  -- there is no such entry
+  pub rekey_none : (e ≡ 0) → rekey_broken operator book.managers e key ≡ Some answer.Unknown
+  rekey_none is = ap broken_if (no_entry e (length book.managers) is)
+    where
+      no_entry : (n most : ℕ) → n ≡ 0 → (nat_le 1 n && nat_le n most) ≡ false
+      no_entry n most is = grind (arith, nat_tests, is)
+
+  pub rekey_past : length book.managers < e → rekey_broken operator book.managers e key ≡ Some answer.Unknown
+  rekey_past past = ap broken_if (no_entry e (length book.managers) past)
+    where
+      no_entry : (n most : ℕ) → most < n → (nat_le 1 n && nat_le n most) ≡ false
+      no_entry n most past = grind (arith, nat_tests, past)
+
+  here : 1 ≤ e → e ≤ length book.managers → rekey_broken operator book.managers e key ≡ by_owner (bytes_eq operator key) (entry_with book key)
+  here one few =
+      ap broken_if (an_entry e (length book.managers) one few)
+      ∙ ap (λ o. option_map answer.Rule (unless (is_open_to e (cond (bytes_eq operator key) (Some Operator) o)) rules.KeyThere)) (owners_alike book key)
+    where
+      an_entry : (n most : ℕ) → 1 ≤ n → n ≤ most → (nat_le 1 n && nat_le n most) ≡ true
+      an_entry n most one few = grind (arith, nat_tests, one, few)
+
+  -- it is the operator's
+  pub rekey_own : 1 ≤ e → e ≤ length book.managers → bytes_eq operator key ≡ true → rekey_broken operator book.managers e key ≡ Some (answer.Rule rules.KeyThere)
+  rekey_own one few own = here one few ∙ ap (λ b. by_owner b (entry_with book key)) own
+
+  -- it is another entry's
+  pub rekey_taken : (owner : ℕ) → 1 ≤ e → e ≤ length book.managers → bytes_eq operator key ≡ false → entry_with book key ≡ Some owner → owner ≢ e
+      → rekey_broken operator book.managers e key ≡ Some (answer.Rule rules.KeyThere)
+  rekey_taken owner one few other is apart =
+      let no : (owner == e) ≡ false = grind (arith, nat_tests, apart) in
+      here one few ∙ ap (λ b. by_owner b (entry_with book key)) other ∙ ap (by_owner false) is ∙ ap (λ b. option_map answer.Rule (unless b rules.KeyThere)) no
+
+  -- it is nobody's, or its own
+  pub rekey_free : 1 ≤ e → e ≤ length book.managers → bytes_eq operator key ≡ false → IfSome (entry_with book key) (λ owner. owner ≡ e) → rekey_broken operator book.managers e key ≡ None
+  rekey_free one few other free = here one few ∙ ap (λ b. by_owner b (entry_with book key)) other ∙ by_case (entry_with book key) free
+    where
+      by_case : (o : Option ℕ) → IfSome o (λ owner. owner ≡ e) → by_owner false o ≡ None
+      by_case None free = refl
+      by_case (Some owner) free =
+          let same : (owner == e) ≡ true = grind (arith, nat_tests, free) in
+          ap (λ b. option_map answer.Rule (unless b rules.KeyThere)) same
+
+-- the entries of a book are those of the managers, by number and by key
+issued_by : (players : List Player) (managers : List Manager) (entries : List EntryFacts) (e : ℕ) → AreEntries players managers entries → (nat_le 1 e && nat_le e (length managers)) ≡ is_issued entries e
+issued_by players managers entries zero a = refl
+issued_by players managers entries (suc n) a = elim (cases_lt (length managers) (suc n)) [
+  | inl past ↦
+      let no : nat_le (suc n) (length managers) ≡ false = grind (arith, nat_tests, past) in
+      no ∙ sym (ap is_some ((entries_issued players managers entries (suc n) a).none past))
+  | inr few ↦
+      let yes : nat_le (suc n) (length managers) ≡ true = grind (arith, nat_tests, few) in
+      yes ∙ sym (ap is_some ((entries_issued players managers entries (suc n) a).there (omega arith) few).1)
+]
+
+pub rekey_same : (operator key : List ℕ) (e : ℕ) (players : List Player) (managers : List Manager) (entries : List EntryFacts) → AreEntries players managers entries
+    → rekey_broken operator managers e key ≡ rekey_answer operator entries e key
+rekey_same operator key e players managers entries a =
+    ap (λ b. if b then option_map answer.Rule (rekey_refusal operator (keys_of managers) e key) else Some answer.Unknown) (issued_by players managers entries e a)
+    ∙ ap (λ l. if is_issued entries e then option_map answer.Rule (rekey_refusal operator l e key) else Some answer.Unknown) (sym (same_keys players managers entries a))
+
+pub books_rekeyed : (e : ℕ) (key name : List ℕ) (managers : List Manager) → StandForBooksRekeyed e key name managers (rekeyed managers e key name)
+books_rekeyed e key name managers players entries a = walk managers entries e a
+  where
+    walk : (ms : List Manager) (es : List EntryFacts) (n : ℕ) → AreEntries players ms es
+        → AreEntries players (changed_in (with_key key name) ms n) (changed_in (KeyCommands.with_key (record { entry = e; key = key; name = name })) es n)
+    walk [] [] n a = tt
+    walk [] (x ∷ es) n a = absurd a
+    walk (m ∷ ms) [] n a = absurd a
+    walk (m ∷ ms) (x ∷ es) zero a = a
+    walk (m ∷ ms) (x ∷ es) (suc zero) a = (record { key = refl; name = refl; history = a.0.history; sales = a.0.sales }, a.1)
+    walk (m ∷ ms) (x ∷ es) (suc (suc n)) a = (a.0, walk ms es (suc n) a.1)
+
+pub in_time_rekeyed : (next : Option ℕ) (e : ℕ) (key name : List ℕ) (managers : List Manager) → AreInTime next managers → AreInTime next (rekeyed managers e key name)
+in_time_rekeyed next e key name managers a = walk managers e a
+  where
+    walk : (ms : List Manager) (n : ℕ) → AreInTime next ms → AreInTime next (changed_in (with_key key name) ms n)
+    walk [] n a = tt
+    walk (m ∷ ms) zero a = a
+    walk (m ∷ ms) (suc zero) a = a
+    walk (m ∷ ms) (suc (suc n)) a = (a.0, walk ms (suc n) a.1)

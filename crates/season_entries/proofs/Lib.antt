@@ -9,3 +9,5 @@ pub mod Keyed
 pub mod Stay
 pub mod Issued
 pub mod KnownFacts
+pub mod Had
+pub mod Amended

@@ -23,11 +23,11 @@ use Rattle.season_entries.specs.Entries.{AreEntries}
 use Rattle.season_entries.specs.EntryLaws.{EarlyIsInTime, FactsLeaveEntries, InTimeIsEarly, MomentsLeaveEntries}
 
 -- all, in both words
-all_each : {A : Type 0} (P : A → Type 0) (xs : List A) → All P xs → Each P xs
+pub all_each : {A : Type 0} (P : A → Type 0) (xs : List A) → All P xs → Each P xs
 all_each P [] a = tt
 all_each P (x ∷ xs) a = (All-head P x xs a, all_each P xs (All-tail P x xs a))
 
-each_all : {A : Type 0} (P : A → Type 0) (xs : List A) → Each P xs → All P xs
+pub each_all : {A : Type 0} (P : A → Type 0) (xs : List A) → Each P xs → All P xs
 each_all P [] a i d l = absurd (omega arith)
 each_all P (x ∷ xs) a zero d l = a.0
 each_all P (x ∷ xs) a (suc i) d l = each_all P xs a.1 i d (omega (arith, l))
@@ -77,7 +77,7 @@ with_changed position change players id back have = each_all (IsAt position) pla
     walk (p ∷ ps) a = (one p (nat_eq p.id id) a.0, walk ps a.1)
 
 -- entries stay where positions do
-entries_stay : (old new : List Player) (managers : List Manager) (entries : List EntryFacts) → ((position : ℕ → Position) → HavePositions position new → HavePositions position old) → AreEntries old managers entries → AreEntries new managers entries
+pub entries_stay : (old new : List Player) (managers : List Manager) (entries : List EntryFacts) → ((position : ℕ → Position) → HavePositions position new → HavePositions position old) → AreEntries old managers entries → AreEntries new managers entries
 entries_stay old new [] [] back a = tt
 entries_stay old new [] (x ∷ entries) back a = absurd a
 entries_stay old new (m ∷ managers) [] back a = absurd a
@@ -159,11 +159,14 @@ facts_leave_entries facts now (command.Deadline g t) managers granted = record {
 facts_leave_entries facts now (command.Season a b c d) managers granted = record { books = λ entries x. x; later = λ x. x }
 facts_leave_entries facts now (command.Fixture a b c d e) managers granted = record { books = λ entries x. x; later = λ x. x }
 facts_leave_entries facts now (command.Move a b c) managers granted = record { books = λ entries x. x; later = λ x. x }
+facts_leave_entries facts now (command.AmendFixture a b c) managers granted = record { books = λ entries x. x; later = λ x. x }
+facts_leave_entries facts now (command.AmendPlayer a b c) managers granted = record { books = λ entries x. x; later = λ x. x }
 facts_leave_entries facts now (command.Sheet a b c) managers granted = record { books = λ entries x. x; later = λ x. x }
 facts_leave_entries facts now (command.Line a b c) managers granted = record { books = λ entries x. x; later = λ x. x }
 facts_leave_entries facts now (command.Drop a b) managers granted = record { books = λ entries x. x; later = λ x. x }
 facts_leave_entries facts now (command.Finished a b) managers granted = record { books = λ entries x. x; later = λ x. x }
 facts_leave_entries facts now (command.Key a b) managers granted = record { books = λ entries x. x; later = λ x. x }
+facts_leave_entries facts now (command.Rekey a b c) managers granted = record { books = λ entries x. x; later = λ x. x }
 facts_leave_entries facts now (command.Squad a b c) managers granted = record { books = λ entries x. x; later = λ x. x }
 facts_leave_entries facts now (command.Transfers a) managers granted = record { books = λ entries x. x; later = λ x. x }
 facts_leave_entries facts now (command.Lineup a b c) managers granted = record { books = λ entries x. x; later = λ x. x }

@@ -4,3 +4,4 @@ pub mod Deeds
 pub mod Keys
 pub mod EntryLaws
 pub mod Known
+pub mod Amended

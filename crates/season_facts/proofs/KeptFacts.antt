@@ -11,7 +11,7 @@ use Rattle.fpl_base.specs.declared.rule.Rule.{Rule}
 use Rattle.rule_book.specs.declared.line.Line.{Line}
 use Rattle.rule_book.specs.declared.player.Player.{Player}
 use Rattle.rule_book.specs.declared.season.Fixture.{Fixture}
-use Rattle.rule_book.specs.Calendar.{CalendarFacts, moved_to, with_fixture, with_move}
+use Rattle.rule_book.specs.Calendar.{CalendarFacts, between, moved_to, with_fixture, with_move, with_opponents}
 use Rattle.rule_book.specs.Figures.{IsLine, greatest_figures, line_range}
 use Rattle.rule_book.specs.MatchCalls.{line_refusal, lines_full, lines_range, line_twice, not_locked, sheet_refusal}
 use Rattle.rule_book.specs.MatchFacts.{Lines, MatchFacts, Sheet, by_player, line_in, line_of, lines_of, players_in, sheet_of, with_line, with_sheet, without_line}
@@ -58,6 +58,12 @@ ids_with_move calendar f to kickoff ids =
     All-map HasFixtureId (moved_to f to kickoff) calendar.fixtures
     (All-weaker HasFixtureId (λ x. HasFixtureId (moved_to f to kickoff x))
     (λ x own. elim (x.id == f) as (λ b. HasFixtureId (if b then record x { gw = to; kickoff = kickoff } else x)) [ true ↦ own | false ↦ own ]) calendar.fixtures ids)
+
+pub ids_with_opponents : (calendar : CalendarFacts) (f home away : ℕ) → All HasFixtureId calendar.fixtures → All HasFixtureId (with_opponents calendar f home away).fixtures
+ids_with_opponents calendar f home away ids =
+    All-map HasFixtureId (between f home away) calendar.fixtures
+    (All-weaker HasFixtureId (λ x. HasFixtureId (between f home away x))
+    (λ x own. elim (x.id == f) as (λ b. HasFixtureId (if b then record x { home = home; away = away } else x)) [ true ↦ own | false ↦ own ]) calendar.fixtures ids)
 
 -- the lines
 

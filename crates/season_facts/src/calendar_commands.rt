@@ -1,13 +1,13 @@
 // The commands that change the calendar. Each was judged before.
 ghost use Rattle.std.specs.Prelude.{◌≡◌, None, OnOk, OnErr, true};
-ghost use Rattle.rule_book.specs.Calendar.{with_deadline, with_fixture, with_move};
+ghost use Rattle.rule_book.specs.Calendar.{with_deadline, with_fixture, with_move, with_opponents};
 ghost use Rattle.rule_book.specs.CalendarCalls.{deadline_refusal, fixture_refusal, move_refusal};
 ghost use Rattle.rule_book.specs.MatchFacts.{has_facts};
 ghost use Rattle.season_book.specs.Commands.{has_fixture, has_gameweek, has_place};
 ghost use Rattle.season_book.specs.Verdict.{locked_at};
 
 use crate::Season;
-use fpl_base::{Gw, Memory, Moment, Refused};
+use fpl_base::{ClubId, Gw, Memory, Moment, Refused};
 use rule_book::Fixture;
 
 impl Season {
@@ -63,5 +63,14 @@ impl Season {
             Ok(()) => {}
             Err(_) => unreachable!(),
         }
+    }
+
+    pub(crate) fn set_opponents(&mut self, number: u32, home: ClubId, away: ClubId)
+        requires there { has_fixture self.old number ≡ true }
+        ensures { self.new
+            ≡ record self.old { calendar = with_opponents self.old.calendar number home away } }
+    {
+        let fixture = self.the_fixture(number);
+        self.calendar.set_opponents(fixture, home, away);
     }
 }

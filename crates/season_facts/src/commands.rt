@@ -60,6 +60,14 @@ impl Season {
                 self.move_fixture(*fixture, *gameweek, *kickoff);
                 Ok(())
             }
+            Command::AmendFixture {
+                fixture,
+                home,
+                away,
+            } => {
+                self.set_opponents(*fixture, *home, *away);
+                Ok(())
+            }
             Command::Sheet {
                 fixture,
                 lines,
@@ -78,6 +86,8 @@ impl Season {
             // A season begins another way, and no route orders the others yet.
             Command::Season { .. }
             | Command::Key { .. }
+            | Command::Rekey { .. }
+            | Command::AmendPlayer { .. }
             | Command::Squad { .. }
             | Command::Transfers { .. }
             | Command::Lineup { .. }

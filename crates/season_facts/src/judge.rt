@@ -61,6 +61,11 @@ impl Season {
                 gameweek,
                 kickoff,
             } => self.judge_move(now, *fixture, gameweek, *kickoff),
+            Command::AmendFixture {
+                fixture,
+                home,
+                away,
+            } => self.judge_amend_fixture(now, *fixture, *home, *away),
             Command::Sheet {
                 fixture,
                 lines,
@@ -77,6 +82,8 @@ impl Season {
             }
             // No route orders these yet.
             Command::Key { .. }
+            | Command::Rekey { .. }
+            | Command::AmendPlayer { .. }
             | Command::Squad { .. }
             | Command::Transfers { .. }
             | Command::Lineup { .. }
@@ -191,6 +198,27 @@ impl Season {
             Ok(()) => Ok(()),
             Err(rule) => Err(Answer::Rule(rule)),
         }
+    }
+
+    fn judge_amend_fixture(
+        &self,
+        now: Moment,
+        number: u32,
+        home: ClubId,
+        away: ClubId,
+    ) -> Result<(), Answer>
+        ensures { IsWeighed self.now now (command.AmendFixture number home away) result }
+    {
+        let Some(fixture) = self.fixture_there(number) else {
+            return Err(Answer::Unknown);
+        };
+        if !self.has_club(home) || !self.has_club(away) {
+            return Err(Answer::Unknown);
+        }
+        if self.matches.has_facts(fixture) {
+            return Err(Answer::Rule(Rule::FactsThere { fixture }));
+        }
+        Ok(())
     }
 
     fn judge_sheet(

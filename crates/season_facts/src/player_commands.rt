@@ -1,9 +1,10 @@
 // The commands that change the players. Each was judged before.
-ghost use Rattle.std.specs.Prelude.{◌≡◌, None, OnOk, OnErr};
-ghost use Rattle.rule_book.specs.Players.{player_refusal, price_refusal, with_club, with_gone, with_player, with_price};
+ghost use Rattle.std.specs.Prelude.{◌≡◌, None, OnOk, OnErr, true};
+ghost use Rattle.rule_book.specs.Players.{player_refusal, price_refusal, with_club, with_details, with_gone, with_player, with_price};
+ghost use Rattle.season_book.specs.Commands.{has_player};
 
 use crate::Season;
-use fpl_base::{ClubId, Memory, PlayerId, Refused, Tenths};
+use fpl_base::{ClubId, Memory, Name, PlayerId, Position, Refused, Tenths};
 use rule_book::Player;
 
 impl Season {
@@ -44,5 +45,26 @@ impl Season {
         ensures { self.new ≡ record self.old { players = with_gone self.old.players player gone } }
     {
         self.players.set_gone(player, gone);
+    }
+
+    /// Gives a player who is there this name and this position; unchanged where memory is wanting.
+    pub fn amend_player(
+        &mut self,
+        number: u32,
+        name: &Name,
+        position: Position,
+    ) -> Result<(), Memory>
+        requires there { has_player self.old number ≡ true }
+        ensures ok { OnOk result
+            (self.new
+            ≡ record self.old { players = with_details self.old.players number name.now position }) }
+        ensures err { OnErr result (self.new ≡ self.old) }
+    {
+        let name = name.copy()?;
+        match self.player_there(number) {
+            Some(player) => self.players.set_details(player, name, position),
+            None => unreachable!(),
+        }
+        Ok(())
     }
 }

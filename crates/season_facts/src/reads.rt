@@ -5,6 +5,7 @@ ghost use Rattle.rule_book.specs.Calendar.{fixture_of};
 ghost use Rattle.rule_book.specs.Figures.{IsLine};
 ghost use Rattle.rule_book.specs.MatchFacts.{line_of, lines_of, is_finished};
 ghost use Rattle.rule_book.specs.Players.{player_of};
+ghost use Rattle.rule_book.specs.Uses.{has_lines};
 
 use crate::Season;
 use fpl_base::{FixtureId, Memory, PlayerId, Profile, Steps};
@@ -59,6 +60,17 @@ impl Season {
             Some(id) => self.players.get(id),
             None => None,
         }
+    }
+
+    /// Whether a player has a line in a fixture.
+    pub fn has_lines(&self, player: PlayerId) -> bool
+        ensures { result ≡ has_lines self.now.matches player }
+    {
+        let matches = &self.matches;
+        matches
+            .fixtures()
+            .iter()
+            .any(|fixture| matches.has_line(*fixture, player))
     }
 
     /// The fixture of this number, if it is there.

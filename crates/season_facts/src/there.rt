@@ -21,6 +21,18 @@ impl Season {
         self.players.get(player).is_some()
     }
 
+    /// The id of the player of this number, if he is there.
+    pub fn player_there(&self, number: u32) -> Option<PlayerId>
+        ensures { MatchOption result (has_player self.now number ≡ false)
+            (λ player. (player ≡ number) × (has_player self.now number ≡ true)) }
+    {
+        match PlayerId::new(number) {
+            Some(player) if self.has_player(player) => Some(player),
+            Some(_) => None,
+            None => None,
+        }
+    }
+
     // Whether each player who has a line is there.
     pub(crate) fn has_players(&self, lines: &[(PlayerId, Line)]) -> bool
         ensures { result ≡ list_all (λ row. has_player self.now row.0) lines.now }

@@ -6,6 +6,7 @@ use Rattle.fpl_base.specs.declared.kinds.Position.{Position}
 use Rattle.fpl_base.specs.declared.kinds.Position.TheVariants.{Keeper}
 use Rattle.rule_book.specs.declared.player.Player.{Player}
 use Rattle.rule_book.specs.Calendar.{standing}
+use Rattle.rule_book.specs.MatchFacts.{line_of}
 use Rattle.rule_book.specs.PlayerFigures.{position_in}
 use Rattle.rule_book.specs.Players.{player_of}
 use Rattle.rescore_graph.specs.Graph.{Among}
@@ -29,30 +30,23 @@ clash e = cc
 abbrev place : Option Player → Option Position
 place o = option_map (λ x. x.position) o
 
-some_place : (o : Option Player) → is_some o ≡ is_some (place o)
-some_place None = refl
-some_place (Some x) = refl
-
 place_or : (o : Option Player) → option_map_or (λ x. x.position) o Keeper ≡ unwrap_or (place o) Keeper
 place_or None = refl
 place_or (Some x) = refl
 
 module _ (b d : SeasonFacts) (c : AreAlike b d) where
-  player_there : (q : ℕ) → is_some (player_of b.players q) ≡ is_some (player_of d.players q)
-  player_there q = some_place (player_of b.players q) ∙ ap is_some (c.positions q) ∙ sym (some_place (player_of d.players q))
-
-  position_same : (q : ℕ) → position_in b.players q ≡ position_in d.players q
-  position_same q = place_or (player_of b.players q) ∙ ap (λ o. unwrap_or o Keeper) (c.positions q) ∙ sym (place_or (player_of d.players q))
+  position_same : (f q : ℕ) → is_some (line_of b.matches f q) ≡ true → position_in b.players q ≡ position_in d.players q
+  position_same f q has = place_or (player_of b.players q) ∙ ap (λ o. unwrap_or o Keeper) (c.positions f q has) ∙ sym (place_or (player_of d.players q))
 
   module _ (is_b : IsSeason b) (is_d : IsSeason d) where
     alike_kept : (n : Node) → IsKept b d n ⊎ Among [] n
-    alike_kept (node.Line f p) = inl (ap is_some (c.lines f p), λ l. (c.lines f p, c.profile, position_same p))
+    alike_kept (node.Line f p) = inl (ap is_some (c.lines f p), λ l. (c.lines f p, c.profile, position_same f p (ap is_some (c.lines f p) ∙ l)))
     alike_kept (node.Bonus f) = let same = players_same b d is_b is_d f (λ q. ap is_some (c.lines f q)) in inl (some_lines b d f same, λ l. (same, c.marks f))
     alike_kept (node.PlayerGw p g) = inl (
-      (λ i. player_there p i && (nat_le 1 g && nat_le g (c.locked i))),
+      (λ i. c.there p i && (nat_le 1 g && nat_le g (c.locked i))),
       λ l. filter_local (has_line b p) (has_line d p) (standing b.calendar g) (λ f a. ap is_some (c.lines f p)) ∙ ap (filter (has_line d p)) (c.stand g),
     )
-    alike_kept (node.TeamGw e g) = inl (team_kept b d c.entries e g (ap (nat_le g) c.locked) (λ i. list_all (λ f. c.marks f i) (c.stand g i)) (λ q a. player_there q))
+    alike_kept (node.TeamGw e g) = inl (team_kept b d c.entries e g (ap (nat_le g) c.locked) (λ i. list_all (λ f. c.marks f i) (c.stand g i)) (λ q a. c.there q))
     alike_kept (node.Total e s) = inl (total_kept b d c.entries c.locked c.leagues e s)
     alike_kept (node.Average l g) = inl (average_stays b d c.entries c.locked c.leagues l g)
     alike_kept (node.Match l g i) = inl (match_stays b d c.entries c.locked c.leagues l g i)

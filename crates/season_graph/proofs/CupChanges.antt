@@ -58,7 +58,7 @@ early_live d c r i bracket is late =
 pub cup_is_drawn : CupIsDrawn
 cup_is_drawn b bracket is shape late = (
   record { calendar = is.calendar; ascending = is.ascending; ranges = is.ranges; there = is.there; orders = is.orders; brackets = brackets },
-  record { profile = refl; locked = refl; stand = λ g. refl; lines = λ f q. refl; marks = λ f. refl; positions = λ q. refl; leagues = refl; cups = cups; entries = record { begun = λ e g w. refl; team = λ e g l. refl; cost = λ e g l. refl } },
+  record { profile = refl; locked = refl; stand = λ g. refl; lines = λ f q. refl; marks = λ f. refl; there = λ q. refl; positions = λ f q h. refl; leagues = refl; cups = cups; entries = record { begun = λ e g w. refl; team = λ e g l. refl; cost = λ e g l. refl } },
 )
   where
     d : SeasonFacts

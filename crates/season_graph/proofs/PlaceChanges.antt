@@ -1,16 +1,20 @@
 -- What a change of the calendar and of the players leaves.
 use Rattle.std.proofs.Common.{◌≡◌, ◌≢◌, ℕ, ◌<◌, ◌≤◌, ◌==◌, nat_lt, max, Bool, true, false, cond, if◌then◌else◌, inl, inr, ⊎_elim, List, [], ◌∷◌, ◌++◌, Option, Some, None, is_some, map, refl, sym, ◌∙◌, ap, ap₂, subst, arith}
 use Rattle.std.specs.List.{filter, find}
-use Rattle.std.specs.Option.{option_and_then, option_map, option_or}
+use Rattle.std.specs.Option.{option_and_then, option_map, option_map_or, option_or}
 use Rattle.std.proofs.lemmas.Bool.{cases_order}
 use Rattle.std.proofs.lemmas.Bool.Decides.{nat_tests}
 use Rattle.std.proofs.lemmas.List.Folds.{find-append}
 use Rattle.rule_book.specs.declared.player.Player.{Player}
 use Rattle.rule_book.specs.declared.season.Fixture.{Fixture}
-use Rattle.rule_book.specs.Calendar.{moved_to, passed_deadlines}
+use Rattle.rule_book.specs.Calendar.{between, is_gameweek, moved_to, passed_deadlines, standing_among}
 use Rattle.fpl_base.specs.declared.kinds.Position.{Position}
-use Rattle.rule_book.specs.Players.{player_of, with_change, with_player}
-use Rattle.season_graph.specs.BookChanges.{ClubChanges, DeadlineMoves, FixtureComes, FixtureMoves, GoneChanges, ManagersChange, MomentPasses, PlayerComes, PriceChanges, with_players}
+use Rattle.fpl_base.specs.declared.kinds.Position.TheVariants.{Keeper}
+use Rattle.rule_book.specs.MatchFacts.{line_of}
+use Rattle.rule_book.specs.PlayerFigures.{position_in}
+use Rattle.rule_book.specs.Players.{player_of, with_change, with_details, with_player}
+use Rattle.rule_book.proofs.DetailsFacts.{amended, found_other, found_own, still_there}
+use Rattle.season_graph.specs.BookChanges.{ClubChanges, DeadlineMoves, FixtureComes, FixtureMoves, GoneChanges, ManagersChange, MomentPasses, OpponentsChange, PlayerComes, PositionChanges, PriceChanges, with_players}
 use Rattle.season_graph.specs.Changes.{AreAlike}
 use Rattle.season_nodes.specs.Season.{SeasonFacts, IsSeason, has_line}
 use Rattle.season_nodes.proofs.DependentFacts.{same_test}
@@ -141,7 +145,40 @@ moment_passes b now is lawful = (
 pub deadline_moves : DeadlineMoves
 deadline_moves b g t is lawful = (
   record { calendar = lawful; ascending = is.ascending; ranges = is.ranges; there = is.there; orders = is.orders; brackets = is.brackets },
-  record { profile = refl; locked = refl; stand = λ g. refl; lines = λ f q. refl; marks = λ f. refl; positions = λ q. refl; leagues = refl; cups = λ k. inl refl; entries = record { begun = λ e g w. refl; team = λ e g l. refl; cost = λ e g l. refl } },
+  record { profile = refl; locked = refl; stand = λ g. refl; lines = λ f q. refl; marks = λ f. refl; there = λ q. refl; positions = λ f q h. refl; leagues = refl; cups = λ k. inl refl; entries = record { begun = λ e g w. refl; team = λ e g l. refl; cost = λ e g l. refl } },
+)
+
+-- so does a fixture between other clubs
+
+standing_still : (xs : List Fixture) (f home away g : ℕ) → standing_among (map (between f home away) xs) g ≡ standing_among xs g
+standing_still [] f home away g = refl
+standing_still (x ∷ xs) f home away g = by_id (x.id == f) (is_gameweek g x.gw) (standing_still xs f home away g)
+  where
+    news : List Fixture
+    news = filter (λ y. is_gameweek g y.gw) (map (between f home away) xs)
+
+    olds : List Fixture
+    olds = filter (λ y. is_gameweek g y.gw) xs
+
+    by_id : (b t : Bool) → map (λ y. y.id) news ≡ map (λ y. y.id) olds
+        → map (λ y. y.id) (cond (is_gameweek g (if b then record x { home = home; away = away } else x).gw) ((if b then record x { home = home; away = away } else x) ∷ news) news)
+        ≡ map (λ y. y.id) (cond (is_gameweek g x.gw) (x ∷ olds) olds)
+    by_id true t rest = here (is_gameweek g x.gw) rest
+      where
+        here : (t : Bool) → map (λ y. y.id) news ≡ map (λ y. y.id) olds
+            → map (λ y. y.id) (cond t (record x { home = home; away = away } ∷ news) news) ≡ map (λ y. y.id) (cond t (x ∷ olds) olds)
+        here true rest = ap (λ l. x.id ∷ l) rest
+        here false rest = rest
+    by_id false t rest = here (is_gameweek g x.gw) rest
+      where
+        here : (t : Bool) → map (λ y. y.id) news ≡ map (λ y. y.id) olds → map (λ y. y.id) (cond t (x ∷ news) news) ≡ map (λ y. y.id) (cond t (x ∷ olds) olds)
+        here true rest = ap (λ l. x.id ∷ l) rest
+        here false rest = rest
+
+pub opponents_change : OpponentsChange
+opponents_change b f home away is lawful = (
+  record { calendar = lawful; ascending = is.ascending; ranges = is.ranges; there = is.there; orders = is.orders; brackets = is.brackets },
+  record { profile = refl; locked = refl; stand = λ g. sym (standing_still b.calendar.fixtures f home away g); lines = λ f q. refl; marks = λ f. refl; there = λ q. refl; positions = λ f q h. refl; leagues = refl; cups = λ k. inl refl; entries = record { begun = λ e g w. refl; team = λ e g l. refl; cost = λ e g l. refl } },
 )
 
 -- so does a new player
@@ -203,7 +240,7 @@ module _ (change : Player → Player) (same_id : (x : Player) → (change x).id 
       orders = is.orders;
       brackets = is.brackets;
     },
-    record { profile = refl; locked = refl; stand = λ g. refl; lines = λ f q. refl; marks = λ f. refl; positions = λ q. sym (places_stay b.players p q); leagues = refl; cups = λ k. inl refl; entries = record { begun = λ e g w. refl; team = λ e g l. refl; cost = λ e g l. refl } },
+    record { profile = refl; locked = refl; stand = λ g. refl; lines = λ f q. refl; marks = λ f. refl; there = λ q. sym (there_still (player_of (with_change change b.players p) q) (player_of b.players q) (places_stay b.players p q)); positions = λ f q h. sym (places_stay b.players p q); leagues = refl; cups = λ k. inl refl; entries = record { begun = λ e g w. refl; team = λ e g l. refl; cost = λ e g l. refl } },
   )
 
 pub price_changes : PriceChanges
@@ -215,9 +252,38 @@ club_changes b p club is = player_changes (λ x. record x { club = club }) (λ x
 pub gone_changes : GoneChanges
 gone_changes b p gone is = player_changes (λ x. record x { gone = gone }) (λ x. refl) (λ x. refl) b p is
 
+-- so is a player who gets another name and another position, where none of his lines is at another one
+
+module _ (p : ℕ) (name : List ℕ) (position : Position) where
+  at_his_position : (o : Option Player) → is_some o ≡ true → option_map_or (λ x. x.position) o Keeper ≡ position → place o ≡ place (option_map (amended p name position) o)
+  at_his_position None there same = absurd (clash (sym there))
+  at_his_position (Some x) there same = ap Some same
+
+  places_same : (b : SeasonFacts) → IsSeason b → ((f : ℕ) → is_some (line_of b.matches f p) ≡ true → position_in b.players p ≡ position)
+      → (f q : ℕ) → is_some (line_of b.matches f q) ≡ true → place (player_of b.players q) ≡ place (player_of (with_details b.players p name position) q)
+  places_same b is fits f q has = ⊎_elim
+      (λ e. subst (λ k. place (player_of b.players k) ≡ place (player_of (with_details b.players p name position) k)) (sym e) (
+      let his : is_some (line_of b.matches f p) ≡ true = subst (λ k. is_some (line_of b.matches f k) ≡ true) e has in
+      at_his_position (player_of b.players p) (is.there f p his) (fits f his) ∙ ap place (sym (found_own p name position b.players))))
+      (λ n. ap place (sym (found_other p name position b.players q n)))
+      (same_or_not q p)
+
+pub position_changes : PositionChanges
+position_changes b p name position is fits = (
+  record {
+    calendar = is.calendar;
+    ascending = is.ascending;
+    ranges = is.ranges;
+    there = λ f q h. still_there p name position b.players q ∙ is.there f q h;
+    orders = is.orders;
+    brackets = is.brackets;
+  },
+  record { profile = refl; locked = refl; stand = λ g. refl; lines = λ f q. refl; marks = λ f. refl; there = λ q. sym (still_there p name position b.players q); positions = places_same p name position b is fits; leagues = refl; cups = λ k. inl refl; entries = record { begun = λ e g w. refl; team = λ e g l. refl; cost = λ e g l. refl } },
+)
+
 -- a book of managers in which the locked gameweeks are as they were
 pub managers_change : ManagersChange
 managers_change b managers is stay = (
   record { calendar = is.calendar; ascending = is.ascending; ranges = is.ranges; there = is.there; orders = is.orders; brackets = is.brackets },
-  record { profile = refl; locked = refl; stand = λ g. refl; lines = λ f q. refl; marks = λ f. refl; positions = λ q. refl; leagues = refl; cups = λ k. inl refl; entries = stay },
+  record { profile = refl; locked = refl; stand = λ g. refl; lines = λ f q. refl; marks = λ f. refl; there = λ q. refl; positions = λ f q h. refl; leagues = refl; cups = λ k. inl refl; entries = stay },
 )

@@ -1,5 +1,5 @@
 -- A line, a mark or a place that is named and is the same is no difference.
-use Rattle.std.proofs.Common.{◌≡◌, ℕ, inl, ⊎_elim, ap, subst, sym, ◌∙◌}
+use Rattle.std.proofs.Common.{◌≡◌, ℕ, inl, is_some, ⊎_elim, ap, subst, sym, ◌∙◌}
 use Rattle.std.specs.Option.{option_map}
 use Rattle.rule_book.specs.Calendar.{standing, stands_in}
 use Rattle.rule_book.specs.MatchFacts.{is_finished, line_of}
@@ -22,7 +22,8 @@ line_alike b d f p c same = record {
       (λ o. c.others k q o)
       (both_or_other k q f p);
   marks = c.marks;
-  positions = λ q. ap (λ ps. option_map (λ x. x.position) (player_of ps q)) c.players;
+  there = λ q. ap (λ ps. is_some (player_of ps q)) c.players;
+  positions = λ k q h. ap (λ ps. option_map (λ x. x.position) (player_of ps q)) c.players;
   leagues = c.leagues;
   cups = λ k. inl (λ x. bracket_in (c.cups x) k);
   entries = c.entries;
@@ -35,7 +36,8 @@ mark_alike b d f c same = record {
   stand = λ g. ap (λ x. standing x g) c.calendar;
   lines = c.lines;
   marks = λ k. ⊎_elim (λ e. subst (λ x. is_finished b.matches x ≡ is_finished d.matches x) (sym e) same) (λ n. c.marks k n) (same_or_not k f);
-  positions = λ q. ap (λ ps. option_map (λ x. x.position) (player_of ps q)) c.players;
+  there = λ q. ap (λ ps. is_some (player_of ps q)) c.players;
+  positions = λ k q h. ap (λ ps. option_map (λ x. x.position) (player_of ps q)) c.players;
   leagues = c.leagues;
   cups = λ k. inl (λ x. bracket_in (c.cups x) k);
   entries = c.entries;
@@ -55,7 +57,8 @@ place_alike b d f is_b is_d c same =
           (λ k a. there_stands b.calendar.fixtures k g (places k ∙ stands_there d.calendar.fixtures k g is_d.calendar.ids_rise a));
       lines = λ k q. ap (λ m. line_of m k q) c.matches;
       marks = λ k. ap (λ m. is_finished m k) c.matches;
-      positions = λ q. ap (λ ps. option_map (λ x. x.position) (player_of ps q)) c.players;
+      there = λ q. ap (λ ps. is_some (player_of ps q)) c.players;
+      positions = λ k q h. ap (λ ps. option_map (λ x. x.position) (player_of ps q)) c.players;
       leagues = c.leagues;
       cups = λ k. inl (λ x. bracket_in (c.cups x) k);
       entries = c.entries;

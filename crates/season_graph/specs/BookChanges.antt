@@ -1,18 +1,20 @@
 -- What the calls that change the books do to the facts: each leaves a season, which differs from the one before as the
 -- cells can follow it. And when an index stays right.
 use Rattle.std.specs.Prelude.{◌≡◌, ◌<◌, ℕ, ◌+◌, Bool, true, false, List, [], ◌∷◌, ◌++◌, length, Option, Some, None, is_some}
+use Rattle.fpl_base.specs.declared.kinds.Position.{Position}
 use Rattle.rule_book.specs.declared.cup.Bracket.{Bracket}
 use Rattle.rule_book.specs.declared.line.Line.{Line}
 use Rattle.rule_book.specs.declared.player.Player.{Player}
 use Rattle.rule_book.specs.declared.season.Fixture.{Fixture}
-use Rattle.rule_book.specs.Calendar.{CalendarFacts, IsCalendar, after_pass, with_deadline, with_fixture, with_move}
+use Rattle.rule_book.specs.Calendar.{CalendarFacts, IsCalendar, after_pass, with_deadline, with_fixture, with_move, with_opponents}
 use Rattle.rule_book.specs.Entries.{changed_in, entry_in}
 use Rattle.rule_book.specs.Figures.{IsLine}
 use Rattle.rule_book.specs.LeagueCalls.{with_member, with_order}
 use Rattle.rule_book.specs.Leagues.{LeagueFacts}
 use Rattle.rule_book.specs.MatchCalls.{drop_line, put_line, put_sheet, set_finished}
 use Rattle.rule_book.specs.MatchFacts.{Lines, MatchFacts, is_finished, line_in, line_of, players_in}
-use Rattle.rule_book.specs.Players.{player_of, with_club, with_gone, with_player, with_price}
+use Rattle.rule_book.specs.PlayerFigures.{position_in}
+use Rattle.rule_book.specs.Players.{player_of, with_club, with_details, with_gone, with_player, with_price}
 use Rattle.rule_book.specs.Repeats.{first_repeat}
 use Rattle.manager_book.specs.Managers.{Managers}
 use Rattle.rescore_graph.specs.Graph.{Among}
@@ -97,6 +99,11 @@ abbrev pub DeadlineMoves : Type 0
 DeadlineMoves = (b : SeasonFacts) (g t : ℕ) → IsSeason b
     → let d = with_calendar b (with_deadline b.calendar g t) in IsCalendar d.calendar → IsSeason d × AreAlike b d
 
+-- a fixture is between other clubs: no node is touched
+abbrev pub OpponentsChange : Type 0
+OpponentsChange = (b : SeasonFacts) (f home away : ℕ) → IsSeason b
+    → let d = with_calendar b (with_opponents b.calendar f home away) in IsCalendar d.calendar → IsSeason d × AreAlike b d
+
 -- a player has another price, another club, or another mark that he is gone: no node is touched
 abbrev pub PriceChanges : Type 0
 PriceChanges = (b : SeasonFacts) (p price : ℕ) → IsSeason b → let d = with_players b (with_price b.players p price) in IsSeason d × AreAlike b d
@@ -106,6 +113,12 @@ ClubChanges = (b : SeasonFacts) (p club : ℕ) → IsSeason b → let d = with_p
 
 abbrev pub GoneChanges : Type 0
 GoneChanges = (b : SeasonFacts) (p : ℕ) (gone : Bool) → IsSeason b → let d = with_players b (with_gone b.players p gone) in IsSeason d × AreAlike b d
+
+-- a player has another name and another position, and each player with a line his position: no node is touched
+abbrev pub PositionChanges : Type 0
+PositionChanges = (b : SeasonFacts) (p : ℕ) (name : List ℕ) (position : Position) → IsSeason b
+    → ((f : ℕ) → is_some (line_of b.matches f p) ≡ true → position_in b.players p ≡ position)
+    → let d = with_players b (with_details b.players p name position) in IsSeason d × AreAlike b d
 
 -- a manager does something that changes nothing of the locked gameweeks: no node is touched
 abbrev pub ManagersChange : Type 0

@@ -1,5 +1,5 @@
 -- What one change of the facts leaves as it was.
-use Rattle.std.specs.Prelude.{◌≡◌, ◌≢◌, ◌≤◌, ℕ, List, [], Bool, true, false, ◌&&◌, ◌⊎◌, ◌↔◌, nat_le, Some, IsSomeAnd}
+use Rattle.std.specs.Prelude.{◌≡◌, ◌≢◌, ◌≤◌, ℕ, List, [], Bool, true, false, ◌&&◌, ◌⊎◌, ◌↔◌, nat_le, Some, IsSomeAnd, is_some}
 use Rattle.std.specs.Option.{option_map}
 use Rattle.rule_book.specs.Calendar.{standing, stands_in}
 use Rattle.rule_book.specs.Entries.{entry_in}
@@ -150,14 +150,16 @@ module _ (b d : SeasonFacts) where
   abbrev pub IsIdle : ℕ → Type 0
   IsIdle c = (r i : ℕ) → (is_live b (node.Tie c r i) ≡ false) × (is_live d (node.Tie c r i) ≡ false)
 
-  -- they differ in nothing that a node hangs on: a cup is the same, or has no tie yet
+  -- they differ in nothing that a node hangs on: the positions of players who have a line are the same, and a cup is, or has
+  -- no tie yet
   pub record AreAlike : Type 0 where
     pub profile : b.profile ≡ d.profile
     pub locked : b.calendar.locked ≡ d.calendar.locked
     pub stand : (g : ℕ) → standing b.calendar g ≡ standing d.calendar g
     pub lines : (f p : ℕ) → line_of b.matches f p ≡ line_of d.matches f p
     pub marks : (f : ℕ) → is_finished b.matches f ≡ is_finished d.matches f
-    pub positions : (q : ℕ) → option_map (λ x. x.position) (player_of b.players q) ≡ option_map (λ x. x.position) (player_of d.players q)
+    pub there : (q : ℕ) → is_some (player_of b.players q) ≡ is_some (player_of d.players q)
+    pub positions : (f q : ℕ) → is_some (line_of b.matches f q) ≡ true → option_map (λ x. x.position) (player_of b.players q) ≡ option_map (λ x. x.position) (player_of d.players q)
     pub leagues : b.leagues ≡ d.leagues
     pub cups : (c : ℕ) → (bracket_of b c ≡ bracket_of d c) ⊎ IsIdle c
     pub entries : EntriesStay b d

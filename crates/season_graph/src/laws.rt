@@ -1,5 +1,5 @@
 ghost use Rattle.rescore_graph.specs.Graph.{replay};
-ghost use Rattle.season_graph.specs.BookChanges.{CupIsDrawn, LineIsPut, LineIsDropped, MarkIsSet, SheetIsPut, FixtureMoves, FixtureComes, MomentPasses, PlayerComes, DeadlineMoves, PriceChanges, ClubChanges, GoneChanges, ManagersChange, LeagueIsMade, LeagueIsJoined, LeagueIsDrawn, IndexStays};
+ghost use Rattle.season_graph.specs.BookChanges.{CupIsDrawn, LineIsPut, LineIsDropped, MarkIsSet, SheetIsPut, FixtureMoves, FixtureComes, MomentPasses, PlayerComes, PositionChanges, DeadlineMoves, OpponentsChange, PriceChanges, ClubChanges, GoneChanges, ManagersChange, LeagueIsMade, LeagueIsJoined, LeagueIsDrawn, IndexStays};
 ghost use Rattle.season_nodes.specs.BookFacts.{facts_of};
 ghost use Rattle.season_graph.specs.Changes.{SameIsAlike};
 ghost use Rattle.season_graph.specs.Followed.{AlikeFollowed, AlikeMarked};
@@ -51,6 +51,7 @@ pub fn calendar_changes()
     ensures added { FixtureComes }
     ensures passed { MomentPasses }
     ensures deadline { DeadlineMoves }
+    ensures opponents { OpponentsChange }
 {}
 
 /// A law: what the calls of the players leave is a season, which differs in a new player, or in nothing that a node hangs
@@ -60,6 +61,7 @@ pub fn players_change()
     ensures price { PriceChanges }
     ensures club { ClubChanges }
     ensures gone { GoneChanges }
+    ensures position { PositionChanges }
 {}
 
 /// A law: a book of managers in which all locked gameweeks are as they were leaves a season, which differs in nothing that

@@ -22,13 +22,18 @@ use Rattle.season_book.specs.declared.part.Part.{Part}
 use Rattle.season_book.specs.declared.part.Part.TheVariants as part
 use Rattle.season_book.specs.EntryCommands.{deed_refusal, history_after, names_players}
 use Rattle.season_book.specs.Hosts.{caller_with, keys_of}
+use Rattle.season_book.specs.KeyCommands.{NewKey, entries_rekeyed, key_given, rekey_refusal}
 use Rattle.season_book.specs.LeagueCommands.{cup_broken, cup_drawn, cup_made, cup_there, is_issued, is_registered, league_made, league_refusal, leagues_after, leagues_there}
-use Rattle.season_book.specs.Verdict.{Outcome, cup_ruled, cups_ruled, in_season, judged, key_refusal, keyed, leagues_ruled, locked_at, pass, ruled, ruled_by, ruled_for, ruled_in, ruled_of, unless_broken, with_entry, with_history}
+use Rattle.season_book.specs.Commands.{has_player}
+use Rattle.season_book.specs.PlayerCommands.{Amendment, amendment, facts_amended, have_had, position_refusal}
+use Rattle.season_book.specs.Verdict.{Outcome, amend_ruled, amends_ruled, cup_ruled, cups_ruled, in_season, judged, key_refusal, key_ruled, keyed, keys_ruled, leagues_ruled, locked_at, pass, ruled, ruled_by, ruled_for, ruled_in, ruled_of, unless_broken, with_entry, with_history}
 use Rattle.season_book.specs.declared.answer.Answer.{Answer}
 use Rattle.season_book.specs.declared.answer.Answer.TheVariants as answer
-use Rattle.season_isolation.specs.Agree.{Agree, EntriesAlike}
-use Rattle.season_isolation.specs.Isolation.{CommandsAreIsolated, RuledAlike}
-use Rattle.season_isolation.proofs.EntriesFacts.{as_many, by_other_facts, issued_alike, keys_alike, one_goes_on, one_more, own_goes_on, own_of_more, registered_alike}
+use Rattle.std.proofs.lemmas.Option.{same_Some}
+use Rattle.rule_book.specs.UpTo.{AgreeUpTo}
+use Rattle.season_isolation.specs.Agree.{Agree, EntriesAlike, SameWhereLocked}
+use Rattle.season_isolation.specs.Isolation.{CommandsAreIsolated, RuledAlike, SameUse}
+use Rattle.season_isolation.proofs.EntriesFacts.{as_many, by_other_facts, issued_alike, keys_alike, one_goes_on, one_more, one_rekeyed, own_goes_on, own_of_more, own_rekeyed, registered_alike}
 use Rattle.season_isolation.proofs.LockFacts.{locks_again, still_locked}
 
 one_same : (k : ℕ) (x : Last) → at_id ((k, x) ∷ []) k ≡ Some x
@@ -49,7 +54,7 @@ same_key_refusal : (operator key : List ℕ) (entries others : List EntryFacts) 
 same_key_refusal operator key entries others many keys =
     λ i. first_broken (unless (nat_lt (many i) most_entries) rule.EntriesFull ∷ unless (not (is_some (caller_with operator (keys i) key))) rule.KeyThere ∷ [])
 
-module _ (operator : List ℕ) (caller : Caller) (now number : ℕ) (order : Command) (book other : Book) (a : Agree caller now book other) where
+module _ (operator : List ℕ) (caller : Caller) (now number : ℕ) (order : Command) (book other : Book) (a : Agree caller now book other) (use_same : SameUse order book other) where
   abbrev one : Book
   one = pass book now
 
@@ -121,14 +126,17 @@ module _ (operator : List ℕ) (caller : Caller) (now number : ℕ) (order : Com
   keyed_alike (command.Deadline a b) = refl
   keyed_alike (command.Player a b c d e) = refl
   keyed_alike (command.Price a b) = refl
+  keyed_alike (command.AmendPlayer a b c) = refl
   keyed_alike (command.Club a b) = refl
   keyed_alike (command.Gone a b) = refl
   keyed_alike (command.Fixture a b c d e) = refl
   keyed_alike (command.Move a b c) = refl
+  keyed_alike (command.AmendFixture a b c) = refl
   keyed_alike (command.Sheet a b c) = refl
   keyed_alike (command.Line a b c) = refl
   keyed_alike (command.Drop a b) = refl
   keyed_alike (command.Finished a b) = refl
+  keyed_alike (command.Rekey a b c) = refl
   keyed_alike (command.Squad a b c) = refl
   keyed_alike (command.Transfers a) = refl
   keyed_alike (command.Lineup a b c) = refl
@@ -145,6 +153,92 @@ module _ (operator : List ℕ) (caller : Caller) (now number : ℕ) (order : Com
 
   entries_alike : Same (in_season one.facts (λ f. keyed operator one order)) (in_season two.facts (λ f. keyed operator two order))
   entries_alike = subst (λ facts. Same (in_season one.facts (λ f. keyed operator one order)) (in_season facts (λ f. keyed operator two order))) a.facts (keyed_in one.facts)
+
+  -- another key of an entry
+  abbrev rekeyed_in : Book → NewKey → Outcome
+  rekeyed_in b given = record { made = made.Nothing; book = record b { entries = entries_rekeyed b.entries given } }
+
+  abbrev rekeyed_if : Bool → Option Rule → Book → NewKey → Result Outcome Answer
+  rekeyed_if there broken b given = if there then unless_broken broken (rekeyed_in b given) else Err answer.Unknown
+
+  rekeyed_alike : (there : Bool) (broken : Option Rule) (given : NewKey) → Same (rekeyed_if there broken one given) (rekeyed_if there broken two given)
+  rekeyed_alike false broken given = refl
+  rekeyed_alike true (Some broken) given = refl
+  rekeyed_alike true None given = accepted_alike (rekeyed_in one given) (rekeyed_in two given) refl (record {
+    facts = a.facts;
+    leagues = a.leagues;
+    cups = a.cups;
+    entries = entries_again (rekeyed_in one given).book.entries (rekeyed_in two given).book.entries (one_rekeyed one.facts given one.entries two.entries a.entries);
+    own = own_rekeyed one.facts given one.entries two.entries a.entries own a.own;
+  })
+
+  given_alike : (given : NewKey) → Same (key_ruled operator one given) (key_ruled operator two given)
+  given_alike given =
+      let issued : is_issued one.entries given.entry ≡ is_issued two.entries given.entry = issued_alike one.facts one.entries two.entries a.entries given.entry in
+      let keys : keys_of one.entries ≡ keys_of two.entries = keys_alike one.facts one.entries two.entries a.entries in
+      subst (λ also. Same (key_ruled operator one given) also)
+      (λ i. rekeyed_if (issued i) (rekey_refusal operator (keys i) given.entry given.key) two given)
+      (rekeyed_alike (is_issued one.entries given.entry) (rekey_refusal operator (keys_of one.entries) given.entry given.key) given)
+
+  given_by : (given : Option NewKey) → Same (option_map_or (key_ruled operator one) given (Err answer.Unknown)) (option_map_or (key_ruled operator two) given (Err answer.Unknown))
+  given_by None = refl
+  given_by (Some given) = given_alike given
+
+  keys_by : (facts : Option Facts) → Same (in_season facts (λ f. keys_ruled operator one order)) (in_season facts (λ f. keys_ruled operator two order))
+  keys_by None = refl
+  keys_by (Some facts) = given_by (key_given order)
+
+  keys_ruled_alike : Same (in_season one.facts (λ f. keys_ruled operator one order)) (in_season two.facts (λ f. keys_ruled operator two order))
+  keys_ruled_alike = subst (λ facts. Same (in_season one.facts (λ f. keys_ruled operator one order)) (in_season facts (λ f. keys_ruled operator two order))) a.facts (keys_by one.facts)
+
+  -- another name and position of a player
+  abbrev amended_in : Book → Facts → Amendment → Outcome
+  amended_in b facts given = record { made = made.Nothing; book = record b { facts = Some (facts_amended facts given) } }
+
+  abbrev amended_if : Bool → Option Rule → Book → Facts → Amendment → Result Outcome Answer
+  amended_if there broken b facts given = if there then unless_broken broken (amended_in b facts given) else Err answer.Unknown
+
+  -- the facts behind it lock no further gameweek
+  amended_locked : (some : Option Facts) (facts : Facts) (given : Amendment) → option_map (locked_at now) some ≡ Some facts → (h h2 : List Event) → SameWhereLocked (Some facts) h h2
+      → SameWhereLocked (option_map (locked_at now) (Some (facts_amended facts given))) h h2
+  amended_locked None facts given is h h2 same = cc
+  amended_locked (Some before) facts given is h h2 same =
+      let again : locked_at now facts ≡ facts = same_Some (locked_at now facts) facts (ap (option_map (locked_at now)) (sym is) ∙ locks_again now (Some before) ∙ is) in
+      subst (λ k. AgreeUpTo k h h2) (sym (ap (λ (f : Facts). f.calendar.locked) again)) same
+
+  amended_alike : (facts : Facts) → one.facts ≡ Some facts → (there : Bool) (broken : Option Rule) (given : Amendment) → Same (amended_if there broken one facts given) (amended_if there broken two facts given)
+  amended_alike facts is false broken given = refl
+  amended_alike facts is true (Some broken) given = refl
+  amended_alike facts is true None given = accepted_alike (amended_in one facts given) (amended_in two facts given) refl (record {
+    facts = refl;
+    leagues = a.leagues;
+    cups = a.cups;
+    entries = by_other_facts (Some facts) (option_map (locked_at now) (Some (facts_amended facts given))) (amended_locked book.facts facts given is) one.entries two.entries
+        (subst (λ f. EntriesAlike f one.entries two.entries) is a.entries);
+    own = a.own;
+  })
+
+  amend_alike : (facts : Facts) → one.facts ≡ Some facts → (given : Amendment) → amendment order ≡ Some given → Same (amend_ruled one facts given) (amend_ruled two facts given)
+  amend_alike facts is given orders =
+      subst (λ had. Same (amend_ruled one facts given) (amended_if (has_player facts given.player) (position_refusal facts had given) two facts given)) (asked order use_same given orders)
+      (amended_alike facts is (has_player facts given.player) (position_refusal facts (have_had one.entries given.player) given) given)
+    where
+      asked : (c : Command) → SameUse c book other → (given : Amendment) → amendment c ≡ Some given → have_had one.entries given.player ≡ have_had two.entries given.player
+      asked (command.AmendPlayer p name position) same given orders =
+          subst (λ (g : Amendment). have_had one.entries g.player ≡ have_had two.entries g.player) (same_Some (record { player = p; name = name; position = position }) given orders) same
+      asked c same given orders = cc
+
+  amends_of : (facts : Facts) → one.facts ≡ Some facts → (given : Option Amendment) → amendment order ≡ given
+      → Same (option_map_or (amend_ruled one facts) given (Err answer.Unknown)) (option_map_or (amend_ruled two facts) given (Err answer.Unknown))
+  amends_of facts is None orders = refl
+  amends_of facts is (Some given) orders = amend_alike facts is given orders
+
+  amends_by : (facts : Option Facts) → one.facts ≡ facts → Same (in_season facts (λ f. amends_ruled one f order)) (in_season facts (λ f. amends_ruled two f order))
+  amends_by None is = refl
+  amends_by (Some facts) is = amends_of facts is (amendment order) refl
+
+  amends_alike : Same (in_season one.facts (λ f. amends_ruled one f order)) (in_season two.facts (λ f. amends_ruled two f order))
+  amends_alike = subst (λ facts. Same (in_season one.facts (λ f. amends_ruled one f order)) (in_season facts (λ f. amends_ruled two f order))) a.facts (amends_by one.facts refl)
 
   -- what the caller does
   abbrev done_in : Book → List Event → Outcome
@@ -247,7 +341,9 @@ module _ (operator : List ℕ) (caller : Caller) (now number : ℕ) (order : Com
 
   in_part : (p : Part) → Same (ruled_in p operator one caller now order) (ruled_in p operator two caller now order)
   in_part part.Facts = facts_alike
+  in_part part.Players = amends_alike
   in_part part.Entries = entries_alike
+  in_part part.Keys = keys_ruled_alike
   in_part part.Deeds = deeds_alike
   in_part part.Leagues = leagues_alike
   in_part part.Cups = cups_alike
@@ -256,4 +352,4 @@ module _ (operator : List ℕ) (caller : Caller) (now number : ℕ) (order : Com
   ruled_alike = in_part (part_of order)
 
 pub commands_are_isolated : CommandsAreIsolated
-commands_are_isolated operator caller now number order book other a = ruled_alike operator caller now number order book other a
+commands_are_isolated operator caller now number order book other a use_same = ruled_alike operator caller now number order book other a use_same

@@ -3,12 +3,13 @@ use Rattle.std.proofs.Common.{◌≡◌, ◌-◌, ℕ, zero, suc, false, nat_eq,
 use Rattle.std.specs.Prelude.{is_some, slice_get, ⊤}
 use Rattle.std.specs.Option.{option_map, option_map_or}
 use Rattle.std.proofs.lemmas.Bool.Decides.{nat_tests}
-use Rattle.rule_book.specs.Entries.{entry_in}
+use Rattle.rule_book.specs.Entries.{changed_in, entry_in}
 use Rattle.rule_book.specs.History.{Event}
 use Rattle.rule_book.specs.HistoryRules.{is_started}
 use Rattle.rule_book.specs.UpTo.{start_of}
 use Rattle.season_book.specs.Book.{EntryFacts, Facts, histories_with}
 use Rattle.season_book.specs.Hosts.{keys_of}
+use Rattle.season_book.specs.KeyCommands.{NewKey, entries_rekeyed, with_key}
 use Rattle.season_book.specs.LeagueCommands.{is_issued, is_registered}
 use Rattle.season_isolation.specs.Agree.{EntriesAlike, EntryAlike, SameWhereLocked}
 
@@ -114,6 +115,38 @@ module _ (facts : Option Facts) (new : EntryFacts) where
       at_number (entries ++ new ∷ []) n
       ∙ at_place entries others a n (sym (at_number entries n) ∙ same ∙ at_number others n)
       ∙ sym (at_number (others ++ new ∷ []) n)
+
+-- with another key and name of one entry
+module _ (facts : Option Facts) (given : NewKey) where
+  changed_alike : (entries others : List EntryFacts) → EntriesAlike facts entries others → (e : ℕ) → EntriesAlike facts (changed_in (with_key given) entries e) (changed_in (with_key given) others e)
+  changed_alike [] [] a e = tt
+  changed_alike [] (other ∷ others) a e = absurd a
+  changed_alike (entry ∷ entries) [] a e = absurd a
+  changed_alike (entry ∷ entries) (other ∷ others) a zero = a
+  changed_alike (entry ∷ entries) (other ∷ others) (one, more) (suc zero) = (record { key = refl; name = refl; start = one.start; locked = one.locked }, more)
+  changed_alike (entry ∷ entries) (other ∷ others) (one, more) (suc (suc e)) = (one, changed_alike entries others more (suc e))
+
+  pub one_rekeyed : (entries others : List EntryFacts) → EntriesAlike facts entries others → EntriesAlike facts (entries_rekeyed entries given) (entries_rekeyed others given)
+  one_rekeyed entries others a = changed_alike entries others a given.entry
+
+  at_changed : (entries others : List EntryFacts) → EntriesAlike facts entries others → (e n : ℕ) → slice_get entries n ≡ slice_get others n
+      → slice_get (changed_in (with_key given) entries e) n ≡ slice_get (changed_in (with_key given) others e) n
+  at_changed [] [] a e n same = refl
+  at_changed [] (other ∷ others) a e n same = absurd a
+  at_changed (entry ∷ entries) [] a e n same = absurd a
+  at_changed (entry ∷ entries) (other ∷ others) a zero n same = same
+  at_changed (entry ∷ entries) (other ∷ others) a (suc zero) zero same = ap (option_map (with_key given)) same
+  at_changed (entry ∷ entries) (other ∷ others) a (suc zero) (suc n) same = same
+  at_changed (entry ∷ entries) (other ∷ others) a (suc (suc e)) zero same = same
+  at_changed (entry ∷ entries) (other ∷ others) (one, more) (suc (suc e)) (suc n) same = at_changed entries others more (suc e) n same
+
+  pub own_rekeyed : (entries others : List EntryFacts) → EntriesAlike facts entries others → (n : ℕ) → entry_in entries n ≡ entry_in others n
+      → entry_in (entries_rekeyed entries given) n ≡ entry_in (entries_rekeyed others given) n
+  own_rekeyed entries others a zero same = refl
+  own_rekeyed entries others a (suc n) same =
+      at_number (entries_rekeyed entries given) n
+      ∙ at_changed entries others a given.entry n (sym (at_number entries n) ∙ same ∙ at_number others n)
+      ∙ sym (at_number (entries_rekeyed others given) n)
 
 -- with this history of one entry
 module _ (facts : Option Facts) (h : List Event) where

@@ -11,7 +11,7 @@ use Rattle.season_book.specs.declared.answer.Answer.TheVariants as answer
 use Rattle.season_book.specs.declared.request.Request.{Request}
 use Rattle.season_book.specs.declared.request.Request.TheVariants as request
 use Rattle.season_isolation.specs.Agree.{Agree, Alike}
-use Rattle.season_isolation.specs.Isolation.{AnswersAreIsolated, IsToldAlike, RepliesAreIsolated, RuledAlike}
+use Rattle.season_isolation.specs.Isolation.{AnswersAreIsolated, IsToldAlike, RepliesAreIsolated, RuledAlike, SameUse, SameUseOf}
 use Rattle.season_isolation.proofs.CommandFacts.{commands_are_isolated}
 use Rattle.season_isolation.proofs.LockFacts.{locks_again}
 use Rattle.season_isolation.proofs.ViewFacts.{views_are_isolated}
@@ -48,15 +48,15 @@ module _ (operator : List ℕ) (caller : Caller) (now : ℕ) (book other : Book)
   numbered_alike (Some broken) verdict told same = (refl, agree_again)
   numbered_alike None verdict told same = same
 
-  fresh_alike : (number : ℕ) (command : Command) → AreAlike (fresh_verdict operator one caller now number command) (fresh_verdict operator two caller now number command)
-  fresh_alike number command =
+  fresh_alike : (number : ℕ) (command : Command) → SameUse command book other → AreAlike (fresh_verdict operator one caller now number command) (fresh_verdict operator two caller now number command)
+  fresh_alike number command use_same =
       let due = ruled operator one caller now command in
       let also = ruled operator two caller now command in
       let verdict = settled one caller number command due in
       let told = settled two caller number command also in
       subst (λ n. AreAlike (unless_misnumbered (number_refusal (last_number one caller) number) one verdict) (unless_misnumbered (number_refusal n number) two told)) (number_alike caller one two a)
       (numbered_alike (number_refusal (last_number one caller) number) verdict told
-      (settled_alike number command due also (commands_are_isolated operator caller now number command book other a)))
+      (settled_alike number command due also (commands_are_isolated operator caller now number command book other a use_same)))
 
   -- a verdict that is this one is told alike
   told_alike : (asked : Request) (verdict due told : Verdict) → verdict ≡ due → AreAlike due told → IsVerdictIn operator two caller now asked told
@@ -70,20 +70,20 @@ module _ (operator : List ℕ) (caller : Caller) (now : ℕ) (book other : Book)
     },
   )
 
-  pub verdict_alike : (asked : Request) (verdict : Verdict) → IsVerdictIn operator one caller now asked verdict
+  pub verdict_alike : (asked : Request) (verdict : Verdict) → SameUseOf asked book other → IsVerdictIn operator one caller now asked verdict
       → (told : Verdict) × IsToldAlike operator caller now asked other verdict told
-  verdict_alike (request.View view) verdict is =
+  verdict_alike (request.View view) verdict use_same is =
       told_alike (request.View view) verdict (record { answer = view_answer one caller view; book = one }) (record { answer = view_answer two caller view; book = two })
       is (views_are_isolated caller now book other view a, agree_again) refl
-  verdict_alike (request.Command number command) verdict (inl (made, again, is)) =
+  verdict_alike (request.Command number command) verdict use_same (inl (made, again, is)) =
       told_alike (request.Command number command) verdict (record { answer = answer.Done number made; book = one }) (record { answer = answer.Done number made; book = two })
       is (refl, agree_again) (inl (made, sym a.last ∙ again, refl))
-  verdict_alike (request.Command number command) verdict (inr (fresh, is)) =
+  verdict_alike (request.Command number command) verdict use_same (inr (fresh, is)) =
       told_alike (request.Command number command) verdict (fresh_verdict operator one caller now number command) (fresh_verdict operator two caller now number command)
-      is (fresh_alike number command) (inr (λ made again. fresh made (a.last ∙ again), refl))
+      is (fresh_alike number command use_same) (inr (λ made again. fresh made (a.last ∙ again), refl))
 
 pub replies_are_isolated : RepliesAreIsolated
-replies_are_isolated operator caller now asked book other verdict a is = verdict_alike operator caller now book other a asked verdict is
+replies_are_isolated operator caller now asked book other verdict a use_same is = verdict_alike operator caller now book other a asked verdict use_same is
 
 -- with the answer of a verdict, another verdict is one with it
 with_answer : (operator : List ℕ) (caller : Caller) (now : ℕ) (asked : Request) (other : Book) (reply : Answer) (after : Book)
@@ -96,6 +96,6 @@ with_answer operator caller now asked other reply after (told, alike) = (
 
 pub answers_are_isolated : AnswersAreIsolated
 answers_are_isolated operator failures book caller now asked reply after (inl is) memory keeper =
-    λ other a. with_answer operator caller now asked other reply after (replies_are_isolated operator caller now asked book other (record { answer = reply; book = after }) a is)
+    λ other a use_same. with_answer operator caller now asked other reply after (replies_are_isolated operator caller now asked book other (record { answer = reply; book = after }) a use_same is)
 answers_are_isolated operator failures book caller now asked reply after (inr (inl is, left)) memory keeper = absurd (memory is)
 answers_are_isolated operator failures book caller now asked reply after (inr (inr (is, rose), left)) memory keeper = absurd (keeper is)

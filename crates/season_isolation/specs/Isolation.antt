@@ -4,8 +4,10 @@ use Rattle.fpl_base.specs.declared.kinds.Caller.{Caller}
 use Rattle.season_book.specs.Book.{Book, caller_number}
 use Rattle.season_book.specs.Commands.{part_of}
 use Rattle.season_book.specs.declared.command.Command.{Command}
+use Rattle.season_book.specs.declared.command.Command.TheVariants as command
 use Rattle.season_book.specs.declared.part.Part.TheVariants as part
 use Rattle.season_book.specs.LeagueCommands.{is_registered}
+use Rattle.season_book.specs.PlayerCommands.{have_had}
 use Rattle.season_book.specs.Verdict.{Failures, IsVerdict, MayAnswer, Outcome, Verdict, accepted, pass, ruled, view_answer}
 use Rattle.season_book.specs.declared.answer.Answer.{Answer}
 use Rattle.season_book.specs.declared.answer.Answer.TheVariants as answer
@@ -13,6 +15,17 @@ use Rattle.season_book.specs.declared.request.Request.{Request}
 use Rattle.season_book.specs.declared.request.Request.TheVariants as request
 use Rattle.season_book.specs.declared.request.View.{View}
 use Rattle.season_isolation.specs.Agree.{Agree}
+
+-- two books say the same of what a command asks of all entries: a change of a player's position asks whether one of them
+-- has had him, and no other command asks anything
+abbrev pub SameUse : Command → Book → Book → Type 0
+SameUse (command.AmendPlayer p name position) book other = have_had book.entries p ≡ have_had other.entries p
+SameUse command book other = ⊤
+
+-- what a request asks
+abbrev pub SameUseOf : Request → Book → Book → Type 0
+SameUseOf (request.View view) book other = ⊤
+SameUseOf (request.Command number command) book other = SameUse command book other
 
 -- every view shows a caller the same of two books that are the same to him
 abbrev pub ViewsAreIsolated : Type 0
@@ -29,10 +42,11 @@ RuledAlike caller now number command (Ok outcome) (Ok other) =
 RuledAlike caller now number command (Err refused) (Ok other) = ⊥
 RuledAlike caller now number command (Ok outcome) (Err refused) = ⊥
 
--- every command of a caller, under any number, leads two books that are the same to him to the same
+-- every command of a caller, under any number, leads two books that are the same to him to the same, where they say the
+-- same of what it asks of all entries
 abbrev pub CommandsAreIsolated : Type 0
 CommandsAreIsolated = (operator : List ℕ) (caller : Caller) (now number : ℕ) (command : Command) (book other : Book)
-    → Agree caller now book other
+    → Agree caller now book other → SameUse command book other
     → RuledAlike caller now number command
     (ruled operator (pass book now) caller now command)
     (ruled operator (pass other now) caller now command)
@@ -43,16 +57,17 @@ pub record IsToldAlike (operator : List ℕ) (caller : Caller) (now : ℕ) (aske
   pub answer : verdict.answer ≡ told.answer
   pub agree : Agree caller now verdict.book told.book
 
--- every verdict on a request of a caller is told alike in every other book that is the same to him
+-- every verdict on a request of a caller is told alike in every other book that is the same to him, and says the same of what
+-- it asks of all entries
 abbrev pub RepliesAreIsolated : Type 0
 RepliesAreIsolated = (operator : List ℕ) (caller : Caller) (now : ℕ) (asked : Request) (book other : Book) (verdict : Verdict)
-    → Agree caller now book other → IsVerdict operator book caller now asked verdict
+    → Agree caller now book other → SameUseOf asked book other → IsVerdict operator book caller now asked verdict
     → (told : Verdict) × IsToldAlike operator caller now asked other verdict told
 
--- an answer that a caller is told of a book is a verdict's in every other book that is the same to him
+-- an answer that a caller is told of a book is a verdict's in every other such book
 abbrev pub ToldAlike : List ℕ → Book → Caller → ℕ → Request → Answer → Type 0
 ToldAlike operator book caller now asked reply =
-    (other : Book) → Agree caller now book other
+    (other : Book) → Agree caller now book other → SameUseOf asked book other
     → (after : Book) × IsVerdict operator other caller now asked (record { answer = reply; book = after })
 
 -- whatever may be answered is told alike, but want of memory and a keeper that failed

@@ -1,13 +1,13 @@
 -- The reads of a request behind a moment that locks nothing, and what a moment that locks gameweeks evaluates.
-use Rattle.std.proofs.Common.{◌≡◌, ◌∙◌, ◌≤◌, ◌+◌, ◌*◌, ℕ, List, Option, subst, sym}
+use Rattle.std.proofs.Common.{◌≡◌, ◌∙◌, ◌≤◌, ◌+◌, ◌*◌, ℕ, List, Option, ap, subst, sym}
 use Rattle.fpl_base.specs.declared.kinds.Caller.{Caller}
 use Rattle.season_book.specs.Book.{Book}
 use Rattle.season_book.specs.declared.request.Request.{Request}
 use Rattle.season_book.specs.declared.request.Request.TheVariants as request
 use Rattle.season_cells.specs.Kept.{CellRows}
 use Rattle.season_host.specs.Cells.{AreCorrected, IsCheapCommand, IsCheapNow, lines_in, running_in}
-use Rattle.season_running.specs.Standing.{HostRows, Running}
-use Rattle.season_keeping.specs.Answering.{CountsFew, IsCheapRequest, LeavesAll, MayRest, WouldAct}
+use Rattle.season_running.specs.Standing.{HostRows, Running, passed}
+use Rattle.season_keeping.specs.Answering.{CountsFew, IsCheapRequest, LeavesAll, MayRest, PassesAlone, WouldAct}
 use Rattle.season_keeping.specs.Housed.{Housed}
 
 -- a request that was cheap in the season that runs behind the moment was cheap in the one before, which is the same
@@ -32,6 +32,17 @@ pub leaves_from : (K : Type 0) (asked : Request) (first before after : K) (old m
     → LeavesAll asked before after mid new → LeavesAll asked first after old new
 leaves_from K (request.Command number command) first before after old mid new host keeper leaves = tt
 leaves_from K (request.View view) first before after old mid new host keeper leaves = (leaves.0 ∙ host, leaves.1 ∙ keeper)
+
+-- a view that left all as it was behind the moment left the rows with the moment's locks
+pub passes_from : (K : Type 0) (asked : Request) (now : ℕ) (before after : K) (old : HostRows) (mid new : Housed) → mid.rows ≡ passed now old
+    → LeavesAll asked before after mid new → PassesAlone asked now old new.rows
+passes_from K (request.Command number command) now before after old mid new rows leaves = tt
+passes_from K (request.View view) now before after old mid new rows leaves = ap (λ (h : Housed). h.rows) leaves.0 ∙ rows
+
+-- and so did one for which the locks went no further
+pub passes_as : (asked : Request) (now : ℕ) (old new : HostRows) → new ≡ passed now old → PassesAlone asked now old new
+passes_as (request.Command number command) now old new rows = tt
+passes_as (request.View view) now old new rows = rows
 
 -- what a moment corrected and counted, by the rows and the cells that a host shows
 module _ (inside old : Housed) (mid new : HostRows) where

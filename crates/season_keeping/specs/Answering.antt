@@ -19,7 +19,7 @@ use Rattle.season_rows.specs.RowsTold.{told_by}
 use Rattle.season_host.specs.Accepted.{TellItemsBy}
 use Rattle.season_cells.specs.Kept.{CellRows}
 use Rattle.season_host.specs.Cells.{AreCorrected, IsCheapCommand, IsCheapNow, running_in}
-use Rattle.season_running.specs.Standing.{HostRows, StandsIn}
+use Rattle.season_running.specs.Standing.{HostRows, StandsIn, passed}
 use Rattle.season_views.specs.Reads.{view_reads}
 use Rattle.season_opening.specs.Opening.{IsKeepable}
 use Rattle.season_keeping.specs.Housed.{Backs, Housed}
@@ -48,6 +48,11 @@ pub record LeadsOn {K : Type 0} (tells serves : K → Type 0) (holds passes : K 
 abbrev pub LeavesAll : {K : Type 0} → Request → K → K → Housed → Housed → Type 0
 LeavesAll (request_of.View view) before after old new = (new ≡ old) × (after ≡ before)
 LeavesAll (request_of.Command number command) before after old new = ⊤
+
+-- a view leaves the rows with the moment's locks, whatever is answered; nothing is said of a command
+abbrev pub PassesAlone : Request → ℕ → HostRows → HostRows → Type 0
+PassesAlone (request_of.View view) now old new = new ≡ passed now old
+PassesAlone (request_of.Command number command) now old new = ⊤
 
 -- of each book that the host stood for
 abbrev pub Answers : {K : Type 0} → (K → Type 0) → (K → Type 0) → (K → Map → Type 0) → (K → Map → Type 0) → K → K → Housed → Housed → (Book → Book → Type 0) → Type 0

@@ -15,7 +15,7 @@ ghost use Rattle.season_running.specs.Standing.{StandsIn, keys_in, number_at, pa
 ghost use Rattle.season_opening.specs.declared.loading.OpenFault.TheVariants as fault;
 ghost use Rattle.season_host.specs.Accepted.{locks_more};
 ghost use Rattle.season_host.specs.Cells.{AreCellsOfHost, AreCorrected, IsCheapCommand, IsCheapNow, running_in};
-ghost use Rattle.season_keeping.specs.Answering.{Answers, AreCorrectedBoth, Commits, CountsFew, EndsCommit, IsCaused, IsCheapRequest, LeavesAll, MayEnd, MayRest, ReadsFew, StopsEnding, StopsKeep, StopsLeave, StopsCommit, WouldAct, WouldChange, answer_of_fault};
+ghost use Rattle.season_keeping.specs.Answering.{Answers, AreCorrectedBoth, Commits, CountsFew, EndsCommit, IsCaused, IsCheapRequest, LeavesAll, MayEnd, MayRest, PassesAlone, ReadsFew, StopsEnding, StopsKeep, StopsLeave, StopsCommit, WouldAct, WouldChange, answer_of_fault};
 ghost use Rattle.season_keeping.specs.Housed.{Backs};
 ghost use Rattle.season_keeping.specs.Opening.{HoldsOn, Opens, Withholds};
 
@@ -219,6 +219,7 @@ impl Host {
             → ReadsFew (pass book now) caller request.now steps.old steps.new }
         ensures looks { locks_more self.old.rows.facts now ≡ false
             → LeavesAll request.now keeper.old keeper.new self.old self.new }
+        ensures passes { PassesAlone request.now now self.old.rows self.new.rows }
         ensures changes { result ≡ answer_of.Keeper → (book : Book) → StandsIn self.old.rows book
             → WouldChange self.old.rows.operator book caller now request.now }
         ensures stale { self.new.stale ≡ true

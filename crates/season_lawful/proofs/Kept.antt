@@ -1,5 +1,5 @@
 -- Moments and verdicts lead from lawful books to lawful ones, and so do runs.
-use Rattle.std.proofs.Common.{◌≡◌, ℕ, Bool, true, false, List, [], ◌∷◌, ◌++◌, Option, Some, None, length, refl, sym, ap, subst, ◌∙◌, inl, inr, if◌then◌else◌}
+use Rattle.std.proofs.Common.{◌≡◌, ◌⊎◌, ◌-◌, ℕ, zero, suc, slice_get, Bool, true, false, List, [], ◌∷◌, ◌++◌, Option, Some, None, length, refl, sym, ap, subst, ◌∙◌, inl, inr, if◌then◌else◌}
 use Rattle.std.specs.Prelude.{Result, Ok, Err, is_some}
 use Rattle.std.specs.Option.{option_map, option_map_or}
 use Rattle.std.proofs.lemmas.Bool.{cases_eq}
@@ -8,19 +8,25 @@ use Rattle.fpl_base.specs.declared.kinds.Caller.{Caller}
 use Rattle.fpl_base.specs.declared.rule.Rule.{Rule}
 use Rattle.fpl_base.specs.declared.rule.Rule.TheVariants as rule
 use Rattle.rule_book.specs.declared.cup.Bracket.{Bracket}
+use Rattle.rule_book.specs.Batch.{is_same_position}
 use Rattle.rule_book.specs.Calendar.{deadlines_order}
 use Rattle.rule_book.specs.Entries.{entry_in}
 use Rattle.rule_book.specs.History.{Event}
 use Rattle.rule_book.specs.HistoryRules.{IsHistory, NoneAfter}
+use Rattle.rule_book.specs.PlayerFigures.{position_in}
+use Rattle.rule_book.specs.Uses.{has_had, has_lines}
 use Rattle.rule_book.proofs.AtId.{one_same, placed_same}
+use Rattle.rule_book.proofs.HadFacts.{neither}
 use Rattle.season_book.specs.Book.{Book, EntryFacts, Facts, Last, caller_number, histories_with, last_number}
-use Rattle.season_book.specs.Commands.{IsCommand, are_there, begun_by, changed_by, part_of, refusal_of}
+use Rattle.season_book.specs.Commands.{IsCommand, are_there, begun_by, changed_by, has_player, part_of, refusal_of}
 use Rattle.season_book.specs.Doing.{IsGranted}
 use Rattle.season_book.specs.EntryCommands.{deed_refusal, history_after, names_players}
 use Rattle.season_book.specs.EntryViews.{gameweek_seen}
-use Rattle.season_book.specs.Hosts.{IsRequest}
+use Rattle.season_book.specs.Hosts.{IsRequest, keys_of}
+use Rattle.season_book.specs.KeyCommands.{NewKey, entries_rekeyed, key_given, rekey_refusal, with_key}
 use Rattle.season_book.specs.LeagueCommands.{cup_broken, cup_drawn, cup_made, cup_there, is_issued, is_registered, league_made, league_refusal, leagues_after, leagues_there}
-use Rattle.season_book.specs.Verdict.{Failures, IsVerdictIn, MayAnswer, MayBeLeft, Outcome, Verdict, begun, cup_ruled, in_season, judged, key_refusal, keyed, leagues_ruled, locked_at, number_refusal, pass, ruled, ruled_by, ruled_in, ruled_of, settled, unless_broken, unless_misnumbered, unless_refused, with_entry, with_history}
+use Rattle.season_book.specs.PlayerCommands.{Amendment, amendment, facts_amended, have_had, position_refusal}
+use Rattle.season_book.specs.Verdict.{Failures, IsVerdictIn, MayAnswer, MayBeLeft, Outcome, Verdict, amend_ruled, amends_ruled, begun, cup_ruled, in_season, judged, key_refusal, key_ruled, keyed, keys_ruled, leagues_ruled, locked_at, number_refusal, pass, ruled, ruled_by, ruled_in, ruled_of, settled, unless_broken, unless_misnumbered, unless_refused, with_entry, with_history}
 use Rattle.season_book.specs.declared.answer.Answer.{Answer}
 use Rattle.season_book.specs.declared.answer.Answer.TheVariants as answer
 use Rattle.season_book.specs.declared.command.Command.{Command}
@@ -39,14 +45,17 @@ use Rattle.season_records.specs.Touched.{gameweek_of}
 use Rattle.season_records.proofs.BookOrder.{moments_keep_order}
 use Rattle.season_records.proofs.Deeds.{entry_kept, one_here}
 use Rattle.season_records.proofs.Early.{moments_are_early}
-use Rattle.season_records.proofs.Finds.{more_from, none_in}
+use Rattle.season_records.proofs.Finds.{changed_from, more_from, none_in}
+use Rattle.season_entries.proofs.Amended.{no_use, one_position}
+use Rattle.season_entries.proofs.Books.{slice_there}
 use Rattle.season_opening.specs.Opening.{IsKeepable}
 use Rattle.lawful_entries.specs.Histories.{IsLawfulHistory}
 use Rattle.lawful_entries.specs.Keeping.{IsTyped}
+use Rattle.lawful_entries.proofs.Amended.{amendments_keep_histories}
 use Rattle.lawful_entries.proofs.Deeds.{deeds_keep_histories}
 use Rattle.lawful_entries.proofs.Stay.{changes_keep_histories, empty_is_lawful, moments_keep_histories}
 use Rattle.lawful_facts.specs.Facts as facts_of
-use Rattle.lawful_facts.proofs.Keeping.{granted_are_lawful}
+use Rattle.lawful_facts.proofs.Keeping.{amendments_are_lawful, granted_are_lawful}
 use Rattle.lawful_facts.proofs.SeasonKept.{moments_are_lawful, new_seasons_are_lawful}
 use Rattle.lawful_leagues.specs.Keeping.{IsCaller}
 use Rattle.lawful_leagues.proofs.BookKept.{empty_is_lawful as leagues_empty, moments_keep_laws, verdicts_keep_laws as leagues_keep_laws}
@@ -182,6 +191,46 @@ module _ (book : Book) (order : IsInOrder book) (early : AreEarly book) (lawful 
       ]))
   keyed_kept operator command = tt
 
+  -- another key of an entry
+  rekeyed_kept : (operator : List ℕ) (given : Option NewKey) → StaysKept (option_map_or (key_ruled operator book) given (Err answer.Unknown))
+  rekeyed_kept operator None = tt
+  rekeyed_kept operator (Some given) =
+      there_kept (record { made = made.Nothing; book = record book { entries = entries_rekeyed book.entries given } })
+      (is_issued book.entries given.entry) (rekey_refusal operator (keys_of book.entries) given.entry given.key) (λ there unbroken.
+      with_entries (entries_rekeyed book.entries given) (λ facts is e entry at.
+      let from = changed_from (with_key given) book.entries given.entry e entry at in
+      let own = lawful.histories facts is e from.0 from.1 in
+      elim from.2 [
+        | inl old ↦ subst (λ (entry : EntryFacts). IsLawfulHistory facts entry.history) (sym old) own
+        | inr new ↦ subst (λ (entry : EntryFacts). IsLawfulHistory facts entry.history) (sym new) own
+      ]))
+
+  -- another name and another position of a player
+  amended_kept : (facts : Facts) (given : Option Amendment) → book.facts ≡ Some facts → StaysKept (option_map_or (amend_ruled book facts) given (Err answer.Unknown))
+  amended_kept facts None is = tt
+  amended_kept facts (Some given) is =
+      there_kept (record { made = made.Nothing; book = record book { facts = Some (facts_amended facts given) } })
+      (has_player facts given.player) (position_refusal facts (have_had book.entries given.player) given) (λ there unbroken.
+      with_facts (facts_amended facts given) (amendments_are_lawful facts given (lawful.facts facts is))
+      (λ e entry at. amendments_keep_histories facts given entry.history (history facts e entry is at) (apart e entry at unbroken) (lawful.histories facts is e entry at)))
+    where
+      none_had : (entries : List EntryFacts) (i : ℕ) (entry : EntryFacts) → have_had entries given.player ≡ false → slice_get entries i ≡ Some entry → has_had entry.history given.player ≡ false
+      none_had [] i entry none at = absurd (none-some entry at)
+      none_had (x ∷ entries) zero entry none at =
+          subst (λ (x : EntryFacts). has_had x.history given.player ≡ false) (same_Some x entry at) (neither (has_had x.history given.player) (have_had entries given.player) none).0
+      none_had (x ∷ entries) (suc i) entry none at = none_had entries i entry (neither (has_had x.history given.player) (have_had entries given.player) none).1 at
+
+      apart : (e : ℕ) (entry : EntryFacts) → entry_in book.entries e ≡ Some entry → position_refusal facts (have_had book.entries given.player) given ≡ None
+          → (position_in facts.players given.player ≡ given.position) ⊎ (has_had entry.history given.player ≡ false)
+      apart e entry at unbroken = by_position (is_same_position (position_in facts.players given.player) given.position) refl
+        where
+          by_position : (b : Bool) → is_same_position (position_in facts.players given.player) given.position ≡ b
+              → (position_in facts.players given.player ≡ given.position) ⊎ (has_had entry.history given.player ≡ false)
+          by_position true same = inl (one_position (position_in facts.players given.player) given.position same)
+          by_position false other =
+              let unused = no_use facts given.player given.position (have_had book.entries given.player) other unbroken in
+              inr (none_had book.entries (e - 1) entry (neither (have_had book.entries given.player) (has_lines facts.matches given.player) unused).0 (slice_there book.entries e entry at))
+
   -- what a manager does
   history_kept : (facts : Facts) (e : ℕ) (entry : EntryFacts) (after : List Event) → book.facts ≡ Some facts → entry_in book.entries e ≡ Some entry
       → IsLawfulHistory facts after → AreKept (with_history book e after)
@@ -213,8 +262,12 @@ module _ (book : Book) (order : IsInOrder book) (early : AreEarly book) (lawful 
   ruled_kept : (operator : List ℕ) (caller : Caller) (now : ℕ) (command : Command) (p : Part) → IsCommand command → HasRanges command
       → StaysKept (ruled_in p operator book caller now command)
   ruled_kept operator caller now command part.Facts can ranges = judged_kept now command book.facts can ranges refl
+  ruled_kept operator caller now command part.Players can ranges =
+      in_season_kept (λ facts. amends_ruled book facts command) (λ facts is. amended_kept facts (amendment command) is) book.facts refl
   ruled_kept operator caller now command part.Entries can ranges =
       in_season_kept (λ facts. keyed operator book command) (λ facts is. keyed_kept operator command) book.facts refl
+  ruled_kept operator caller now command part.Keys can ranges =
+      in_season_kept (λ facts. keys_ruled operator book command) (λ facts is. rekeyed_kept operator (key_given command)) book.facts refl
   ruled_kept operator caller now command part.Deeds can ranges =
       let e : ℕ = caller_number caller in
       in_season_kept (λ facts. ruled_of book facts e command (entry_in book.entries e)) (λ facts is. entry_deeds_kept e command facts (entry_in book.entries e) (typed command can ranges) is refl) book.facts refl

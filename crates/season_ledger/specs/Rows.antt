@@ -1,6 +1,6 @@
 -- What an entry keeps: a row for each gameweek in which something was done.
 use Rattle.std.specs.Prelude.{◌≡◌, ◌<◌, ◌≤◌, ◌+◌, ◌-◌, ◌*◌, ℕ, suc, Bool, true, false, not, ◌&&◌, List, [], ◌∷◌, Option, Some, None, ◌==◌, if◌then◌else◌, nat_lt, nat_le, length, map, ⊤}
-use Rattle.std.specs.List.{AllByRecursion as Each}
+use Rattle.std.specs.List.{AllByRecursion as Each, list_any}
 use Rattle.fpl_base.specs.declared.kinds.Chip.{Chip}
 use Rattle.fpl_base.specs.declared.kinds.Chip.TheVariants.{None as NoChip}
 use Rattle.fpl_base.specs.declared.kinds.Profile.{Profile}
@@ -168,3 +168,7 @@ row_of_record sales t = record { gw = t.0; standing = record { made = length (sa
 
 abbrev pub rows_of_records : List (ℕ × Team) → List (ℕ × Sale) → List Row
 rows_of_records teams sales = map (row_of_record sales) teams
+
+-- a player stands in the team of a row
+abbrev pub rows_had : List Row → ℕ → Bool
+rows_had rows p = list_any (λ row. list_any (λ pick. pick.player == p) row.standing.team.picks) rows

@@ -10,16 +10,16 @@ ghost use Rattle.rule_book.specs.History.Deed.{First, Swap, Lineup, Play, Cancel
 ghost use Rattle.rule_book.specs.HistoryRules.{FirstTold, IsHistory};
 ghost use Rattle.rule_book.specs.HistoryTeam.{TeamTold, TeamBalances, holdings};
 ghost use Rattle.rule_book.specs.HistoryTransfers.{FreeTold, cost_at, counted_through, swaps_in, used_before};
-ghost use Rattle.season_ledger.specs.Rows.{row_at, rows_of_records, chip_by, IsKept, IsFitTeam, FitsIn, AllUpTo, Rise, standing_at, team_in, begun, is_begun_by, put_row, put_chip, used_by, first_in, is_past, free_in, cost_by, counted_by};
+ghost use Rattle.season_ledger.specs.Rows.{row_at, rows_of_records, chip_by, IsKept, IsFitTeam, FitsIn, AllUpTo, Rise, standing_at, team_in, begun, is_begun_by, put_row, put_chip, rows_had, used_by, first_in, is_past, free_in, cost_by, counted_by};
 ghost use Rattle.season_ledger.specs.Batches.{BatchOn, LineupOn, IsFirstTeam, CanPlay, CanCancel, players_of};
 ghost use Rattle.season_ledger.specs.Stands.{StandsFor, IsPlaced, RowsAlwaysTell};
 
 use crate::rows::{
-    are_up_to, first_of, put, put_in_place, row_in, row_of, rows_of_records, standing_of,
+    are_up_to, first_of, has_had, put, put_in_place, row_in, row_of, rows_of_records, standing_of,
 };
 use crate::transfers::{cost_of, counted_of, free_of, used_of};
 use crate::{Row, Standing};
-use fpl_base::{Chip, Gw, Memory, Profile};
+use fpl_base::{Chip, Gw, Memory, PlayerId, Profile};
 use rule_book::{Sale, Team};
 use std::alloc::Global;
 use std::marker::Model;
@@ -104,6 +104,13 @@ impl Entry {
             ≡ row_at self.now gameweek }
     {
         row_in(self.rows.as_slice(), gameweek)
+    }
+
+    /// Whether a player stands in the team of a gameweek in which something was done.
+    pub fn has_had(&self, player: PlayerId) -> bool
+        ensures { result ≡ rows_had self.now player }
+    {
+        has_had(self.rows.as_slice(), player)
     }
 
     /// How many transfers a gameweek has.

@@ -1,12 +1,13 @@
 // Rows by gameweek.
-ghost use Rattle.std.specs.Prelude.{◌≡◌, ◌<◌, ◌≤◌, ◌+◌, ℕ, [], length, OnOk, OnErr, IfOk, IfSome, option_copied};
+ghost use Rattle.std.specs.Prelude.{◌≡◌, ◌==◌, ◌<◌, ◌≤◌, ◌+◌, ℕ, [], length, OnOk, OnErr, IfOk, IfSome, option_copied};
+ghost use Rattle.std.specs.List.{list_any};
 ghost use Rattle.std.specs.Option.{option_map};
 ghost use Rattle.rule_book.specs.EntryRecords.{sales_in};
 ghost use Rattle.rule_book.specs.History.{is_free_hit};
-ghost use Rattle.season_ledger.specs.Rows.{row_at, base_at, put_row, place_at, standing_at, is_up_to, first_in, row_of_record, rows_of_records};
+ghost use Rattle.season_ledger.specs.Rows.{row_at, base_at, put_row, place_at, standing_at, is_up_to, first_in, row_of_record, rows_had, rows_of_records};
 
 use crate::{Row, Standing};
-use fpl_base::{Chip, Gw, Memory};
+use fpl_base::{Chip, Gw, Memory, PlayerId};
 use rule_book::{Sale, Team};
 use std::alloc::Global;
 
@@ -131,6 +132,19 @@ pub fn are_up_to(rows: &[Row], g: u8) -> bool
         }
     }
     true
+}
+
+// Whether a player stands in the team of a row.
+pub fn has_had(rows: &[Row], player: PlayerId) -> bool
+    ensures { result ≡ rows_had rows.now player }
+{
+    rows.iter().any(|row| holds(&row.standing.team, player))
+}
+
+fn holds(team: &Team, player: PlayerId) -> bool
+    ensures { result ≡ list_any (λ pick. pick.player == player) team.now.picks }
+{
+    team.picks.iter().any(|pick| pick.player == player)
 }
 
 // The first gameweek.

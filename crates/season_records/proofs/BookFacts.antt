@@ -21,7 +21,7 @@ use Rattle.record_codec.specs.declared.slot.Slot.{Slot}
 use Rattle.record_codec.specs.declared.slot.Slot.TheVariants as slot
 use Rattle.season_records.specs.Records.{last_item, told, told_in}
 use Rattle.season_records.specs.Touched.{players_left, touched_by}
-use Rattle.season_records.proofs.FactCommands.{FactsKeep, club_keeps, deadline_keeps, drop_keeps, finished_keeps, fixture_keeps, gone_keeps, line_keeps, move_keeps, player_keeps, price_keeps, season_begins, sheet_keeps}
+use Rattle.season_records.proofs.FactCommands.{FactsKeep, amend_fixture_keeps, club_keeps, deadline_keeps, drop_keeps, finished_keeps, fixture_keeps, gone_keeps, line_keeps, move_keeps, player_keeps, price_keeps, season_begins, sheet_keeps}
 use Rattle.season_records.proofs.Puts.{touches}
 
 -- what a book tells of other slots stays
@@ -95,6 +95,7 @@ changes_keep book facts e (command.Club p c) there = club_keeps facts p c
 changes_keep book facts e (command.Gone p mark) there = gone_keeps facts p mark
 changes_keep book facts e (command.Fixture id home away g kickoff) there = fixture_keeps facts id home away g kickoff
 changes_keep book facts e (command.Move f g kickoff) there = move_keeps facts f g kickoff
+changes_keep book facts e (command.AmendFixture f home away) there = amend_fixture_keeps facts f home away
 changes_keep book facts e (command.Sheet f lines mark) there =
     let before : ℕ → Option Facts → List ℕ = λ f some. option_map_or (λ (facts : Facts). players_in (lines_of facts.matches f)) some [] in
     subst (λ old. FactsKeep (slot.Fixture f ∷ map (slot.Line f) (players_left old (players_in lines) ++ players_in lines)) facts (changed_by facts (command.Sheet f lines mark)))

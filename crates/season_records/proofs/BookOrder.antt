@@ -5,6 +5,7 @@ use Rattle.std.specs.Option.{option_map}
 use Rattle.std.proofs.lemmas.Bool.{cases_eq}
 use Rattle.std.proofs.lemmas.Option.{none-some, same_Some}
 use Rattle.fpl_base.specs.declared.kinds.Caller.{Caller}
+use Rattle.fpl_base.specs.declared.kinds.Position.{Position}
 use Rattle.fpl_base.specs.declared.rule.Rule.{Rule}
 use Rattle.fpl_base.specs.declared.rule.Rule.TheVariants as rule
 use Rattle.rule_book.specs.declared.cup.Bracket.{Bracket}
@@ -15,10 +16,13 @@ use Rattle.rule_book.specs.LeagueCalls.{with_member, with_order}
 use Rattle.rule_book.specs.Leagues.{LeagueFacts}
 use Rattle.rule_book.proofs.AtId.{one_other, one_same, placed_other, placed_same}
 use Rattle.season_book.specs.Book.{Book, EntryFacts, Facts, Last, caller_number, last_number}
-use Rattle.season_book.specs.Commands.{are_there, begun_by, changed_by, refusal_of}
+use Rattle.season_book.specs.Commands.{are_there, begun_by, changed_by, has_player, refusal_of}
 use Rattle.season_book.specs.EntryCommands.{deed_refusal, history_after, names_players}
+use Rattle.season_book.specs.Hosts.{keys_of}
+use Rattle.season_book.specs.KeyCommands.{NewKey, entries_rekeyed, rekey_refusal}
 use Rattle.season_book.specs.LeagueCommands.{cup_broken, cup_made, cup_there, is_issued, is_registered, league_made, league_refusal, leagues_after, leagues_there}
-use Rattle.season_book.specs.Verdict.{Outcome, Verdict, accepted, begun, cups_ruled, in_season, judged, key_refusal, keyed, leagues_ruled, locked_at, number_refusal, ruled, ruled_by, ruled_for, ruled_of, settled, unless_broken, unless_misnumbered, unless_refused, with_entry, with_history}
+use Rattle.season_book.specs.PlayerCommands.{Amendment, facts_amended, have_had, position_refusal}
+use Rattle.season_book.specs.Verdict.{Outcome, Verdict, accepted, amends_ruled, begun, cups_ruled, in_season, judged, key_refusal, keyed, keys_ruled, leagues_ruled, locked_at, number_refusal, ruled, ruled_by, ruled_for, ruled_of, settled, unless_broken, unless_misnumbered, unless_refused, with_entry, with_history}
 use Rattle.season_book.specs.declared.answer.Answer.{Answer}
 use Rattle.season_book.specs.declared.answer.Answer.TheVariants as answer
 use Rattle.season_book.specs.declared.command.Command.{Command}
@@ -28,7 +32,7 @@ use Rattle.season_book.specs.declared.request.Request.TheVariants as request
 use Rattle.season_records.specs.Records.{made_id}
 use Rattle.season_records.specs.Told.{AreInOrder, EmptyIsInOrder, IsInOrder, MomentsKeepOrder, VerdictsKeepOrder, made_by}
 use Rattle.season_records.proofs.Determined.{rise_of}
-use Rattle.season_records.proofs.FactOrder.{changes_in_order, season_in_order}
+use Rattle.season_records.proofs.FactOrder.{amended_in_order, changes_in_order, season_in_order}
 use Rattle.season_records.proofs.Finds.{changed_from, more_from, none_in}
 use Rattle.season_records.proofs.Orders.{none_sorted, pairs_of, put_sorted, rise_put}
 
@@ -155,6 +159,29 @@ module _ (book : Book) (order : IsInOrder book) where
       seasons_in_order (command.Key key name) (λ facts. keyed operator book (command.Key key name)) (λ facts.
       broken_in_order (command.Key key name) (with_entry book key name) (key_refusal operator book.entries key) (entries_in_order (with_entry book key name).book.entries, refl)) book.facts
 
+  rekey_in_order : (operator : List ℕ) (e : ℕ) (key name : List ℕ)
+      → StaysInOrder (command.Rekey e key name) (in_season book.facts (λ facts. keys_ruled operator book (command.Rekey e key name)))
+  rekey_in_order operator e key name =
+      let given : NewKey = record { entry = e; key = key; name = name } in
+      seasons_in_order (command.Rekey e key name) (λ facts. keys_ruled operator book (command.Rekey e key name)) (λ facts.
+      there_in_order (command.Rekey e key name) (record { made = made.Nothing; book = record book { entries = entries_rekeyed book.entries given } })
+      (is_issued book.entries e) (rekey_refusal operator (keys_of book.entries) given.entry given.key) (entries_in_order (entries_rekeyed book.entries given), refl)) book.facts
+
+  amend_in_order : (p : ℕ) (name : List ℕ) (position : Position)
+      → StaysInOrder (command.AmendPlayer p name position) (in_season book.facts (λ facts. amends_ruled book facts (command.AmendPlayer p name position)))
+  amend_in_order p name position = of_facts book.facts refl
+    where
+      given : Amendment
+      given = record { player = p; name = name; position = position }
+
+      of_facts : (some : Option Facts) → book.facts ≡ some
+          → StaysInOrder (command.AmendPlayer p name position) (in_season some (λ facts. amends_ruled book facts (command.AmendPlayer p name position)))
+      of_facts None is = tt
+      of_facts (Some facts) is =
+          there_in_order (command.AmendPlayer p name position) (record { made = made.Nothing; book = record book { facts = Some (facts_amended facts given) } })
+          (has_player facts p) (position_refusal facts (have_had book.entries p) given)
+          (with_facts book (facts_amended facts given) order (amended_in_order facts p name position (order.facts facts is)), refl)
+
   deed_in_order : (caller : Caller) (command : Command) → made.Nothing ≡ made_by command 0 → StaysInOrder command (ruled_for book caller command)
   deed_in_order caller command makes =
       let e : ℕ = caller_number caller in
@@ -187,6 +214,8 @@ module _ (book : Book) (order : IsInOrder book) where
   -- each
   ruled_in_order : (operator : List ℕ) (caller : Caller) (now : ℕ) (command : Command) → StaysInOrder command (ruled operator book caller now command)
   ruled_in_order operator caller now (command.Key key name) = key_in_order operator key name
+  ruled_in_order operator caller now (command.Rekey e key name) = rekey_in_order operator e key name
+  ruled_in_order operator caller now (command.AmendPlayer p name position) = amend_in_order p name position
   ruled_in_order operator caller now (command.Squad players captain vice) = deed_in_order caller (command.Squad players captain vice) refl
   ruled_in_order operator caller now (command.Transfers swaps) = deed_in_order caller (command.Transfers swaps) refl
   ruled_in_order operator caller now (command.Lineup players captain vice) = deed_in_order caller (command.Lineup players captain vice) refl

@@ -14,12 +14,15 @@ use Rattle.rule_book.specs.Entries.{entry_in}
 use Rattle.rule_book.specs.History.{Event, in_gameweek}
 use Rattle.rule_book.specs.HistoryRules.{NoneAfter}
 use Rattle.season_book.specs.Book.{Book, EntryFacts, Facts, caller_number, histories_with, last_number}
-use Rattle.season_book.specs.Commands.{are_there, begun_by, changed_by, part_of, refusal_of}
+use Rattle.season_book.specs.Commands.{are_there, begun_by, changed_by, has_player, part_of, refusal_of}
 use Rattle.season_book.specs.EntryCommands.{deed_refusal, deeds_in, history_after, names_players}
 use Rattle.season_book.specs.EntryViews.{gameweek_seen}
+use Rattle.season_book.specs.Hosts.{keys_of}
+use Rattle.season_book.specs.KeyCommands.{NewKey, entries_rekeyed, key_given, rekey_refusal, with_key}
 use Rattle.season_book.specs.LeagueCommands.{cup_broken, cup_drawn, cup_made, cup_there, is_issued, is_registered, league_made, league_refusal, leagues_after, leagues_there}
 use Rattle.season_book.specs.LeagueViews.{history_of}
-use Rattle.season_book.specs.Verdict.{Outcome, Verdict, begun, cup_ruled, in_season, judged, key_refusal, keyed, leagues_ruled, locked_at, number_refusal, pass, ruled, ruled_by, ruled_in, ruled_of, settled, unless_broken, unless_misnumbered, unless_refused, with_entry, with_history}
+use Rattle.season_book.specs.PlayerCommands.{Amendment, amendment, facts_amended, have_had, position_refusal}
+use Rattle.season_book.specs.Verdict.{Outcome, Verdict, amend_ruled, amends_ruled, begun, cup_ruled, in_season, judged, key_refusal, key_ruled, keyed, keys_ruled, leagues_ruled, locked_at, number_refusal, pass, ruled, ruled_by, ruled_in, ruled_of, settled, unless_broken, unless_misnumbered, unless_refused, with_entry, with_history}
 use Rattle.season_book.specs.declared.answer.Answer.{Answer}
 use Rattle.season_book.specs.declared.answer.Answer.TheVariants as answer
 use Rattle.season_book.specs.declared.command.Command.{Command}
@@ -31,7 +34,7 @@ use Rattle.season_book.specs.declared.request.Request.TheVariants as request
 use Rattle.season_records.specs.Keeping.{AreEarly, EmptyIsEarly, MomentsAreEarly, VerdictsAreEarly}
 use Rattle.season_records.specs.Touched.{gameweek_of}
 use Rattle.season_records.proofs.Deeds.{entry_kept, next_seen, one_here}
-use Rattle.season_records.proofs.Finds.{numbered_more}
+use Rattle.season_records.proofs.Finds.{numbered_changed, numbered_more}
 use Rattle.season_records.proofs.Histories.{none_done, none_more}
 
 -- Later gameweeks.
@@ -132,6 +135,29 @@ module _ (book : Book) (early : AreEarly book) where
       (later_early book (with_entry book key name).book (omega arith)
       (λ e. numbered_more (λ o. option_map_or (λ (entry : EntryFacts). entry.history) o []) book.entries (record { key = key; name = name; history = [] }) e (λ is. refl)) early)
 
+  -- another key of an entry
+  rekey_early : (operator : List ℕ) (given : Option NewKey) → StaysEarly (option_map_or (key_ruled operator book) given (Err answer.Unknown))
+  rekey_early operator None = tt
+  rekey_early operator (Some given) =
+      let behind : Book = record book { entries = entries_rekeyed book.entries given } in
+      there_early (record { made = made.Nothing; book = behind })
+      (is_issued book.entries given.entry) (rekey_refusal operator (keys_of book.entries) given.entry given.key)
+      (later_early book behind (omega arith)
+      (λ e. numbered_changed (λ o. option_map_or (λ (entry : EntryFacts). entry.history) o []) (with_key given) book.entries given.entry e (λ is entry at. refl)) early)
+
+  -- another name and another position of a player
+  amend_early : (facts : Facts) → book.facts ≡ Some facts → (given : Option Amendment) → StaysEarly (option_map_or (amend_ruled book facts) given (Err answer.Unknown))
+  amend_early facts is None = tt
+  amend_early facts is (Some given) =
+      there_early (record { made = made.Nothing; book = record book { facts = Some (facts_amended facts given) } })
+      (has_player facts given.player) (position_refusal facts (have_had book.entries given.player) given)
+      (with_facts_early (facts_amended facts given)
+      (subst (λ (some : Option Facts). option_map_or (λ (facts : Facts). gameweek_seen facts.calendar) some 0 ≤ gameweek_seen facts.calendar) (sym is) (omega arith)))
+
+  amends_early : (command : Command) (some : Option Facts) → book.facts ≡ some → StaysEarly (in_season some (λ facts. amends_ruled book facts command))
+  amends_early command None is = tt
+  amends_early command (Some facts) is = amend_early facts is (amendment command)
+
   -- what a manager does
   history_early : (e : ℕ) (entry : EntryFacts) (after : List Event) → entry_in book.entries e ≡ Some entry → NoneAfter (gameweek_of book) after → AreEarly (with_history book e after)
   history_early e entry after at own q = elim (cases_eq q e) [
@@ -175,7 +201,9 @@ module _ (book : Book) (early : AreEarly book) where
 
   ruled_early : (operator : List ℕ) (caller : Caller) (now : ℕ) (command : Command) (p : Part) → StaysEarly (ruled_in p operator book caller now command)
   ruled_early operator caller now command part.Facts = judged_early now command book.facts refl
+  ruled_early operator caller now command part.Players = amends_early command book.facts refl
   ruled_early operator caller now command part.Entries = in_season_early (λ facts. keyed operator book command) (λ facts. keyed_early operator command) book.facts
+  ruled_early operator caller now command part.Keys = in_season_early (λ facts. keys_ruled operator book command) (λ facts. rekey_early operator (key_given command)) book.facts
   ruled_early operator caller now command part.Deeds = deeds_early (caller_number caller) command book.facts refl
   ruled_early operator caller now command part.Leagues =
       in_season_early (λ facts. leagues_ruled book facts (caller_number caller) command) (leagues_early (caller_number caller) command) book.facts

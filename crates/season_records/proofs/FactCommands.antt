@@ -13,6 +13,7 @@ use Rattle.rule_book.specs.declared.season.Fixture.{Fixture}
 use Rattle.rule_book.specs.ById.{at_id, placed_at}
 use Rattle.rule_book.specs.Calendar.{fixture_of}
 use Rattle.rule_book.specs.MatchFacts.{Lines, Sheet, by_player, is_finished, line_in, lines_of, players_in, with_sheet}
+use Rattle.rule_book.specs.Players.{with_details}
 use Rattle.rule_book.proofs.AtId.{one_other, placed_other}
 use Rattle.season_book.specs.Book.{Facts}
 use Rattle.season_book.specs.Commands.{changed_by, club_ids, new_season}
@@ -47,6 +48,11 @@ player_keeps facts id name position club price (slot.Player q) apart =
     ap (option_map (player_item q)) (sym (found_beside (λ x. x.id) facts.players new q (grind (arith, nat_tests, apart))))
 player_keeps facts id name position club price s apart = refl
 
+pub details_keep : (facts : Facts) (p : ℕ) (name : List ℕ) (position : Position) → FactsKeep (slot.Player p ∷ []) facts (record facts { players = with_details facts.players p name position })
+details_keep facts p name position (slot.Player q) apart =
+    ap (option_map (player_item q)) (sym (found_unchanged (λ x. x.id) (λ x. record x { name = name; position = position }) (λ x. refl) p q (grind (arith, nat_tests, apart)) facts.players))
+details_keep facts p name position s apart = refl
+
 pub price_keeps : (facts : Facts) (p t : ℕ) → FactsKeep (slot.Player p ∷ []) facts (changed_by facts (command.Price p t))
 price_keeps facts p t (slot.Player q) apart =
     ap (option_map (player_item q)) (sym (found_unchanged (λ x. x.id) (λ x. record x { price = t }) (λ x. refl) p q (grind (arith, nat_tests, apart)) facts.players))
@@ -76,6 +82,12 @@ move_keeps facts f g kickoff (slot.Fixture q) apart =
     ap (option_map (fixture_item q facts))
     (sym (found_unchanged (λ x. x.id) (λ x. record x { gw = g; kickoff = kickoff }) (λ x. refl) f q (grind (arith, nat_tests, apart)) facts.calendar.fixtures))
 move_keeps facts f g kickoff s apart = refl
+
+pub amend_fixture_keeps : (facts : Facts) (f home away : ℕ) → FactsKeep (slot.Fixture f ∷ []) facts (changed_by facts (command.AmendFixture f home away))
+amend_fixture_keeps facts f home away (slot.Fixture q) apart =
+    ap (option_map (fixture_item q facts))
+    (sym (found_unchanged (λ x. x.id) (λ x. record x { home = home; away = away }) (λ x. refl) f q (grind (arith, nat_tests, apart)) facts.calendar.fixtures))
+amend_fixture_keeps facts f home away s apart = refl
 
 -- Sheets.
 

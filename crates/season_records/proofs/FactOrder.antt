@@ -4,14 +4,15 @@ use Rattle.std.specs.Prelude.{is_some}
 use Rattle.std.proofs.lemmas.Bool.{cases_eq, false≢true}
 use Rattle.std.proofs.lemmas.Bool.Decides.{nat_tests}
 use Rattle.std.proofs.lemmas.Option.{none-some, same_Some}
+use Rattle.fpl_base.specs.declared.kinds.Position.{Position}
 use Rattle.fpl_base.specs.declared.kinds.Profile.{Profile}
 use Rattle.rule_book.specs.declared.line.Line.{Line}
 use Rattle.rule_book.specs.declared.player.Player.{Player}
 use Rattle.rule_book.specs.declared.season.Fixture.{Fixture}
 use Rattle.rule_book.specs.ById.{AreSorted, at_id, placed_at}
-use Rattle.rule_book.specs.Calendar.{moved_to}
+use Rattle.rule_book.specs.Calendar.{between, moved_to}
 use Rattle.rule_book.specs.MatchFacts.{Lines, MatchFacts, Sheet, by_player, has_facts, is_finished, lines_of, tells_facts, with_line, with_sheet, without_line}
-use Rattle.rule_book.specs.Players.{with_change}
+use Rattle.rule_book.specs.Players.{with_change, with_details}
 use Rattle.rule_book.proofs.AtId.{one_same, placed_other, placed_same, one_other}
 use Rattle.season_book.specs.Book.{Facts}
 use Rattle.season_book.specs.Commands.{are_there, changed_by, has_fixture, new_season}
@@ -57,6 +58,24 @@ moved_id f g kickoff x = chosen (x.id == f)
 fixtures_moved : (xs : List Fixture) (f : ℕ) (g : Option ℕ) (kickoff : ℕ) → AllPairs (λ x y. x.id < y.id) xs → AllPairs (λ x y. x.id < y.id) (map (moved_to f g kickoff) xs)
 fixtures_moved xs f g kickoff up =
     pairs_of (λ x. x.id) (map (moved_to f g kickoff) xs) (rise_map (λ x. x.id) (moved_to f g kickoff) (moved_id f g kickoff) xs (rise_of (λ x. x.id) xs up))
+
+between_id : (f home away : ℕ) (x : Fixture) → (between f home away x).id ≡ x.id
+between_id f home away x = chosen (x.id == f)
+  where
+    chosen : (b : Bool) → (if b then record x { home = home; away = away } else x).id ≡ x.id
+    chosen true = refl
+    chosen false = refl
+
+fixtures_between : (xs : List Fixture) (f home away : ℕ) → AllPairs (λ x y. x.id < y.id) xs → AllPairs (λ x y. x.id < y.id) (map (between f home away) xs)
+fixtures_between xs f home away up =
+    pairs_of (λ x. x.id) (map (between f home away) xs) (rise_map (λ x. x.id) (between f home away) (between_id f home away) xs (rise_of (λ x. x.id) xs up))
+
+there_between : (xs : List Fixture) (f home away q : ℕ) → is_some (find (λ x. x.id == q) (map (between f home away) xs)) ≡ is_some (find (λ x. x.id == q) xs)
+there_between [] f home away q = refl
+there_between (x ∷ xs) f home away q =
+    let same : (between f home away x).id ≡ x.id = between_id f home away x in
+    let more = there_between xs f home away q in
+    grind (arith, nat_tests, same, more)
 
 -- which fixtures are there
 found_in : (front back : List Fixture) (new : Fixture) (q : ℕ) → new.id ≡ q → is_some (find (λ x. x.id == q) (front ++ new ∷ back)) ≡ true
@@ -168,6 +187,10 @@ with_fixtures facts xs order up still = record {
   there = λ f has. still f (order.there f has);
 }
 
+pub amended_in_order : (facts : Facts) (p : ℕ) (name : List ℕ) (position : Position) → AreInOrder facts → AreInOrder (record facts { players = with_details facts.players p name position })
+amended_in_order facts p name position order =
+    with_players facts _ order (players_changed (λ p. record p { name = name; position = position }) (λ p. refl) facts.players p order.players)
+
 pub changes_in_order : (facts : Facts) (command : Command) → AreInOrder facts → are_there facts command ≡ true → AreInOrder (changed_by facts command)
 changes_in_order facts (command.Deadline g t) order there = record {
   clubs = order.clubs;
@@ -193,6 +216,9 @@ changes_in_order facts (command.Fixture id home away g kickoff) order there =
 changes_in_order facts (command.Move f g kickoff) order there =
     with_fixtures facts _ order (fixtures_moved facts.calendar.fixtures f g kickoff order.fixtures)
     (λ q has. there_moved facts.calendar.fixtures f g kickoff q ∙ has)
+changes_in_order facts (command.AmendFixture f home away) order there =
+    with_fixtures facts _ order (fixtures_between facts.calendar.fixtures f home away order.fixtures)
+    (λ q has. there_between facts.calendar.fixtures f home away q ∙ has)
 changes_in_order facts (command.Sheet f lines finished) order there =
     sheet_in_order facts.matches f (record { lines = by_player lines; finished = finished }) facts refl order
     (first_there (has_fixture facts f) _ there) (by_player_sorted lines [] (none_sorted Line))

@@ -19,7 +19,7 @@ use Rattle.season_records.specs.Records.{told, told_in}
 use Rattle.season_records.specs.Touched.{locked_slots, touched, touched_by}
 use Rattle.season_records.proofs.BookFacts.{Keeps, Leaves, facts_kept, facts_leave, with_last_keeps}
 use Rattle.season_records.proofs.Deeds.{deeds_leave}
-use Rattle.season_records.proofs.LeagueFacts.{create_leaves, cup_leaves, draw_leaves, join_leaves, key_leaves}
+use Rattle.season_records.proofs.LeagueFacts.{amend_leaves, create_leaves, cup_leaves, draw_leaves, join_leaves, key_leaves, rekey_leaves}
 use Rattle.season_records.proofs.Puts.{puts, touches}
 
 -- each command
@@ -28,7 +28,9 @@ module _ (operator : List ℕ) (book : Book) (caller : Caller) (now : ℕ) where
   e = caller_number caller
 
   pub leaves : (command : Command) → IsInTime book caller command → Leaves (touched_by book e command) book (ruled operator book caller now command)
+  leaves (command.AmendPlayer p name position) early = amend_leaves book e p name position
   leaves (command.Key key name) early = key_leaves operator book e key name
+  leaves (command.Rekey entry key name) early = rekey_leaves operator book e entry key name
   leaves (command.Squad players captain vice) early = deeds_leave book caller (command.Squad players captain vice) refl (early refl)
   leaves (command.Transfers swaps) early = deeds_leave book caller (command.Transfers swaps) refl (early refl)
   leaves (command.Lineup players captain vice) early = deeds_leave book caller (command.Lineup players captain vice) refl (early refl)

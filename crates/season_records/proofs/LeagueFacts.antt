@@ -1,26 +1,33 @@
--- The commands that make entries, leagues and cups, or change a league, change nothing of what is told but what they touch.
+-- The commands that make entries, leagues and cups, or change a key or a league, change nothing of what is told but what they touch.
 use Rattle.std.proofs.Common.{◌≡◌, ◌+◌, ◌==◌, ℕ, Bool, true, false, List, [], ◌∷◌, ◌++◌, Option, Some, None, length, arith, refl, ap, if◌then◌else◌}
 use Rattle.std.specs.Prelude.{Result, Err}
 use Rattle.std.specs.Option.{option_map, option_and_then}
 use Rattle.std.proofs.lemmas.Bool.Decides.{nat_tests}
+use Rattle.fpl_base.specs.declared.kinds.Position.{Position}
 use Rattle.fpl_base.specs.declared.rule.Rule.{Rule}
 use Rattle.rule_book.specs.declared.cup.Bracket.{Bracket}
 use Rattle.rule_book.specs.declared.league.LeagueKind.{LeagueKind}
 use Rattle.rule_book.specs.Entries.{changed_in}
 use Rattle.rule_book.specs.LeagueCalls.{new_league, with_member, with_order}
 use Rattle.season_book.specs.Book.{Book, Facts}
+use Rattle.season_book.specs.Commands.{has_player}
+use Rattle.season_book.specs.Hosts.{keys_of}
+use Rattle.season_book.specs.KeyCommands.{NewKey, entries_rekeyed, rekey_refusal, with_key}
 use Rattle.season_book.specs.LeagueCommands.{cup_broken, cup_made, cup_there, is_issued, is_registered, league_made, league_refusal, leagues_after, leagues_there}
-use Rattle.season_book.specs.Verdict.{Outcome, cups_ruled, in_season, key_refusal, keyed, leagues_ruled, unless_broken, with_entry}
+use Rattle.season_book.specs.PlayerCommands.{Amendment, facts_amended, have_had, position_refusal}
+use Rattle.season_book.specs.Verdict.{Outcome, amends_ruled, cups_ruled, in_season, key_refusal, keyed, keys_ruled, leagues_ruled, unless_broken, with_entry}
 use Rattle.season_book.specs.declared.answer.Answer.{Answer}
 use Rattle.season_book.specs.declared.answer.Answer.TheVariants as answer
 use Rattle.season_book.specs.declared.command.Command.{Command}
 use Rattle.season_book.specs.declared.command.Command.TheVariants as command
+use Rattle.season_book.specs.declared.made.Made.TheVariants as made
 use Rattle.record_codec.specs.declared.item.Item.TheVariants as item
 use Rattle.record_codec.specs.declared.slot.Slot.{Slot}
 use Rattle.record_codec.specs.declared.slot.Slot.TheVariants as slot
 use Rattle.season_records.specs.Records.{cup_item, entry_item, league_item, member_told, team_told, transfer_item, transfer_told}
 use Rattle.season_records.specs.Touched.{touched_by}
-use Rattle.season_records.proofs.BookFacts.{Keeps, Leaves}
+use Rattle.season_records.proofs.BookFacts.{Keeps, Leaves, with_facts_keeps}
+use Rattle.season_records.proofs.FactCommands.{details_keep}
 use Rattle.season_records.proofs.Finds.{member_beside, numbered_changed, numbered_more}
 
 -- A new entry.
@@ -40,6 +47,17 @@ entry_keeps book key name (slot.Transfer q w n) apart =
         if_none true = refl
         if_none false = refl
 entry_keeps book key name s apart = refl
+
+-- Another key of an entry.
+
+rekey_keeps : (book : Book) (given : NewKey) → Keeps (slot.Entry given.entry ∷ []) book (record book { entries = entries_rekeyed book.entries given })
+rekey_keeps book given (slot.Entry q) apart =
+    numbered_changed (option_map (entry_item q)) (with_key given) book.entries given.entry q (λ is entry at. absurd (grind (arith, nat_tests, apart, is)))
+rekey_keeps book given (slot.Team q w) apart =
+    numbered_changed (option_and_then (λ entry. team_told q w entry.history)) (with_key given) book.entries given.entry q (λ is entry at. refl)
+rekey_keeps book given (slot.Transfer q w n) apart =
+    numbered_changed (option_and_then (λ entry. transfer_told q w n entry.history)) (with_key given) book.entries given.entry q (λ is entry at. refl)
+rekey_keeps book given s apart = refl
 
 -- A new league, a new member, a draw.
 
@@ -95,6 +113,32 @@ key_leaves operator book e key name =
     let slots = touched_by book e (command.Key key name) in
     in_season_leaves slots book (λ facts. keyed operator book (command.Key key name)) (λ facts.
     unless_leaves slots book (with_entry book key name) (entry_keeps book key name) (key_refusal operator book.entries key)) book.facts
+
+pub rekey_leaves : (operator : List ℕ) (book : Book) (e entry : ℕ) (key name : List ℕ)
+    → Leaves (touched_by book e (command.Rekey entry key name)) book (in_season book.facts (λ facts. keys_ruled operator book (command.Rekey entry key name)))
+rekey_leaves operator book e entry key name =
+    let slots = touched_by book e (command.Rekey entry key name) in
+    let given : NewKey = record { entry = entry; key = key; name = name } in
+    in_season_leaves slots book (λ facts. keys_ruled operator book (command.Rekey entry key name)) (λ facts.
+    there_leaves slots book (record { made = made.Nothing; book = record book { entries = entries_rekeyed book.entries given } }) (rekey_keeps book given)
+    (is_issued book.entries entry) (rekey_refusal operator (keys_of book.entries) given.entry given.key)) book.facts
+
+-- Another name and position of a player.
+
+pub amend_leaves : (book : Book) (e p : ℕ) (name : List ℕ) (position : Position)
+    → Leaves (touched_by book e (command.AmendPlayer p name position)) book (in_season book.facts (λ facts. amends_ruled book facts (command.AmendPlayer p name position)))
+amend_leaves book e p name position = of_facts book.facts refl
+  where
+    given : Amendment
+    given = record { player = p; name = name; position = position }
+
+    of_facts : (some : Option Facts) → book.facts ≡ some
+        → Leaves (slot.Player p ∷ []) book (in_season some (λ facts. amends_ruled book facts (command.AmendPlayer p name position)))
+    of_facts None there = tt
+    of_facts (Some facts) there =
+        there_leaves (slot.Player p ∷ []) book (record { made = made.Nothing; book = record book { facts = Some (facts_amended facts given) } })
+        (with_facts_keeps book facts (facts_amended facts given) (slot.Player p ∷ []) there (details_keep facts p name position))
+        (has_player facts p) (position_refusal facts (have_had book.entries p) given)
 
 pub league_leaves : (book : Book) (e : ℕ) (command : Command) → Keeps (touched_by book e command) book (record book { leagues = leagues_after book.leagues e command })
     → Leaves (touched_by book e command) book (in_season book.facts (λ facts. leagues_ruled book facts e command))

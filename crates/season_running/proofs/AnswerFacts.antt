@@ -1,22 +1,25 @@
 -- From a command that was done and kept to what may be answered.
-use Rattle.std.proofs.Common.{◌≡◌, ℕ, Bool, true, false, if◌then◌else◌, List, Option, Some, None, refl, sym, ap, subst, ◌∙◌, inl, inr}
+use Rattle.std.proofs.Common.{◌≡◌, ℕ, Bool, true, false, if◌then◌else◌, ◌&&◌, nat_le, length, List, Option, Some, None, refl, sym, ap, subst, ◌∙◌, inl, inr}
 use Rattle.std.specs.Prelude.{Result, Ok, Err, IfErr, IsOk, IsSome, is_some}
 use Rattle.std.proofs.lemmas.Bool.{false≢true}
 use Rattle.std.proofs.lemmas.Option.{none-some, same_Some}
 use Rattle.std.specs.Option.{option_map, option_map_or}
 use Rattle.fpl_base.specs.declared.kinds.Caller.{Caller}
+use Rattle.fpl_base.specs.declared.kinds.Position.{Position}
 use Rattle.fpl_base.specs.declared.rule.Rule.{Rule}
 use Rattle.fpl_base.specs.declared.rule.Rule.TheVariants as rule
 use Rattle.rule_book.specs.declared.cup.Bracket.{Bracket}
 use Rattle.rule_book.specs.Calendar.{deadlines_order}
 use Rattle.rule_book.specs.Leagues.{LeagueFacts}
 use Rattle.manager_book.specs.declared.manager.Manager.{Manager}
+use Rattle.manager_book.specs.Managers.{managers_had}
 use Rattle.season_book.specs.Book.{Book, Facts, last_number}
 use Rattle.season_book.specs.declared.command.Command.{Command}
 use Rattle.season_book.specs.declared.made.Made.{Made}
-use Rattle.season_book.specs.Commands.{are_there, begun_by, changed_by, refusal_of}
+use Rattle.season_book.specs.Commands.{are_there, begun_by, changed_by, has_player, refusal_of}
 use Rattle.season_book.specs.Doing.{IsGrant, IsGranted, IsGrantedIn, IsOutLate, IsRefused, IsShown, IsStoreless, IsWeighed, MayAnswerIn}
 use Rattle.season_book.specs.EntryCommands.{names_players}
+use Rattle.season_book.specs.KeyCommands.{rekey_refusal}
 use Rattle.season_book.specs.LeagueCommands.{cup_broken, cup_drawn, cup_there, league_refusal, leagues_there}
 use Rattle.season_book.specs.Verdict.{Failures, IsRepeat, IsVerdictIn, MayAnswer, Outcome, Verdict, accepted, begun, fresh_verdict, judged, number_refusal, pass, ruled, settled, shown_or_unknown, unless_misnumbered, unless_refused, view_answer}
 use Rattle.season_book.specs.declared.answer.Answer.{Answer}
@@ -27,7 +30,9 @@ use Rattle.season_book.specs.declared.request.View.{View}
 use Rattle.season_book.specs.declared.shown.Shown.{Shown}
 use Rattle.season_competitions.specs.Cups.{cup_answer_by, draw_answer}
 use Rattle.season_competitions.specs.Leagues.{league_answer_by}
+use Rattle.season_entries.specs.Amended.{amend_broken, use_refusal}
 use Rattle.season_entries.specs.Deeds.{IsAnswered, deed_answer}
+use Rattle.season_entries.specs.Keys.{keys_of, rekey_broken}
 use Rattle.season_entries.specs.Known.{is_issued_by, is_registered_by}
 use Rattle.season_running.specs.Accepting.{IsRefusal}
 
@@ -94,6 +99,18 @@ refusal_of_answer : (there : Bool) (broken : Option Rule) (reply : Answer) → (
 refusal_of_answer true None reply e = absurd (none-some reply e)
 refusal_of_answer true (Some rule) reply e = subst IsRefusal (same_Some (answer.Rule rule) reply e) tt
 refusal_of_answer false broken reply e = subst IsRefusal (same_Some answer.Unknown reply e) tt
+
+-- so is another key of an entry
+pub rekey_refusal_is : {T : Type 0} (operator : List ℕ) (managers : List Manager) (e : ℕ) (key : List ℕ) (result : Result T Answer)
+    → IsAnswered (rekey_broken operator managers e key) result → IfErr result IsRefusal
+rekey_refusal_is operator managers e key (Ok value) a = tt
+rekey_refusal_is operator managers e key (Err reply) a = refusal_of_answer (nat_le 1 e && nat_le e (length managers)) (rekey_refusal operator (keys_of managers) e key) reply a
+
+-- so are another name and another position of a player
+pub amend_refusal_is : {T : Type 0} (facts : Facts) (managers : List Manager) (p : ℕ) (position : Position) (result : Result T Answer)
+    → IsAnswered (amend_broken facts managers p position) result → IfErr result IsRefusal
+amend_refusal_is facts managers p position (Ok value) a = tt
+amend_refusal_is facts managers p position (Err reply) a = refusal_of_answer (has_player facts p) (use_refusal facts (managers_had managers p) p position) reply a
 
 pub league_refusal_is : {T : Type 0} (facts : Facts) (managers : List Manager) (leagues : List LeagueFacts) (e : ℕ) (command : Command) (result : Result T Answer)
     → IsAnswered (league_answer_by facts managers leagues e command) result → IfErr result IsRefusal

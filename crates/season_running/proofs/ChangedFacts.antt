@@ -1,14 +1,16 @@
 -- What a command leaves of a running season, part by part.
 use Rattle.std.proofs.Common.{◌≡◌, ◌++◌, ◌∷◌, [], ℕ, List, ap, refl, subst, sym}
 use Rattle.fpl_base.specs.declared.kinds.Caller.{Caller}
+use Rattle.fpl_base.specs.declared.kinds.Position.{Position}
 use Rattle.rule_book.specs.declared.cup.Bracket.{Bracket}
 use Rattle.rule_book.specs.Calendar.{next_gameweek}
 use Rattle.rule_book.specs.Leagues.{LeagueFacts}
 use Rattle.manager_book.specs.declared.manager.Manager.{Manager}
-use Rattle.manager_book.specs.Managers.{IsSameBut, Managers}
+use Rattle.manager_book.specs.Managers.{IsSameBut, Managers, rekeyed}
 use Rattle.season_book.specs.Book.{Facts, caller_number}
 use Rattle.season_book.specs.Commands.{changed_by, part_of}
 use Rattle.season_book.specs.LeagueCommands.{leagues_after}
+use Rattle.season_book.specs.PlayerCommands.{facts_amended}
 use Rattle.season_book.specs.declared.command.Command.{Command}
 use Rattle.season_book.specs.declared.command.Command.TheVariants as commands
 use Rattle.season_book.specs.declared.part.Part.TheVariants as part
@@ -23,6 +25,12 @@ module _ (caller : Caller) (command : Command) (old : Running) where
   facts_changed facts is same =
       let new : Running = record old { facts = facts } in
       subst (λ p. IsChangedIn p (caller_number caller) command old new) (sym is) (ap (λ (f : Facts). let r : Running = record old { facts = f } in r) same)
+
+  pub amend_changed : (p : ℕ) (name : List ℕ) (position : Position) (facts : Facts) → command ≡ commands.AmendPlayer p name position
+      → facts ≡ facts_amended old.facts (record { player = p; name = name; position = position }) → IsChangedBy caller command old (record old { facts = facts })
+  amend_changed p name position facts is same =
+      let new : Running = record old { facts = facts } in
+      subst (λ (c : Command). IsChangedBy caller c old new) (sym is) (ap (λ (f : Facts). let r : Running = record old { facts = f } in r) same)
 
   pub leagues_changed : (leagues : List LeagueFacts) → part_of command ≡ part.Leagues → leagues ≡ leagues_after old.leagues (caller_number caller) command
       → IsChangedBy caller command old (record old { leagues = leagues })
@@ -42,6 +50,12 @@ module _ (caller : Caller) (command : Command) (facts : Facts) (leagues : List L
   pub key_changed : (key name : List ℕ) → command ≡ commands.Key key name → new ≡ record old { managers = old.managers ++ new_manager key name ∷ [] }
       → IsChangedBy caller command (season_with old.managers) (season_with new.managers)
   key_changed key name is same =
+      subst (λ (c : Command). IsChangedBy caller c (season_with old.managers) (season_with new.managers)) (sym is)
+      (ap (λ (m : Managers). season_with m.managers) same)
+
+  pub rekey_changed : (e : ℕ) (key name : List ℕ) → command ≡ commands.Rekey e key name → new ≡ record old { managers = rekeyed old.managers e key name }
+      → IsChangedBy caller command (season_with old.managers) (season_with new.managers)
+  rekey_changed e key name is same =
       subst (λ (c : Command). IsChangedBy caller c (season_with old.managers) (season_with new.managers)) (sym is)
       (ap (λ (m : Managers). season_with m.managers) same)
 

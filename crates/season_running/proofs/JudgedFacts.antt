@@ -11,7 +11,9 @@ use Rattle.season_facts.specs.Judged.{CountsJudged}
 
 abbrev pub is_on_facts : Part → Bool
 is_on_facts part.Facts = true
+is_on_facts part.Players = false
 is_on_facts part.Entries = false
+is_on_facts part.Keys = false
 is_on_facts part.Deeds = false
 is_on_facts part.Leagues = false
 is_on_facts part.Cups = false

@@ -7,6 +7,7 @@ use Rattle.std.proofs.lemmas.Bool.{false≢true}
 use Rattle.std.proofs.lemmas.Option.{none-some, same_Some}
 use Rattle.std.proofs.lemmas.Slice.Eq.{bytes_eq-Decides}
 use Rattle.fpl_base.specs.declared.kinds.Caller.{Caller}
+use Rattle.fpl_base.specs.declared.kinds.Position.{Position}
 use Rattle.fpl_base.specs.declared.rule.Rule.{Rule}
 use Rattle.fpl_base.specs.declared.rule.Rule.TheVariants as rule
 use Rattle.rule_book.specs.declared.cup.Bracket.{Bracket}
@@ -16,12 +17,15 @@ use Rattle.rule_book.specs.HistoryRules.{is_started}
 use Rattle.manager_book.specs.declared.manager.Manager.{Manager}
 use Rattle.manager_book.specs.Managers.{Managers, number_from}
 use Rattle.season_book.specs.Book.{Book, EntryFacts, Facts, caller_number, last_number}
-use Rattle.season_book.specs.Commands.{changed_by, part_of}
+use Rattle.season_book.specs.Commands.{changed_by, has_player, part_of}
 use Rattle.season_book.specs.Doing.{IsGranted, IsWeighed}
 use Rattle.season_book.specs.EntryCommands.{deed_refusal, history_after, names_players}
 use Rattle.season_book.specs.EntryViews.{me_shown}
+use Rattle.season_book.specs.Hosts.{keys_of}
+use Rattle.season_book.specs.KeyCommands.{NewKey, entries_rekeyed, rekey_refusal}
 use Rattle.season_book.specs.LeagueCommands.{cup_broken, cup_drawn, cup_made, cup_there, is_issued, is_registered, league_made, league_refusal, leagues_after, leagues_there}
-use Rattle.season_book.specs.Verdict.{Outcome, cup_ruled, cups_ruled, in_season, judged, key_refusal, keyed, leagues_ruled, my_answer, ruled, ruled_by, ruled_in, ruled_of, unless_broken, with_entry, with_history}
+use Rattle.season_book.specs.PlayerCommands.{Amendment, facts_amended, have_had, position_refusal}
+use Rattle.season_book.specs.Verdict.{Outcome, amends_ruled, cup_ruled, cups_ruled, in_season, judged, key_refusal, keyed, keys_ruled, leagues_ruled, my_answer, ruled, ruled_by, ruled_in, ruled_of, unless_broken, with_entry, with_history}
 use Rattle.season_book.specs.declared.answer.Answer.{Answer}
 use Rattle.season_book.specs.declared.answer.Answer.TheVariants as answer
 use Rattle.season_book.specs.declared.command.Command.{Command}
@@ -32,9 +36,11 @@ use Rattle.season_book.specs.declared.shown.ShownMe.{ShownMe}
 use Rattle.season_book.specs.declared.part.Part.TheVariants as part
 use Rattle.season_competitions.specs.Cups.{IsCupJudgedByBooks, cup_answer, cups_after, draw_answer}
 use Rattle.season_competitions.specs.Leagues.{IsLeagueJudgedByBooks, league_answer}
+use Rattle.season_entries.specs.Amended.{AmendmentsLeaveEntries, CanAmend, IsAmendJudgedByBooks}
 use Rattle.season_entries.specs.Deeds.{IsAnswered, IsJudgedByBooks, StandForBooksAfter}
 use Rattle.season_entries.specs.Entries.{AreEntries}
 use Rattle.season_entries.specs.EntryLaws.{EntriesAreIssued, FactsLeaveEntries}
+use Rattle.season_entries.specs.Keys.{IsRekeyJudgedByBooks}
 use Rattle.season_running.specs.Accepting.{IsRuled, Leads, made_by, made_in}
 use Rattle.season_running.specs.Standing.{Plays, Running}
 use Rattle.season_running.proofs.AnswerFacts.{granted_is}
@@ -89,8 +95,14 @@ module _ (operator : List ℕ) (book : Book) (caller : Caller) (now : ℕ) (comm
   in_facts : part_of command ≡ part.Facts → ruled operator book caller now command ≡ ruled_by book (judged (Some running.facts) now command)
   in_facts is = ap (λ p. ruled_in p operator book caller now command) is ∙ ap (λ o. ruled_by book (judged o now command)) plays.facts
 
+  in_players : part_of command ≡ part.Players → ruled operator book caller now command ≡ amends_ruled book running.facts command
+  in_players is = ap (λ p. ruled_in p operator book caller now command) is ∙ ap (λ o. in_season o (λ f. amends_ruled book f command)) plays.facts
+
   in_entries : part_of command ≡ part.Entries → ruled operator book caller now command ≡ keyed operator book command
   in_entries is = ap (λ p. ruled_in p operator book caller now command) is ∙ ap (λ o. in_season o (λ f. keyed operator book command)) plays.facts
+
+  in_keys : part_of command ≡ part.Keys → ruled operator book caller now command ≡ keys_ruled operator book command
+  in_keys is = ap (λ p. ruled_in p operator book caller now command) is ∙ ap (λ o. in_season o (λ f. keys_ruled operator book command)) plays.facts
 
   in_deeds : part_of command ≡ part.Deeds → ruled operator book caller now command ≡ ruled_of book running.facts (caller_number caller) command (entry_in book.entries (caller_number caller))
   in_deeds is =
@@ -139,7 +151,44 @@ module _ (operator : List ℕ) (book : Book) (caller : Caller) (now : ℕ) (comm
   nobody_ruled law e is number none =
       in_deeds is ∙ ap (λ n. ruled_of book running.facts n command (entry_in book.entries n)) number ∙ ap (ruled_of book running.facts e command) none
 
+  pub rekey_ruled : {T : Type 0} (e : ℕ) (key name : List ℕ) (result : Result T Answer) → command ≡ commands.Rekey e key name
+      → IsRekeyJudgedByBooks operator running.managers e key result → IsRuled (ruled operator book caller now command) result
+  rekey_ruled e key name result is judged =
+      let given : NewKey = record { entry = e; key = key; name = name } in
+      subst (λ r. IsRuled r result) (sym (in_keys (ap part_of is) ∙ ap (keys_ruled operator book) is))
+      (by_answer (is_issued book.entries e) (rekey_refusal operator (keys_of book.entries) e key)
+      (record { made = made.Nothing; book = record book { entries = entries_rekeyed book.entries given } }) result (judged running.facts.players book.entries plays.entries))
+
+  pub amend_ruled : {T : Type 0} (p : ℕ) (name : List ℕ) (position : Position) (result : Result T Answer) → command ≡ commands.AmendPlayer p name position
+      → IsAmendJudgedByBooks running.facts running.managers p position result → IsRuled (ruled operator book caller now command) result
+  amend_ruled p name position result is judged =
+      let given : Amendment = record { player = p; name = name; position = position } in
+      subst (λ r. IsRuled r result) (sym (in_players (ap part_of is) ∙ ap (amends_ruled book running.facts) is))
+      (by_answer (has_player running.facts p) (position_refusal running.facts (have_had book.entries p) given)
+      (record { made = made.Nothing; book = record book { facts = Some (facts_amended running.facts given) } }) result (judged book.entries plays.entries))
+
   -- doing
+
+  pub amend_done : (p : ℕ) (name : List ℕ) (position : Position) (after : Running) → (law : AmendmentsLeaveEntries) → command ≡ commands.AmendPlayer p name position
+      → CanAmend running.facts running.managers p position
+      → after ≡ record running { facts = facts_amended running.facts (record { player = p; name = name; position = position }) } → IsOk (ruled operator book caller now command)
+      → Leads (ruled operator book caller now command) book (made_by running command) after
+  amend_done p name position after law is can same ok =
+      let given : Amendment = record { player = p; name = name; position = position } in
+      let outcome : Outcome = record { made = made.Nothing; book = record book { facts = Some (facts_amended running.facts given) } } in
+      let ruled_is : ruled operator book caller now command ≡ amends_ruled book running.facts (commands.AmendPlayer p name position) = in_players (ap part_of is) ∙ ap (amends_ruled book running.facts) is in
+      record {
+        outcome = outcome;
+        is_ruled = ruled_is ∙ well (has_player running.facts p) (position_refusal running.facts (have_had book.entries p) given) outcome (subst IsOk ruled_is ok);
+        makes = sym (ap (λ c. made_by running c) is);
+        plays = subst (λ r. Plays r outcome.book) (sym same) (record {
+          facts = refl;
+          entries = law running.facts running.managers p name position can book.entries plays.entries;
+          leagues = plays.leagues;
+          cups = plays.cups;
+        });
+        lasts = refl;
+      }
 
   pub facts_done : (after : Running) → (law : FactsLeaveEntries) → part_of command ≡ part.Facts → IsGranted running.facts now command
       → after ≡ record running { facts = changed_by running.facts command }
@@ -188,6 +237,26 @@ module _ (operator : List ℕ) (book : Book) (caller : Caller) (now : ℕ) (comm
         outcome = outcome;
         is_ruled = ruled_is ∙ unbroken (key_refusal operator book.entries key) outcome (subst IsOk ruled_is ok);
         makes = ap (λ n. made.Entry (n + 1)) many ∙ sym (ap (λ c. made_by running c) is);
+        plays = record {
+          facts = plays.facts ∙ ap Some (sym same);
+          entries = subst (λ f. AreEntries f.players after.managers outcome.book.entries) (sym same) stand;
+          leagues = plays.leagues ∙ sym leagues;
+          cups = plays.cups ∙ sym cups;
+        };
+        lasts = refl;
+      }
+
+  pub rekey_done : (e : ℕ) (key name : List ℕ) (after : Running) → command ≡ commands.Rekey e key name → after.facts ≡ running.facts → after.leagues ≡ running.leagues → after.cups ≡ running.cups
+      → AreEntries running.facts.players after.managers (entries_rekeyed book.entries (record { entry = e; key = key; name = name })) → IsOk (ruled operator book caller now command)
+      → Leads (ruled operator book caller now command) book (made_by running command) after
+  rekey_done e key name after is same leagues cups stand ok =
+      let given : NewKey = record { entry = e; key = key; name = name } in
+      let outcome : Outcome = record { made = made.Nothing; book = record book { entries = entries_rekeyed book.entries given } } in
+      let ruled_is : ruled operator book caller now command ≡ keys_ruled operator book (commands.Rekey e key name) = in_keys (ap part_of is) ∙ ap (keys_ruled operator book) is in
+      record {
+        outcome = outcome;
+        is_ruled = ruled_is ∙ well (is_issued book.entries e) (rekey_refusal operator (keys_of book.entries) e key) outcome (subst IsOk ruled_is ok);
+        makes = sym (ap (λ c. made_by running c) is);
         plays = record {
           facts = plays.facts ∙ ap Some (sym same);
           entries = subst (λ f. AreEntries f.players after.managers outcome.book.entries) (sym same) stand;

@@ -22,13 +22,17 @@ use Rattle.season_book.specs.declared.part.Part.{Part}
 use Rattle.season_book.specs.declared.part.Part.TheVariants as part
 use Rattle.season_competitions.specs.Cups.{IsCupGranted}
 use Rattle.season_competitions.specs.Leagues.{IsLeagueGranted}
+use Rattle.season_entries.specs.Amended.{CanAmend}
 use Rattle.season_entries.specs.Deeds.{IsDeedGranted}
+use Rattle.season_entries.specs.Keys.{IsRekeyGranted}
 use Rattle.season_running.specs.Standing.{HostRows, Plays, Running, StandsIn}
 
 -- what a command makes, where nothing refuses it: a new entry, league or cup has the next number
 abbrev pub made_in : Part → Running → Command → Made
 made_in part.Facts running command = made.Nothing
+made_in part.Players running command = made.Nothing
 made_in part.Entries running command = made.Entry (length running.managers + 1)
+made_in part.Keys running command = made.Nothing
 made_in part.Deeds running command = made.Nothing
 made_in part.Leagues running command = league_made running.leagues command
 made_in part.Cups running command = cup_made running.cups
@@ -41,10 +45,22 @@ abbrev pub HasRoom : List Manager → Command → Type 0
 HasRoom managers (command.Key key name) = (profile : Profile) → issue_refusal (record { profile = profile; managers = managers }) key ≡ None
 HasRoom managers command = ⊤
 
+-- the entry is there to which a command gives a key, and the key is nobody's or its own
+abbrev pub IsOpen : List Manager → Command → Type 0
+IsOpen managers (command.Rekey e key name) = (profile : Profile) → IsRekeyGranted (record { profile = profile; managers = managers }) e key
+IsOpen managers command = ⊤
+
+-- the player is there to whom a command gives a name and a position, and may have the position
+abbrev pub IsAmendable : Facts → List Manager → Command → Type 0
+IsAmendable facts managers (command.AmendPlayer p name position) = CanAmend facts managers p position
+IsAmendable facts managers command = ⊤
+
 -- nothing refuses a command on a running season, by what it keeps
 abbrev pub IsGrantedIn : Part → Running → ℕ → ℕ → Command → Type 0
 IsGrantedIn part.Facts running e now command = IsGranted running.facts now command
+IsGrantedIn part.Players running e now command = IsAmendable running.facts running.managers command
 IsGrantedIn part.Entries running e now command = HasRoom running.managers command
+IsGrantedIn part.Keys running e now command = IsOpen running.managers command
 IsGrantedIn part.Deeds running e now command =
     (1 ≤ e) × (e ≤ length running.managers) × IsDeedGranted running.facts (manager_in running.managers e).season command
 IsGrantedIn part.Leagues running e now command = IsLeagueGranted running.facts running.managers running.leagues e command

@@ -4,10 +4,11 @@ use Rattle.fpl_base.specs.declared.kinds.Caller.{Caller}
 use Rattle.fpl_base.specs.declared.kinds.Profile.{Profile}
 use Rattle.rule_book.specs.Calendar.{next_gameweek}
 use Rattle.manager_book.specs.declared.manager.Manager.{Manager}
-use Rattle.manager_book.specs.Managers.{IsSameBut, Managers}
-use Rattle.season_book.specs.Book.{caller_number}
+use Rattle.manager_book.specs.Managers.{IsSameBut, Managers, rekeyed}
+use Rattle.season_book.specs.Book.{Facts, caller_number}
 use Rattle.season_book.specs.Commands.{changed_by, part_of}
 use Rattle.season_book.specs.LeagueCommands.{leagues_after}
+use Rattle.season_book.specs.PlayerCommands.{facts_amended}
 use Rattle.season_book.specs.declared.command.Command.{Command}
 use Rattle.season_book.specs.declared.command.Command.TheVariants as command
 use Rattle.season_book.specs.declared.part.Part.{Part}
@@ -21,6 +22,16 @@ use Rattle.season_running.specs.Standing.{Running}
 abbrev pub managers_with : List Manager → Command → List Manager
 managers_with managers (command.Key key name) = managers ++ new_manager key name ∷ []
 managers_with managers command = managers
+
+-- the managers where one has the key and the name that a command gives him
+abbrev pub managers_rekeyed : List Manager → Command → List Manager
+managers_rekeyed managers (command.Rekey e key name) = rekeyed managers e key name
+managers_rekeyed managers command = managers
+
+-- the facts where a player has the name and the position that a command gives him
+abbrev pub facts_with : Facts → Command → Facts
+facts_with facts (command.AmendPlayer p name position) = facts_amended facts (record { player = p; name = name; position = position })
+facts_with facts command = facts
 
 -- managers who play by these rules
 abbrev pub played_by : Profile → List Manager → Managers
@@ -37,10 +48,12 @@ pub record IsByManager (e : ℕ) (old new : Running) : Type 0 where
       → RowsStayBefore (next_gameweek old.facts.calendar) e (played_by profile old.managers) (played_by profile new.managers)
 
 -- entry e's command on this part was done: the facts, the leagues or the cups go on as it says, or it adds a manager behind
--- the others, and the other parts stay
+-- the others, or gives one another key or a player another position, and the other parts stay
 abbrev pub IsChangedIn : Part → ℕ → Command → Running → Running → Type 0
 IsChangedIn part.Facts e command old new = new ≡ record old { facts = changed_by old.facts command }
+IsChangedIn part.Players e command old new = new ≡ record old { facts = facts_with old.facts command }
 IsChangedIn part.Entries e command old new = new ≡ record old { managers = managers_with old.managers command }
+IsChangedIn part.Keys e command old new = new ≡ record old { managers = managers_rekeyed old.managers command }
 IsChangedIn part.Deeds e command old new = IsByManager e old new
 IsChangedIn part.Leagues e command old new = new ≡ record old { leagues = leagues_after old.leagues e command }
 IsChangedIn part.Cups e command old new = new ≡ record old { cups = cups_after old.cups command }

@@ -20,7 +20,7 @@ ghost use Rattle.season_entries.specs.Deeds.{IsDeedGranted};
 ghost use Rattle.season_entries.specs.Keys.{keys_of};
 ghost use Rattle.season_book.specs.Hosts.{entry_with};
 ghost use Rattle.season_facts.specs.Judged.{CountsJudged};
-ghost use Rattle.season_running.specs.Accepting.{HasRoom, IsDone, IsGrantedTo, IsRefusal, IsRuled, made_by};
+ghost use Rattle.season_running.specs.Accepting.{HasRoom, IsAmendable, IsOpen, IsDone, IsGrantedTo, IsRefusal, IsRuled, made_by};
 ghost use Rattle.season_running.specs.Changed.{IsChangedBy};
 ghost use Rattle.season_running.specs.Kept.{AreKeptBy};
 ghost use Rattle.season_running.specs.EntryLaws.{IsOrderly};
@@ -34,8 +34,9 @@ use manager_book::ManagerBook;
 use season_book::{Answer, Command, Made, Page, Part, Shown, View, Window};
 use season_competitions::{do_cup, do_league, judge_cup, judge_league, members_stay};
 use season_entries::{
-    do_deed, do_key, early_is_in_time, entries_are_issued, facts_leave_entries, judge_deed,
-    judge_key, moments_leave_entries, owners_are_alike,
+    amendments_leave_entries, do_deed, do_key, do_rekey, early_is_in_time, entries_are_issued,
+    facts_leave_entries, judge_amend, judge_deed, judge_key, judge_rekey, moments_leave_entries,
+    owners_are_alike,
 };
 use season_facts::Season;
 use season_graph::SeasonCells;
@@ -198,7 +199,9 @@ impl RunningSeason {
     {
         match command.part() {
             Part::Facts => self.season.judge(now, command, steps),
+            Part::Players => self.judge_amend(command),
             Part::Entries => self.judge_entry(operator, command),
+            Part::Keys => self.judge_rekey(operator, command),
             Part::Deeds => self.judge_deed(caller, command),
             Part::Leagues => self.judge_league(caller, command),
             Part::Cups => self.judge_cup(command),
@@ -219,6 +222,42 @@ impl RunningSeason {
                 Ok(()) => Ok(()),
                 Err(rule) => Err(Answer::Rule(rule)),
             },
+            _ => Err(Answer::Unknown),
+        }
+    }
+
+    // The same of another key of an entry.
+    fn judge_rekey(&self, operator: &Key, command: &Command) -> Result<(), Answer>
+        requires { part_of command.now ≡ part.Keys }
+        ensures granted { (now : ℕ) (caller : Caller)
+            → OnOk result (IsGrantedTo self.now caller now command.now) }
+        ensures ruled { (now : ℕ) (caller : Caller) (book : Book) → Plays self.now book
+            → IsRuled (ruled operator.now book caller now command.now) result }
+        ensures refusal { IfErr result IsRefusal }
+    {
+        match command {
+            Command::Rekey { entry, key, .. } => {
+                judge_rekey(operator, &self.managers, *entry, key)
+            }
+            _ => Err(Answer::Unknown),
+        }
+    }
+
+    // The same of another name and another position of a player.
+    fn judge_amend(&self, command: &Command) -> Result<(), Answer>
+        requires { part_of command.now ≡ part.Players }
+        ensures granted { (now : ℕ) (caller : Caller)
+            → OnOk result (IsGrantedTo self.now caller now command.now) }
+        ensures ruled { (operator : List ℕ) (now : ℕ) (caller : Caller) (book : Book) → Plays self.now book
+            → IsRuled (ruled operator book caller now command.now) result }
+        ensures refusal { IfErr result IsRefusal }
+    {
+        match command {
+            Command::AmendPlayer {
+                player,
+                position,
+                ..
+            } => judge_amend(&self.season, &self.managers, *player, *position),
             _ => Err(Answer::Unknown),
         }
     }
@@ -304,7 +343,9 @@ impl RunningSeason {
     {
         match command.part() {
             Part::Facts => self.change_facts(caller, now, command),
+            Part::Players => self.amend(command),
             Part::Entries => self.add_entry(command),
+            Part::Keys => self.rekey(command),
             Part::Deeds => self.do_deed(caller, command),
             Part::Leagues => self.do_league(caller, command),
             Part::Cups => self.do_cup(command),
@@ -346,6 +387,46 @@ impl RunningSeason {
                 Ok(_) => Ok(()),
                 Err(Memory) => Err(Memory),
             },
+            _ => Ok(()),
+        }
+    }
+
+    // Gives an entry the key and the name that a command orders.
+    fn rekey(&mut self, command: &Command) -> Result<(), Memory>
+        requires keys { part_of command.now ≡ part.Keys }
+        requires granted { IsOpen self.old.managers command.now }
+        ensures done { (now : ℕ) (caller : Caller)
+            → OnOk result (IsDone caller now command.now self.old self.new) }
+        ensures changed { (caller : Caller)
+            → OnOk result (IsChangedBy caller command.now self.old self.new) }
+        ensures err { OnErr result (self.new ≡ self.old) }
+    {
+        // The law that the members of leagues are entries, for the prover.
+        members_stay();
+        match command {
+            Command::Rekey { entry, key, name } => do_rekey(&mut self.managers, *entry, key, name),
+            _ => Ok(()),
+        }
+    }
+
+    // Gives a player the name and the position that a command orders.
+    fn amend(&mut self, command: &Command) -> Result<(), Memory>
+        requires players { part_of command.now ≡ part.Players }
+        requires granted { IsAmendable self.old.facts self.old.managers command.now }
+        ensures done { (now : ℕ) (caller : Caller)
+            → OnOk result (IsDone caller now command.now self.old self.new) }
+        ensures changed { (caller : Caller)
+            → OnOk result (IsChangedBy caller command.now self.old self.new) }
+        ensures err { OnErr result (self.new ≡ self.old) }
+    {
+        // The law that the entries stay, for the prover.
+        amendments_leave_entries();
+        match command {
+            Command::AmendPlayer {
+                player,
+                name,
+                position,
+            } => self.season.amend_player(*player, name, *position),
             _ => Ok(()),
         }
     }

@@ -22,4 +22,4 @@ returns-clause-counts g c =
       kept = record { host = c.answer-answer.new.self; moments = g.C.Clock.left c.now-now.new.self; failed = g.K.Keeper.faults c.answer-answer.new.keeper; keeper = c.answer-answer.new.keeper };
       reads = c.answer-answer.new.steps;
     })
-    c.args.caller c.now-now.result c.args.request.now c.now-now.ensures.told c.answer-answer.ensures.views c.answer-answer.ensures.looks
+    c.args.caller c.now-now.result c.args.request.now c.now-now.ensures.told c.answer-answer.ensures.views c.answer-answer.ensures.looks c.answer-answer.ensures.passes

@@ -28,7 +28,7 @@ pub returns-in-Ok-Load-clause-runs : goal.returns-in-Ok-Load-clause-runs
 returns-in-Ok-Load-clause-runs g c =
     let one = c.in-Ok-Load in
     let said = subst (λ (w : Words). ordered c.args.words.now ≡ Some w) one.field-0-is one.ensures.ordered in
-    runs_as _ _ g.K.Keeper.tells g.K.Keeper.serves g.K.Keeper.holds g.K.Keeper.passes g.K.Keeper.faults g.F.AskedShelf.one_read (ordered c.args.words.now) (order.Load one.key one.field-0-1 one.dir one.split one.profile) _ _ _ said (c.load.ensures.loaded, refl, refl)
+    runs_as _ _ g.K.Keeper.tells g.K.Keeper.serves g.K.Keeper.holds g.K.Keeper.passes g.K.Keeper.faults g.F.AskedShelf.one_read (ordered c.args.words.now) (order.Load one.key one.field-0-1 one.dir one.split one.profile one.more) _ _ _ said (c.load.ensures.loaded, refl, refl)
 
 pub returns-in-Ok-Report-clause-runs : goal.returns-in-Ok-Report-clause-runs
 returns-in-Ok-Report-clause-runs g c =

@@ -1,3 +1,4 @@
+use Rattle.lawful_entries.proofs.Amended.{amendments_keep_histories}
 use Rattle.lawful_entries.proofs.Deeds.{deeds_keep_histories}
 use Rattle.lawful_entries.proofs.Stay.{changes_keep_histories, empty_is_lawful, moments_keep_histories}
 use Rattle.lawful_entries.proofs.laws.histories_stay_lawful.Goals as goal
@@ -13,3 +14,6 @@ returns-clause-moment c = moments_keep_histories
 
 pub returns-clause-deed : goal.returns-clause-deed
 returns-clause-deed c = deeds_keep_histories
+
+pub returns-clause-amended : goal.returns-clause-amended
+returns-clause-amended c = amendments_keep_histories

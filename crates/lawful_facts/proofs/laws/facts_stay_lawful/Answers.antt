@@ -1,4 +1,4 @@
-use Rattle.lawful_facts.proofs.Keeping.{granted_are_lawful}
+use Rattle.lawful_facts.proofs.Keeping.{amendments_are_lawful, granted_are_lawful}
 use Rattle.lawful_facts.proofs.SeasonKept.{moments_are_lawful, new_seasons_are_lawful}
 use Rattle.lawful_facts.proofs.laws.facts_stay_lawful.Goals as goal
 
@@ -10,3 +10,6 @@ returns-clause-command c = granted_are_lawful
 
 pub returns-clause-moment : goal.returns-clause-moment
 returns-clause-moment c = moments_are_lawful
+
+pub returns-clause-amended : goal.returns-clause-amended
+returns-clause-amended c = amendments_are_lawful

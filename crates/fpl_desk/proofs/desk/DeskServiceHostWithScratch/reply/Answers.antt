@@ -46,10 +46,10 @@ returns-in-Ok-clause-answered g c =
       kept = record { host = c.answered.new.host.host; moments = g.C.Clock.left c.answered.new.clock; failed = g.K.Keeper.faults c.answered.new.keeper; keeper = c.answered.new.keeper };
       reads = c.answered.new.steps;
     } in (
-      route_counts _ (request_seen c.args.message.now) c.in-Route.route c.in-Route.ids c.in-Route.ensures old mid new (answer_in c.answered.result) refl
+      route_counts _ (request_seen c.args.message.now) c.in-Route.route c.in-Route.ids c.in-Route.ensures old mid new
           (λ fresh. counted_is _ mid old
           (kept_is _ g.K.Keeper.faults (g.C.Clock.left c.args.clock.now) _ _ _ _ (c.ready.ensures.fresh fresh).1 (c.ready.ensures.fresh fresh).2) (c.ready.ensures.still fresh))
-          c.answered.ensures.counts,
+          (answer_in c.answered.result) refl c.ready.ensures.reread c.answered.ensures.answered.reread c.answered.ensures.counts,
       asked_all (request_seen c.args.message.now) c.in-Route.route c.in-Route.ids c.in-Route.ensures _ g.K.Keeper.tells g.K.Keeper.serves g.K.Keeper.holds g.K.Keeper.passes old.kept mid.kept
           refl c.ready.ensures.operator
           (λ fresh. kept_is _ g.K.Keeper.faults (g.C.Clock.left c.args.clock.now) _ _ _ _ (c.ready.ensures.fresh fresh).1 (c.ready.ensures.fresh fresh).2)
@@ -69,7 +69,7 @@ returns-in-Err-clause-answered g c =
       kept = record { host = c.ready.new.self; moments = g.C.Clock.left c.args.clock.now; failed = g.K.Keeper.faults c.ready.new.keeper; keeper = c.ready.new.keeper };
       reads = c.ready.new.steps;
     } in (
-      looks_stale _ old mid (request_seen c.args.message.now) (answer_in c.unready.result) refl never,
+      looks_stale _ old mid (request_seen c.args.message.now) (answer_in c.unready.result) refl never (c.ready.ensures.reread stale),
       unready_all (request_seen c.args.message.now) c.in-Route.route c.in-Route.ids c.in-Route.ensures _ g.K.Keeper.tells g.K.Keeper.serves g.K.Keeper.holds g.K.Keeper.passes old.kept mid.kept
           refl c.ready.ensures.operator
           (λ fresh. kept_is _ g.K.Keeper.faults (g.C.Clock.left c.args.clock.now) _ _ _ _ (c.ready.ensures.fresh fresh).1 (c.ready.ensures.fresh fresh).2)

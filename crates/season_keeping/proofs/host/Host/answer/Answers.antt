@@ -5,7 +5,7 @@ use Rattle.season_book.specs.declared.answer.Answer.{Answer}
 use Rattle.season_running.specs.Standing.{HostRows}
 use Rattle.season_host.specs.Accepted.{locks_more}
 use Rattle.season_keeping.specs.Answering.{AreCorrectedBoth, HoldsKept, IsCaused, MayEnd, MayRest, ReadsFew, WouldChange}
-use Rattle.season_keeping.proofs.Counting.{cheap_from, few_from, leaves_from}
+use Rattle.season_keeping.proofs.Counting.{cheap_from, few_from, leaves_from, passes_as, passes_from}
 use Rattle.season_keeping.proofs.Acting.{backs_between, kept_of_commit, kept_of_ending, left_of_kept, stands_between, then_leads}
 use Rattle.season_keeping.proofs.Ending.{caused_fault, change_of_act, change_of_lock, fails_by, leads_map, may_behind, may_of_lock, ok_is}
 use Rattle.season_keeping.proofs.Leading.{is_fresh}
@@ -208,6 +208,14 @@ returns-in-Ok-clause-looks g c = λ is.
 
 pub returns-in-Err-clause-looks : goal.returns-in-Err-clause-looks
 returns-in-Err-clause-looks g c = λ is. is_fresh (locks_more c.args.self.now.rows.facts c.args.now) c.in-Err.ensures.more is
+
+pub returns-in-Ok-clause-passes : goal.returns-in-Ok-clause-passes
+returns-in-Ok-clause-passes g c =
+    passes_from _ c.args.request.now c.args.now c.lock.new.keeper c.answer_locked.new.keeper c.args.self.now.rows c.lock.new.self c.answer_locked.new.self
+    c.lock.ensures.rows c.answer_locked.ensures.looks
+
+pub returns-in-Err-clause-passes : goal.returns-in-Err-clause-passes
+returns-in-Err-clause-passes g c = passes_as c.args.request.now c.args.now c.args.self.now.rows c.lock.new.self.rows c.lock.ensures.rows
 
 pub returns-in-Ok-clause-locked : goal.returns-in-Ok-clause-locked
 returns-in-Ok-clause-locked g c = λ is fresh.

@@ -5,8 +5,14 @@ use Rattle.season_running.proofs.AnswerFacts.{weighed_refusal}
 use Rattle.season_running.proofs.JudgedFacts.{counts_none, is_on_facts}
 use Rattle.season_running.proofs.running.RunningSeason.judge.Goals as goal
 
+pub returns-in-Players-clause-ruled : goal.returns-in-Players-clause-ruled
+returns-in-Players-clause-ruled g c = λ book plays. c.judge_amend.ensures.ruled c.args.operator.now c.args.now c.args.caller.now book plays
+
 pub returns-in-Entries-clause-ruled : goal.returns-in-Entries-clause-ruled
 returns-in-Entries-clause-ruled g c = λ book plays. c.judge_entry.ensures.ruled c.args.now c.args.caller.now book plays
+
+pub returns-in-Keys-clause-ruled : goal.returns-in-Keys-clause-ruled
+returns-in-Keys-clause-ruled g c = λ book plays. c.judge_rekey.ensures.ruled c.args.now c.args.caller.now book plays
 
 pub returns-in-Deeds-clause-ruled : goal.returns-in-Deeds-clause-ruled
 returns-in-Deeds-clause-ruled g c = λ book plays. c.judge_deed.ensures.ruled c.args.operator.now c.args.now book plays
@@ -20,9 +26,19 @@ returns-in-Leagues-clause-ruled g c = λ book plays. c.judge_league.ensures.rule
 pub returns-in-Cups-clause-ruled : goal.returns-in-Cups-clause-ruled
 returns-in-Cups-clause-ruled g c = λ book plays. c.judge_cup.ensures.ruled c.args.operator.now c.args.now c.args.caller.now book plays
 
+pub returns-in-Players-clause-exact : goal.returns-in-Players-clause-exact
+returns-in-Players-clause-exact g c =
+    let other : part_of c.args.command.now ≡ part.Players = search rules in
+    counts_none c.args.command.now _ _ _ (ap is_on_facts other) refl
+
 pub returns-in-Entries-clause-exact : goal.returns-in-Entries-clause-exact
 returns-in-Entries-clause-exact g c =
     let other : part_of c.args.command.now ≡ part.Entries = search rules in
+    counts_none c.args.command.now _ _ _ (ap is_on_facts other) refl
+
+pub returns-in-Keys-clause-exact : goal.returns-in-Keys-clause-exact
+returns-in-Keys-clause-exact g c =
+    let other : part_of c.args.command.now ≡ part.Keys = search rules in
     counts_none c.args.command.now _ _ _ (ap is_on_facts other) refl
 
 pub returns-in-Deeds-clause-exact : goal.returns-in-Deeds-clause-exact

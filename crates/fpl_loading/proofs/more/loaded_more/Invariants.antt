@@ -1,0 +1,21 @@
+use Rattle.std.proofs.Common.{◌≡◌, ◌+◌, ◌≤◌, length, false, All}
+use Rattle.std.specs.Vec.Iter.{into_iter_items}
+use Rattle.season_book.specs.Commands.{IsCommand}
+use Rattle.fpl_desk.specs.Kept.{Leads}
+use Rattle.fpl_loading.proofs.AddingLemmas.{On}
+use Rattle.fpl_loading.proofs.more.loaded_more.Given as goal
+
+-- so many commands went, and the others are left
+abbrev pub invariant-loop-command : goal.invariant-loop-command
+invariant-loop-command g l =
+    record {
+      on : Leads g.K.Keeper.tells g.K.Keeper.serves g.K.Keeper.holds g.K.Keeper.passes
+          (record { host = l.fn.host; moments = g.C.Clock.left l.fn.clock; failed = g.K.Keeper.faults l.fn.keeper; keeper = l.fn.keeper })
+          (record { host = l.host; moments = g.C.Clock.left l.clock; failed = g.K.Keeper.faults l.keeper; keeper = l.keeper })
+          (On l.number (into_iter_items l.initial.command-iterator) (into_iter_items l.command-iterator) l.place l.tally);
+      fresh : l.host.stale ≡ false;
+      lawful : All IsCommand (into_iter_items l.command-iterator);
+      placed : l.place.row + length (into_iter_items l.command-iterator) ≤ length (into_iter_items l.initial.command-iterator);
+      unwritten : l.output ≡ l.fn.output;
+      later : g.K.Keeper.faults l.fn.keeper ≤ g.K.Keeper.faults l.keeper;
+    }

@@ -1,0 +1,25 @@
+use Rattle.std.proofs.Common.{◌≡◌, ◌<◌, ◌≤◌, ◌-◌, ◌+◌, ◌∙◌, ℕ, List, length, set, IfSome, arith, rules, subst, sym, ap}
+use Rattle.manager_book.specs.Managers.{Managers, entry_with, number_from, with_key}
+use Rattle.manager_book.proofs.Keys.{indexed_rekeyed, set_changed}
+use Rattle.manager_book.proofs.Risen.{risen_set}
+use Rattle.manager_book.proofs.book.ManagerBook.rekey.Goals as goal
+
+pub invariant_of-self : goal.invariant_of-self
+invariant_of-self c =
+    let managers = c.self.inside.managers.items in
+    let n : length c.args.self.now.managers ≡ length c.self.inside.managers.items = search rules in
+    let i : c.args.e ≤ length c.args.self.now.managers = c.requires.issued in
+    let lt : c.get.result - 1 < length c.self.inside.managers.items = omega arith in
+    let count : c.get-2.result ≡ 1 + (c.get.result - 1) = omega (arith, c.get.ensures.value, c.get-2.ensures.value, c.get.ensures.range) in
+    let own : IfSome (number_from 1 managers c.args.key) (λ owner. owner ≡ c.args.e) = subst (λ (old : Managers). IfSome (entry_with old c.args.key) (λ owner. owner ≡ c.args.e)) (sym c.self.view_is) c.requires.free in
+    let free : IfSome (number_from 1 managers c.args.key) (λ owner. owner ≡ c.get-2.result) = subst (λ (e : ℕ). IfSome (number_from 1 managers c.args.key) (λ owner. owner ≡ e)) (sym c.get-2.ensures.value) own in
+    record {
+      indexed = indexed_rekeyed c.self.inside.numbers c.renumber.new.numbers managers (c.get.result - 1) c.index_mut-manager.result.now c.args.key c.args.name c.get-2.result c.self.invariant.indexed lt (search rules) count free c.in_ok-renumber.ensures.ok;
+      risen = risen_set managers (c.get.result - 1) (record { key = c.args.key; name = c.args.name; season = c.index_mut-manager.result.now.season; sales = c.index_mut-manager.result.now.sales }) c.self.invariant.risen c.keeps_rows.ensures;
+    }
+
+pub returns-clause-ok : goal.returns-clause-ok
+returns-clause-ok c =
+    let place : c.args.e ≡ 1 + (c.get.result - 1) = omega (arith, c.get.ensures.value, c.get.ensures.range) in
+    let changed = set_changed c.args.key c.args.name c.self.inside.managers.items (c.get.result - 1) c.index_mut-manager.result.now (search rules) in
+    search (rules, changed, place)
