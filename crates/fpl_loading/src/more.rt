@@ -87,7 +87,16 @@ pub fn loaded_more<W: Sink, C: Clock, K: Keeper, L: Ledger>(
     for command in commands {
         let here = place_behind(place, &command);
         place = here;
-        match step(alloc, host, tally.number, here, command, clock, keeper, steps) {
+        match step(
+            alloc,
+            host,
+            tally.number,
+            here,
+            command,
+            clock,
+            keeper,
+            steps,
+        ) {
             Ok(added) => {
                 if tally.count(&added).is_err() {
                     return out_of_memory();

@@ -133,7 +133,7 @@ fn is_same_club(season: &[(ClubId, Name)], row: &(ClubId, Name)) -> bool
 {
     season
         .iter()
-        .any(|club| club.0 == row.0 && club.1.as_bytes() == row.1.as_bytes())
+        .any(|club| club.0 == row.0 && club.1.bytes() == row.1.bytes())
 }
 
 fn is_same_player(
@@ -145,7 +145,7 @@ fn is_same_player(
 ) -> bool
     ensures { result ≡ is_same_player player.now name.now position club price }
 {
-    player.name.as_bytes() == name.as_bytes()
+    player.name.bytes() == name.bytes()
         && is_same_position(player.position, position)
         && player.club == club
         && player.price.get() == u32::from(price)
