@@ -13,7 +13,7 @@ neither false b none = (refl, none)
 neither true b none = absurd (false≢true (sym none))
 
 pub nor : (a b : Bool) → a ≡ false → b ≡ false → (a || b) ≡ false
-nor a b no none = rw no none
+nor a b left right = ap (λ t. t || b) left ∙ right
 
 module _ (p : ℕ) where
   not_priced : (squad : List Holding) → list_any (λ k. k.player == p) squad ≡ false → prices_among p squad ≡ []
