@@ -99,11 +99,11 @@ abbrev pub RunsAs : {K F : Type 0} → (K → Type 0) → (K → Type 0) → (K 
 RunsAs tells serves holds passes faults once (Some (order.Score profile)) old new status =
     Scored profile old.left new.left old.taken new.taken status × LeavesHost old new
 RunsAs tells serves holds passes faults once (Some (order.Pipe key store)) old new status =
-    Pipes tells serves holds passes faults old.keeper new.keeper key old.left new.left old.moments new.moments old.taken new.taken status
+    Pipes tells serves holds passes faults old.keeper new.keeper key old.left new.left old.moments new.moments old.taken new.taken status old.reads new.reads
     × PipeCounts tells holds passes old.keeper new.keeper key old.left new.left old.moments new.moments old.reads new.reads
     × LeavesDoors old new × LeavesFiles old new
 RunsAs tells serves holds passes faults once (Some (order.Serve key port clients connections pages store)) old new status =
-    Serves tells serves holds passes faults old.keeper new.keeper key connections old.doors new.doors old.moments new.moments old.taken new.taken status
+    Serves tells serves holds passes faults old.keeper new.keeper key connections old.doors new.doors old.moments new.moments old.taken new.taken status old.reads new.reads
     × ServeCounts tells holds passes old.keeper new.keeper key connections old.doors new.doors old.moments new.moments old.reads new.reads
     × LeavesInput old new × LeavesFiles old new
 RunsAs tells serves holds passes faults once (Some (order.Load key store folder split profile more)) old new status =
