@@ -158,8 +158,8 @@ module _ (operator : List ℕ) (book : Managers) (e : ℕ) (key : List ℕ) wher
   pub rekey_taken : (owner : ℕ) → 1 ≤ e → e ≤ length book.managers → bytes_eq operator key ≡ false → entry_with book key ≡ Some owner → owner ≢ e
       → rekey_broken operator book.managers e key ≡ Some (answer.Rule rules.KeyThere)
   rekey_taken owner one few other is apart =
-      let no : (owner == e) ≡ false = grind (arith, nat_tests, apart) in
-      here one few ∙ ap (λ b. by_owner b (entry_with book key)) other ∙ ap (by_owner false) is ∙ ap (λ b. option_map answer.Rule (unless b rules.KeyThere)) no
+      let another : (owner == e) ≡ false = grind (arith, nat_tests, apart) in
+      here one few ∙ ap (λ b. by_owner b (entry_with book key)) other ∙ ap (by_owner false) is ∙ ap (λ b. option_map answer.Rule (unless b rules.KeyThere)) another
 
   -- it is nobody's, or its own
   pub rekey_free : 1 ≤ e → e ≤ length book.managers → bytes_eq operator key ≡ false → IfSome (entry_with book key) (λ owner. owner ≡ e) → rekey_broken operator book.managers e key ≡ None
@@ -176,11 +176,11 @@ issued_by : (players : List Player) (managers : List Manager) (entries : List En
 issued_by players managers entries zero a = refl
 issued_by players managers entries (suc n) a = elim (cases_lt (length managers) (suc n)) [
   | inl past ↦
-      let no : nat_le (suc n) (length managers) ≡ false = grind (arith, nat_tests, past) in
-      no ∙ sym (ap is_some ((entries_issued players managers entries (suc n) a).none past))
+      let behind : nat_le (suc n) (length managers) ≡ false = grind (arith, nat_tests, past) in
+      behind ∙ sym (ap is_some ((entries_issued players managers entries (suc n) a).none past))
   | inr few ↦
-      let yes : nat_le (suc n) (length managers) ≡ true = grind (arith, nat_tests, few) in
-      yes ∙ sym (ap is_some ((entries_issued players managers entries (suc n) a).there (omega arith) few).1)
+      let within : nat_le (suc n) (length managers) ≡ true = grind (arith, nat_tests, few) in
+      within ∙ sym (ap is_some ((entries_issued players managers entries (suc n) a).there (omega arith) few).1)
 ]
 
 pub rekey_same : (operator key : List ℕ) (e : ℕ) (players : List Player) (managers : List Manager) (entries : List EntryFacts) → AreEntries players managers entries
