@@ -78,7 +78,7 @@ amend_granted facts managers p position (Ok value) are judged = by_tests (has_pl
 -- Nothing refuses it: the position is the same, or nobody has had him.
 
 module _ (facts : Facts) (p : ℕ) (position : Position) where
-  unbroken_as : Bool → Bool → Option Rule
+  abbrev unbroken_as : Bool → Bool → Option Rule
   unbroken_as same used = if same then None else if used then Some (rule.InUse p) else None
 
   pub no_use : (had : Bool) → is_same_position (position_in facts.players p) position ≡ false → use_refusal facts had p position ≡ None → (had || has_lines facts.matches p) ≡ false

@@ -121,6 +121,22 @@ in_time_with next key name (m ∷ managers) a = (a.0, in_time_with next key name
 
 -- Another key of an entry.
 
+-- a number is that of an entry where it is 1 at least, and so many are there
+is_number : (n most : ℕ) → 1 ≤ n → n ≤ most → (nat_le 1 n && nat_le n most) ≡ true
+is_number n most one few =
+    let first : nat_le 1 n ≡ true = grind (arith, nat_tests, one) in
+    let second : nat_le n most ≡ true = grind (arith, nat_tests, few) in
+    ap (λ b. b && nat_le n most) first ∙ second
+
+none_of_number : (n most : ℕ) → n ≡ 0 → (nat_le 1 n && nat_le n most) ≡ false
+none_of_number n most is = let first : nat_le 1 n ≡ false = grind (arith, nat_tests, is) in ap (λ b. b && nat_le n most) first
+
+past_number : (n most : ℕ) → most < n → (nat_le 1 n && nat_le n most) ≡ false
+past_number n most past =
+    let first : nat_le 1 n ≡ true = grind (arith, nat_tests, past) in
+    let second : nat_le n most ≡ false = grind (arith, nat_tests, past) in
+    ap (λ b. b && nat_le n most) first ∙ second
+
 module _ (operator : List ℕ) (book : Managers) (e : ℕ) (key : List ℕ) where
   abbrev broken_if : Bool → Option Answer
   broken_if there = if there then option_map answer.Rule (rekey_refusal operator (keys_of book.managers) e key) else Some answer.Unknown
@@ -131,24 +147,15 @@ module _ (operator : List ℕ) (book : Managers) (e : ℕ) (key : List ℕ) wher
 
   -- there is no such entry
   pub rekey_none : (e ≡ 0) → rekey_broken operator book.managers e key ≡ Some answer.Unknown
-  rekey_none is = ap broken_if (no_entry e (length book.managers) is)
-    where
-      no_entry : (n most : ℕ) → n ≡ 0 → (nat_le 1 n && nat_le n most) ≡ false
-      no_entry n most is = grind (arith, nat_tests, is)
+  rekey_none is = ap broken_if (none_of_number e (length book.managers) is)
 
   pub rekey_past : length book.managers < e → rekey_broken operator book.managers e key ≡ Some answer.Unknown
-  rekey_past past = ap broken_if (no_entry e (length book.managers) past)
-    where
-      no_entry : (n most : ℕ) → most < n → (nat_le 1 n && nat_le n most) ≡ false
-      no_entry n most past = grind (arith, nat_tests, past)
+  rekey_past past = ap broken_if (past_number e (length book.managers) past)
 
   here : 1 ≤ e → e ≤ length book.managers → rekey_broken operator book.managers e key ≡ by_owner (bytes_eq operator key) (entry_with book key)
   here one few =
-      ap broken_if (an_entry e (length book.managers) one few)
+      ap broken_if (is_number e (length book.managers) one few)
       ∙ ap (λ o. option_map answer.Rule (unless (is_open_to e (cond (bytes_eq operator key) (Some Operator) o)) rules.KeyThere)) (owners_alike book key)
-    where
-      an_entry : (n most : ℕ) → 1 ≤ n → n ≤ most → (nat_le 1 n && nat_le n most) ≡ true
-      an_entry n most one few = grind (arith, nat_tests, one, few)
 
   -- it is the operator's
   pub rekey_own : 1 ≤ e → e ≤ length book.managers → bytes_eq operator key ≡ true → rekey_broken operator book.managers e key ≡ Some (answer.Rule rules.KeyThere)
@@ -176,11 +183,11 @@ issued_by : (players : List Player) (managers : List Manager) (entries : List En
 issued_by players managers entries zero a = refl
 issued_by players managers entries (suc n) a = elim (cases_lt (length managers) (suc n)) [
   | inl past ↦
-      let behind : nat_le (suc n) (length managers) ≡ false = grind (arith, nat_tests, past) in
-      behind ∙ sym (ap is_some ((entries_issued players managers entries (suc n) a).none past))
+      past_number (suc n) (length managers) past
+      ∙ sym (ap is_some ((entries_issued players managers entries (suc n) a).none past))
   | inr few ↦
-      let within : nat_le (suc n) (length managers) ≡ true = grind (arith, nat_tests, few) in
-      within ∙ sym (ap is_some ((entries_issued players managers entries (suc n) a).there (omega arith) few).1)
+      is_number (suc n) (length managers) (omega arith) few
+      ∙ sym (ap is_some ((entries_issued players managers entries (suc n) a).there (omega arith) few).1)
 ]
 
 pub rekey_same : (operator key : List ℕ) (e : ℕ) (players : List Player) (managers : List Manager) (entries : List EntryFacts) → AreEntries players managers entries

@@ -1,4 +1,4 @@
-use Rattle.std.proofs.Common.{◌≡◌, ◌≢◌, ◌<◌, ◌≤◌, ◌∙◌, ℕ, Option, Some, None, IfSome, length, arith, rules, subst, sym, tt}
+use Rattle.std.proofs.Common.{◌≡◌, ◌≢◌, ◌<◌, ◌≤◌, ◌∙◌, ℕ, Option, Some, None, IfSome, length, arith, rules, subst, sym}
 use Rattle.manager_book.specs.Managers.{entry_with}
 use Rattle.season_entries.proofs.Keyed.{rekey_free, rekey_none, rekey_own, rekey_past, rekey_taken}
 use Rattle.season_entries.proofs.keys.judge_rekey_by_keys.Goals as goal
