@@ -27,12 +27,16 @@ amendment command = None
 abbrev pub have_had : List EntryFacts → ℕ → Bool
 have_had entries p = list_any (λ entry. has_had entry.history p) entries
 
--- why he is refused another position, where an entry has had him or not: he is in use
-abbrev pub position_refusal : Facts → Bool → Amendment → Option Rule
-position_refusal facts had given =
-    if is_same_position (position_in facts.players given.player) given.position then None
-    else if had || has_lines facts.matches given.player then Some (rule.InUse given.player)
+-- why a player is refused a position, where an entry has had him or not: it is another one, and he is in use
+abbrev pub use_refusal : Facts → Bool → ℕ → Position → Option Rule
+use_refusal facts had p position =
+    if is_same_position (position_in facts.players p) position then None
+    else if had || has_lines facts.matches p then Some (rule.InUse p)
     else None
+
+-- why he is refused the position that a command gives him
+abbrev pub position_refusal : Facts → Bool → Amendment → Option Rule
+position_refusal facts had given = use_refusal facts had given.player given.position
 
 -- the facts with his new name and his new position
 abbrev pub facts_amended : Facts → Amendment → Facts

@@ -29,10 +29,10 @@ use Rattle.manager_book.specs.declared.manager.Manager.{Manager}
 use Rattle.manager_book.specs.Managers.{manager_had, managers_had, sales_name}
 use Rattle.season_book.specs.Book.{EntryFacts, Facts}
 use Rattle.season_book.specs.Commands.{has_player}
-use Rattle.season_book.specs.PlayerCommands.{have_had}
+use Rattle.season_book.specs.PlayerCommands.{have_had, use_refusal}
 use Rattle.season_book.specs.declared.answer.Answer.{Answer}
 use Rattle.season_book.specs.declared.answer.Answer.TheVariants as answer
-use Rattle.season_entries.specs.Amended.{AmendmentsLeaveEntries, CanAmend, IsAmendJudgedByBooks, amend_answer, amend_broken, use_refusal}
+use Rattle.season_entries.specs.Amended.{AmendmentsLeaveEntries, CanAmend, IsAmendJudgedByBooks, amend_answer, amend_broken}
 use Rattle.season_entries.specs.Deeds.{IsAnswered}
 use Rattle.season_entries.specs.Entries.{AreEntries}
 use Rattle.season_entries.proofs.Had.{managers_have_had, row_none}

@@ -1,31 +1,19 @@
 -- Another name and another position of a player, by what managers keep.
-use Rattle.std.specs.Prelude.{◌≡◌, ℕ, Bool, List, Option, Some, None, Result, ◌||◌, if◌then◌else◌, true}
+use Rattle.std.specs.Prelude.{◌≡◌, ℕ, Bool, List, Option, Some, None, Result, if◌then◌else◌, true}
 use Rattle.std.specs.Option.{option_map}
 use Rattle.fpl_base.specs.declared.kinds.Position.{Position}
-use Rattle.fpl_base.specs.declared.rule.Rule.{Rule}
-use Rattle.fpl_base.specs.declared.rule.Rule.TheVariants as rule
-use Rattle.rule_book.specs.Batch.{is_same_position}
-use Rattle.rule_book.specs.PlayerFigures.{position_in}
 use Rattle.rule_book.specs.Players.{ArePlayers, with_details}
-use Rattle.rule_book.specs.Uses.{has_lines}
 use Rattle.manager_book.specs.declared.manager.Manager.{Manager}
 use Rattle.manager_book.specs.Managers.{managers_had}
 use Rattle.season_book.specs.Book.{EntryFacts, Facts}
 use Rattle.season_book.specs.Commands.{has_player}
-use Rattle.season_book.specs.PlayerCommands.{have_had}
+use Rattle.season_book.specs.PlayerCommands.{have_had, use_refusal}
 use Rattle.season_book.specs.declared.answer.Answer.{Answer}
 use Rattle.season_book.specs.declared.answer.Answer.TheVariants as answer
 use Rattle.season_entries.specs.Deeds.{IsAnswered}
 use Rattle.season_entries.specs.Entries.{AreEntries}
 
--- why a player is refused a position, where an entry has had him or not: it is another one, and he is in use
-abbrev pub use_refusal : Facts → Bool → ℕ → Position → Option Rule
-use_refusal facts had p position =
-    if is_same_position (position_in facts.players p) position then None
-    else if had || has_lines facts.matches p then Some (rule.InUse p)
-    else None
-
--- the answer that refuses it, if one does: he is not there, or he is in use
+-- the answer that refuses a player a position, if one does: he is not there, or he is in use
 abbrev pub amend_answer : Facts → Bool → ℕ → Position → Option Answer
 amend_answer facts had p position = if has_player facts p then option_map answer.Rule (use_refusal facts had p position) else Some answer.Unknown
 

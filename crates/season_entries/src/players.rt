@@ -4,7 +4,8 @@ ghost use Rattle.rule_book.specs.Batch.{is_same_position};
 ghost use Rattle.rule_book.specs.PlayerFigures.{position_in};
 ghost use Rattle.rule_book.specs.Refusals.{IsJudged};
 ghost use Rattle.manager_book.specs.Managers.{managers_had};
-ghost use Rattle.season_entries.specs.Amended.{AmendmentsLeaveEntries, CanAmend, IsAmendJudgedByBooks, amend_broken, use_refusal};
+ghost use Rattle.season_book.specs.PlayerCommands.{use_refusal};
+ghost use Rattle.season_entries.specs.Amended.{AmendmentsLeaveEntries, CanAmend, IsAmendJudgedByBooks, amend_broken};
 ghost use Rattle.season_entries.specs.Deeds.{IsAnswered};
 
 use fpl_base::{PlayerId, Position, Rule};
@@ -71,7 +72,8 @@ fn judge_amend_by_rows(
 
 /// The answer that refuses a player this position, and with it any name; `Ok` where nothing does. It takes no memory.
 /// `Unknown` refuses it where there is no such player, and then `InUse` where the position is another one and an entry has
-/// had him, a transfer names him or he has a line.
+/// had him, a transfer names him or he has a line. Only where the position is another one are the rows and the transfers of
+/// all entries gone through, and the lines of all fixtures.
 pub fn judge_amend(
     season: &Season,
     managers: &ManagerBook,

@@ -21,6 +21,7 @@ use Rattle.season_book.specs.Doing.{IsGrant, IsGranted, IsGrantedIn, IsOutLate, 
 use Rattle.season_book.specs.EntryCommands.{names_players}
 use Rattle.season_book.specs.KeyCommands.{rekey_refusal}
 use Rattle.season_book.specs.LeagueCommands.{cup_broken, cup_drawn, cup_there, league_refusal, leagues_there}
+use Rattle.season_book.specs.PlayerCommands.{use_refusal}
 use Rattle.season_book.specs.Verdict.{Failures, IsRepeat, IsVerdictIn, MayAnswer, Outcome, Verdict, accepted, begun, fresh_verdict, judged, number_refusal, pass, ruled, settled, shown_or_unknown, unless_misnumbered, unless_refused, view_answer}
 use Rattle.season_book.specs.declared.answer.Answer.{Answer}
 use Rattle.season_book.specs.declared.answer.Answer.TheVariants as answer
@@ -30,7 +31,7 @@ use Rattle.season_book.specs.declared.request.View.{View}
 use Rattle.season_book.specs.declared.shown.Shown.{Shown}
 use Rattle.season_competitions.specs.Cups.{cup_answer_by, draw_answer}
 use Rattle.season_competitions.specs.Leagues.{league_answer_by}
-use Rattle.season_entries.specs.Amended.{amend_broken, use_refusal}
+use Rattle.season_entries.specs.Amended.{amend_broken}
 use Rattle.season_entries.specs.Deeds.{IsAnswered, deed_answer}
 use Rattle.season_entries.specs.Keys.{keys_of, rekey_broken}
 use Rattle.season_entries.specs.Known.{is_issued_by, is_registered_by}
