@@ -18,7 +18,7 @@ use Rattle.fpl_bodies.specs.declared.field.FieldName.{FieldName}
 use Rattle.fpl_routes.specs.declared.route.Route.{Route}
 use Rattle.fpl_http.specs.Stream.{Request}
 use Rattle.fpl_replies.specs.Isolation.{AreAlike, MessagesAreIsolated}
-use Rattle.fpl_replies.specs.Replying.{Asking, IsJudged, IsRebuildFault, Judges, RepliesAlong, RepliesTo, Reply, Served, Way, asked_along, asked_by, caller_of, error_reply, failures_in, full_reply, reply_of, shown_by, unless_malformed}
+use Rattle.fpl_replies.specs.Replying.{Asking, Goes, IsJudged, IsRebuildFault, Judges, RepliesAlong, RepliesTo, Reply, Served, Way, asked_along, asked_by, caller_of, error_reply, failures_in, full_reply, reply_of, shown_by, unless_malformed}
 
 -- who asks is whose key was shown
 
@@ -102,12 +102,12 @@ module _ (law : AnswersAreIsolated) (message : Request) (reply : Reply) (fits : 
           )
       by_judged (inr (out, left)) = absurd (fits (full_is reply out))
 
-  replied : (old other new : Served) (asking : Asking) (way : Way) → AreAlike message old other → asking ≡ asked_along old.host message way
+  replied : (old other new : Served) (asking : Asking) (way : Way) → Goes message way → AreAlike message old other → asking ≡ asked_along old.host message way
       → RepliesTo asking old reply new → (left : Served) × RepliesTo asking other reply left
-  replied old other new (Err refusal) way alike is (same, told) = (other, (refl, told))
-  replied old other new (Ok (caller, request)) way alike is (inl (same, out)) = absurd (fits (full_is reply out))
-  replied old other new (Ok (caller, request)) way alike is (inr judges) =
-      let led = answered old other new caller request alike (asks_along old.host message way caller request is) (alike.uses caller request way is) judges in
+  replied old other new (Err refusal) way goes alike is (same, told) = (other, (refl, told))
+  replied old other new (Ok (caller, request)) way goes alike is (inl (same, out)) = absurd (fits (full_is reply out))
+  replied old other new (Ok (caller, request)) way goes alike is (inr judges) =
+      let led = answered old other new caller request alike (asks_along old.host message way caller request is) (alike.uses caller request (way, goes, is)) judges in
       (led.0, inr led.1)
 
   -- nothing that keeps a host from being made ready is replied
@@ -116,12 +116,12 @@ module _ (law : AnswersAreIsolated) (message : Request) (reply : Reply) (fits : 
   was_ready old new (inr (inl (is, rose))) = kept (status_is reply answer.Keeper is)
   was_ready old new (inr (inr (key, is, damage))) = whole (status_is reply (answer.Damaged key) is)
 
-  along : (old other new : Served) (way : Way) → AreAlike message old other → RepliesAlong way old message reply new → (left : Served) × RepliesAlong way other message reply left
-  along old other new (Err refusal) alike (same, told) = (other, (refl, told))
-  along old other new (Ok (route, ids)) alike (inl fails) = absurd (was_ready old new fails.cause)
-  along old other new (Ok (route, ids)) alike (inr (ready, is, to)) =
+  along : (old other new : Served) (way : Way) → Goes message way → AreAlike message old other → RepliesAlong way old message reply new → (left : Served) × RepliesAlong way other message reply left
+  along old other new (Err refusal) goes alike (same, told) = (other, (refl, told))
+  along old other new (Ok (route, ids)) goes alike (inl fails) = absurd (was_ready old new fails.cause)
+  along old other new (Ok (route, ids)) goes alike (inr (ready, is, to)) =
       let asking : Served → Asking = λ s. asked_along s.host message (Ok (route, ids)) in
-      let led = replied (ready_of old) (ready_of other) new (asking old) (Ok (route, ids)) (ready_alike message old other alike) refl
+      let led = replied (ready_of old) (ready_of other) new (asking old) (Ok (route, ids)) goes (ready_alike message old other alike) refl
       (subst (λ (s : Served). RepliesTo (asking s) s reply new) is to) in (
         led.0,
         inr (
@@ -133,5 +133,5 @@ module _ (law : AnswersAreIsolated) (message : Request) (reply : Reply) (fits : 
 
 pub messages_isolated : AnswersAreIsolated → MessagesAreIsolated
 messages_isolated law old new other message reply alike fits kept whole (way, goes, to) =
-    let led = along law message reply fits kept whole old other new way alike to in
+    let led = along law message reply fits kept whole old other new way goes alike to in
     (led.0, (way, goes, led.1))

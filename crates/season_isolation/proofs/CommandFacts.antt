@@ -1,20 +1,25 @@
 -- What a caller's command leads books to that are the same to him.
-use Rattle.std.proofs.Common.{◌≡◌, ◌+◌, ℕ, Bool, true, false, not, if◌then◌else◌, nat_lt, List, [], ◌∷◌, ◌++◌, Option, Some, None, length, arith, refl, sym, ap, ◌∙◌, subst}
+use Rattle.std.proofs.Common.{◌≡◌, ◌+◌, ℕ, Bool, true, false, not, ◌||◌, ◌&&◌, if◌then◌else◌, nat_lt, List, [], ◌∷◌, ◌++◌, Option, Some, None, length, arith, refl, sym, ap, ◌∙◌, subst}
 use Rattle.std.specs.Prelude.{Result, Ok, Err, is_some}
 use Rattle.std.specs.Option.{option_map, option_map_or}
 use Rattle.std.proofs.lemmas.Bool.Decides.{nat_tests}
+use Rattle.std.proofs.lemmas.Option.{same_Some}
 use Rattle.fpl_base.specs.declared.kinds.Caller.{Caller}
 use Rattle.fpl_base.specs.declared.rule.Rule.{Rule}
 use Rattle.fpl_base.specs.declared.rule.Rule.TheVariants as rule
 use Rattle.rule_book.specs.declared.cup.Bracket.{Bracket}
+use Rattle.rule_book.specs.Batch.{is_same_position}
 use Rattle.rule_book.specs.ById.{at_id, placed_at}
 use Rattle.rule_book.specs.Entries.{entry_in, most_entries}
 use Rattle.rule_book.specs.History.{Event}
 use Rattle.rule_book.specs.Leagues.{LeagueFacts}
+use Rattle.rule_book.specs.PlayerFigures.{position_in}
 use Rattle.rule_book.specs.Refusals.{first_broken, unless}
+use Rattle.rule_book.specs.UpTo.{AgreeUpTo}
+use Rattle.rule_book.specs.Uses.{has_lines}
 use Rattle.rule_book.proofs.AtId.{placed_same}
 use Rattle.season_book.specs.Book.{Book, EntryFacts, Facts, Last, caller_number}
-use Rattle.season_book.specs.Commands.{part_of}
+use Rattle.season_book.specs.Commands.{has_player, part_of}
 use Rattle.season_book.specs.declared.command.Command.{Command}
 use Rattle.season_book.specs.declared.command.Command.TheVariants as command
 use Rattle.season_book.specs.declared.made.Made.TheVariants as made
@@ -24,15 +29,12 @@ use Rattle.season_book.specs.EntryCommands.{deed_refusal, history_after, names_p
 use Rattle.season_book.specs.Hosts.{caller_with, keys_of}
 use Rattle.season_book.specs.KeyCommands.{NewKey, entries_rekeyed, key_given, rekey_refusal}
 use Rattle.season_book.specs.LeagueCommands.{cup_broken, cup_drawn, cup_made, cup_there, is_issued, is_registered, league_made, league_refusal, leagues_after, leagues_there}
-use Rattle.season_book.specs.Commands.{has_player}
 use Rattle.season_book.specs.PlayerCommands.{Amendment, amendment, facts_amended, have_had, position_refusal}
 use Rattle.season_book.specs.Verdict.{Outcome, amend_ruled, amends_ruled, cup_ruled, cups_ruled, in_season, judged, key_refusal, key_ruled, keyed, keys_ruled, leagues_ruled, locked_at, pass, ruled, ruled_by, ruled_for, ruled_in, ruled_of, unless_broken, with_entry, with_history}
 use Rattle.season_book.specs.declared.answer.Answer.{Answer}
 use Rattle.season_book.specs.declared.answer.Answer.TheVariants as answer
-use Rattle.std.proofs.lemmas.Option.{same_Some}
-use Rattle.rule_book.specs.UpTo.{AgreeUpTo}
 use Rattle.season_isolation.specs.Agree.{Agree, EntriesAlike, SameWhereLocked}
-use Rattle.season_isolation.specs.Isolation.{CommandsAreIsolated, RuledAlike, SameUse}
+use Rattle.season_isolation.specs.Isolation.{CommandsAreIsolated, RuledAlike, SameUse, asks_entries}
 use Rattle.season_isolation.proofs.EntriesFacts.{as_many, by_other_facts, issued_alike, keys_alike, one_goes_on, one_more, one_rekeyed, own_goes_on, own_of_more, own_rekeyed, registered_alike}
 use Rattle.season_isolation.proofs.LockFacts.{locks_again, still_locked}
 
@@ -53,6 +55,19 @@ record Behind (caller : Caller) (now : ℕ) (book other : Book) : Type 0 where
 same_key_refusal : (operator key : List ℕ) (entries others : List EntryFacts) → length entries ≡ length others → keys_of entries ≡ keys_of others → key_refusal operator entries key ≡ key_refusal operator others key
 same_key_refusal operator key entries others many keys =
     λ i. first_broken (unless (nat_lt (many i) most_entries) rule.EntriesFull ∷ unless (not (is_some (caller_with operator (keys i) key))) rule.KeyThere ∷ [])
+
+-- two who are told apart only where it is asked are refused alike
+refused_alike : (same lines had also : Bool) (broken : Rule) → ((not same && not lines) ≡ true → had ≡ also)
+    → (if same then None else if had || lines then Some broken else None) ≡ (if same then None else if also || lines then Some broken else None)
+refused_alike true lines had also broken alike = refl
+refused_alike false true true true broken alike = refl
+refused_alike false true true false broken alike = refl
+refused_alike false true false true broken alike = refl
+refused_alike false true false false broken alike = refl
+refused_alike false false had also broken alike = ap (λ b. if b || false then Some broken else None) (alike refl)
+
+both_true : (a b : Bool) → a ≡ true → b ≡ true → (a && b) ≡ true
+both_true a b one two = subst (λ x. (x && b) ≡ true) (sym one) two
 
 module _ (operator : List ℕ) (caller : Caller) (now number : ℕ) (order : Command) (book other : Book) (a : Agree caller now book other) (use_same : SameUse order book other) where
   abbrev one : Book
@@ -218,15 +233,32 @@ module _ (operator : List ℕ) (caller : Caller) (now number : ℕ) (order : Com
     own = a.own;
   })
 
+  -- what is asked of the entries is what was asked before the moment was told
+  asked_before : (some : Option Facts) (facts : Facts) → option_map (locked_at now) some ≡ Some facts → (given : Amendment) → asks_entries some given ≡ asks_entries (Some facts) given
+  asked_before None facts is given = cc
+  asked_before (Some before) facts is given =
+      subst (λ (f : Facts). asks_entries (Some before) given ≡ asks_entries (Some f) given) (same_Some (locked_at now before) facts is) refl
+
+  told_of_entries : (c : Command) → SameUse c book other → (given : Amendment) → amendment c ≡ Some given → asks_entries book.facts given ≡ true
+      → have_had one.entries given.player ≡ have_had two.entries given.player
+  told_of_entries (command.AmendPlayer p name position) same given orders =
+      subst (λ (g : Amendment). asks_entries book.facts g ≡ true → have_had one.entries g.player ≡ have_had two.entries g.player)
+      (same_Some (record { player = p; name = name; position = position }) given orders) same
+  told_of_entries c same given orders = cc
+
+  amended_by : (facts : Facts) → one.facts ≡ Some facts → (given : Amendment) (there : Bool) (broken also : Option Rule) → (there ≡ true → broken ≡ also)
+      → Same (amended_if there broken one facts given) (amended_if there also two facts given)
+  amended_by facts is given false broken also same = refl
+  amended_by facts is given true broken also same =
+      subst (λ r. Same (amended_if true broken one facts given) (amended_if true r two facts given)) (same refl) (amended_alike facts is true broken given)
+
   amend_alike : (facts : Facts) → one.facts ≡ Some facts → (given : Amendment) → amendment order ≡ Some given → Same (amend_ruled one facts given) (amend_ruled two facts given)
   amend_alike facts is given orders =
-      subst (λ had. Same (amend_ruled one facts given) (amended_if (has_player facts given.player) (position_refusal facts had given) two facts given)) (asked order use_same given orders)
-      (amended_alike facts is (has_player facts given.player) (position_refusal facts (have_had one.entries given.player) given) given)
-    where
-      asked : (c : Command) → SameUse c book other → (given : Amendment) → amendment c ≡ Some given → have_had one.entries given.player ≡ have_had two.entries given.player
-      asked (command.AmendPlayer p name position) same given orders =
-          subst (λ (g : Amendment). have_had one.entries g.player ≡ have_had two.entries g.player) (same_Some (record { player = p; name = name; position = position }) given orders) same
-      asked c same given orders = cc
+      amended_by facts is given (has_player facts given.player)
+      (position_refusal facts (have_had one.entries given.player) given) (position_refusal facts (have_had two.entries given.player) given)
+      (λ there. refused_alike (is_same_position (position_in facts.players given.player) given.position) (has_lines facts.matches given.player)
+      (have_had one.entries given.player) (have_had two.entries given.player) (rule.InUse given.player)
+      (λ asks. told_of_entries order use_same given orders (asked_before book.facts facts is given ∙ both_true _ _ there asks)))
 
   amends_of : (facts : Facts) → one.facts ≡ Some facts → (given : Option Amendment) → amendment order ≡ given
       → Same (option_map_or (amend_ruled one facts) given (Err answer.Unknown)) (option_map_or (amend_ruled two facts) given (Err answer.Unknown))

@@ -1,13 +1,16 @@
 -- No reply hangs on what another manager did in an open gameweek.
-use Rattle.std.specs.Prelude.{◌≡◌, ◌≢◌, ℕ, true, List, Result, Ok, Err, ⊤}
+use Rattle.std.specs.Prelude.{◌≡◌, ◌≢◌, ℕ, Bool, true, false, not, ◌&&◌, List, Option, Some, None, Result, Ok, Err, ⊤}
 use Rattle.fpl_base.specs.declared.kinds.Caller.{Caller}
-use Rattle.season_book.specs.Book.{Book, caller_number}
-use Rattle.season_book.specs.Commands.{part_of}
+use Rattle.rule_book.specs.Batch.{is_same_position}
+use Rattle.rule_book.specs.PlayerFigures.{position_in}
+use Rattle.rule_book.specs.Uses.{has_lines}
+use Rattle.season_book.specs.Book.{Book, Facts, caller_number}
+use Rattle.season_book.specs.Commands.{has_player, part_of}
 use Rattle.season_book.specs.declared.command.Command.{Command}
 use Rattle.season_book.specs.declared.command.Command.TheVariants as command
 use Rattle.season_book.specs.declared.part.Part.TheVariants as part
 use Rattle.season_book.specs.LeagueCommands.{is_registered}
-use Rattle.season_book.specs.PlayerCommands.{have_had}
+use Rattle.season_book.specs.PlayerCommands.{Amendment, have_had}
 use Rattle.season_book.specs.Verdict.{Failures, IsVerdict, MayAnswer, Outcome, Verdict, accepted, pass, ruled, view_answer}
 use Rattle.season_book.specs.declared.answer.Answer.{Answer}
 use Rattle.season_book.specs.declared.answer.Answer.TheVariants as answer
@@ -16,10 +19,20 @@ use Rattle.season_book.specs.declared.request.Request.TheVariants as request
 use Rattle.season_book.specs.declared.request.View.{View}
 use Rattle.season_isolation.specs.Agree.{Agree}
 
--- two books say the same of what a command asks of all entries: a change of a player's position asks whether one of them
--- has had him, and no other command asks anything
+-- whether another name and position of a player ask if an entry has had him: he is there, his position changes, and he has
+-- no line
+abbrev pub asks_entries : Option Facts → Amendment → Bool
+asks_entries None given = false
+asks_entries (Some facts) given =
+    has_player facts given.player
+    && (not (is_same_position (position_in facts.players given.player) given.position) && not (has_lines facts.matches given.player))
+
+-- two books say the same of what a command asks of all entries: a change of the position of a player who has no line asks
+-- whether one of them has had him, and nothing else asks anything
 abbrev pub SameUse : Command → Book → Book → Type 0
-SameUse (command.AmendPlayer p name position) book other = have_had book.entries p ≡ have_had other.entries p
+SameUse (command.AmendPlayer p name position) book other =
+    asks_entries book.facts (record { player = p; name = name; position = position }) ≡ true
+    → have_had book.entries p ≡ have_had other.entries p
 SameUse command book other = ⊤
 
 -- what a request asks
