@@ -2,16 +2,17 @@
 use Rattle.std.proofs.Common.{◌≡◌, ◌<◌, ◌≤◌, ◌+◌, ◌∷◌, [], ◌++◌, ◌-◌, ℕ, zero, suc, Bool, true, false, cond, List, Option, Some, None, length, set, get_or, arith, refl, sym, ap, subst, ◌∙◌, nat_eq, length-append}
 use Rattle.std.specs.Prelude.{IfSome, Vec}
 use Rattle.std.specs.Str.{bytes_eq}
-use Rattle.std.specs.Map.{lookup}
-use Rattle.std.specs.BTreeMap.{BTreeMap, insert_entry}
-use Rattle.std.specs.Ordering.{is_eq, nat_cmp, match_ordering}
+use Rattle.std.specs.Map.{lookup, AreApart as Differ, IsKeyTest, KeepsOthers}
+use Rattle.std.specs.BTreeMap.{BTreeMap, UpdatesBy, insert_entry}
+use Rattle.std.specs.Ordering.{eq_by_cmp, is_eq, nat_cmp, match_ordering}
 use Rattle.std.specs.Cmp.Lexicographic.{slice_cmp}
 use Rattle.std.specs.declared.alloc.Global.{Global}
 use Rattle.std.specs.declared.cmp.Ordering.{Ordering}
 use Rattle.std.specs.declared.cmp.Ordering.TheVariants.{Less, Equal, Greater}
-use Rattle.std.proofs.lemmas.Cmp.{nat_list_eq_equiv}
+use Rattle.std.proofs.lemmas.Cmp.{eq_by_cmp_equiv, nat_list_cmp_total, nat_list_eq_equiv}
 use Rattle.std.proofs.lemmas.Map.Lookups.{exact_bytes}
 use Rattle.std.proofs.lemmas.Map.Text.{is_eq-slice_cmp}
+use Rattle.std.proofs.lemmas.Bool.{false≢true}
 use Rattle.std.proofs.lemmas.Bool.Decides.{nat_tests}
 use Rattle.std.proofs.lemmas.List.{length-set}
 use Rattle.rule_book.specs.declared.transfers.Sale.{Sale}
@@ -193,10 +194,10 @@ module _ (k name : List ℕ) where
       others = not_there 1 l j m y.key e (omega (arith, lt)) apart.0
 
       not_new : bytes_eq key y.key ≡ true → bytes_eq key k ≡ true → ⊥
-      not_new a b = let x : bytes_eq k y.key ≡ true = ap (λ t. bytes_eq t y.key) (sym (same_bytes key k b)) ∙ a in cc
+      not_new a b = false≢true (sym behind.0 ∙ ap (λ t. bytes_eq t y.key) (sym (same_bytes key k b)) ∙ a)
 
       not_old : bytes_eq key y.key ≡ true → bytes_eq key m.key ≡ true → ⊥
-      not_old a b = let x : bytes_eq y.key m.key ≡ true = ap (λ t. bytes_eq t m.key) (sym (same_bytes key y.key a)) ∙ b in cc
+      not_old a b = false≢true (sym others ∙ ap (λ t. bytes_eq t m.key) (sym (same_bytes key y.key a)) ∙ b)
 
       there : (a b c : Bool) → bytes_eq key y.key ≡ a → bytes_eq key k ≡ b → bytes_eq key m.key ≡ c
           → cond a (Some n) (cond b (Some ((n + 1) + j)) (cond c None (number_from (n + 1) l key))) ≡ cond b (Some (n + suc j)) (cond c None (cond a (Some n) (number_from (n + 1) l key)))
@@ -294,15 +295,35 @@ number_stays v old new key there same = by_test (bytes_eq key new) (bytes_eq key
 
 -- and at another, from which it is taken
 pub number_goes : (v : ℕ) (old new key : List ℕ) (there : Option ℕ) → bytes_eq old new ≡ false
-    → cond (is_eq (slice_cmp nat_cmp old key)) None (cond (bytes_eq key new) (Some v) there) ≡ cond (bytes_eq key new) (Some v) (cond (bytes_eq key old) None there)
-number_goes v old new key there other =
-    ap (λ b. cond b None (cond (bytes_eq key new) (Some v) there)) (is_eq-slice_cmp old key ∙ nat_list_eq_equiv.symm old key)
-    ∙ by_tests (bytes_eq key old) (bytes_eq key new) refl refl
+    → cond (bytes_eq key old) None (cond (bytes_eq key new) (Some v) there) ≡ cond (bytes_eq key new) (Some v) (cond (bytes_eq key old) None there)
+number_goes v old new key there other = by_tests (bytes_eq key old) (bytes_eq key new) refl refl
   where
     clash : bytes_eq key old ≡ true → bytes_eq key new ≡ true → ⊥
-    clash a b = let x : bytes_eq old new ≡ true = ap (λ l. bytes_eq l new) (sym (same_bytes key old a)) ∙ b in cc
+    clash a b = false≢true (sym other ∙ ap (λ l. bytes_eq l new) (sym (same_bytes key old a)) ∙ b)
 
     by_tests : (a b : Bool) → bytes_eq key old ≡ a → bytes_eq key new ≡ b → cond a None (cond b (Some v) there) ≡ cond b (Some v) (cond a None there)
     by_tests true true p q = absurd (clash p q)
     by_tests true false p q = refl
     by_tests false b p q = refl
+
+-- a key that is taken out has no number, and the others have theirs
+others_kept : (same : Vec ℕ Global → Vec ℕ Global → Bool) (out : Vec ℕ Global → Bool) (es fs : List (Vec ℕ Global × ℕ)) → KeepsOthers same out es fs
+    → (other : Vec ℕ Global → Bool) → IsKeyTest same other → Differ out other → lookup other fs ≡ lookup other es
+unfolding KeepsOthers
+others_kept same out es fs kept = kept
+
+pub number_taken : (m n : BTreeMap (Vec ℕ Global) ℕ) (old key : List ℕ) → UpdatesBy by_items (λ (k : Vec ℕ Global). slice_cmp nat_cmp old k.items) m n None → number_at n key ≡ cond (bytes_eq key old) None (number_at m key)
+number_taken m n old key after = by_test (bytes_eq key old) refl
+  where
+    asked : Vec ℕ Global → Bool
+    asked k = is_eq (slice_cmp nat_cmp key k.items)
+
+    by_test : (b : Bool) → bytes_eq key old ≡ b → number_at n key ≡ cond b None (number_at m key)
+    by_test true same = ap (number_at n) (same_bytes key old same) ∙ after.1
+    by_test false other = others_kept (eq_by_cmp by_items) (λ (k : Vec ℕ Global). is_eq (slice_cmp nat_cmp old k.items)) m.entries n.entries after.3 asked
+        (λ x y. (eq_by_cmp_equiv nat_list_cmp_total).congr key x.items y.items)
+        (λ k at. is_eq-slice_cmp key k.items ∙ ap (bytes_eq key) (sym (same_bytes old k.items (sym (is_eq-slice_cmp old k.items) ∙ at))) ∙ other)
+
+-- a map with the same entries has the same numbers
+pub indexed_same : (old new : BTreeMap (Vec ℕ Global) ℕ) (ms : List Manager) → IsIndexed old ms → new.entries ≡ old.entries → IsIndexed new ms
+indexed_same old new ms x same = record { few = x.few; apart = x.apart; told = λ key. ap (λ es. number_in es key) same ∙ x.told key }

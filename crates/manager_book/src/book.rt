@@ -67,7 +67,7 @@ fn copied(alloc: Global, bytes: &[u8]) -> Result<Vec<u8>, Memory>
     Ok(copy)
 }
 
-// Puts a number that stood at one key at another one; unchanged where memory is wanting.
+// Puts a number that stood at one key at another one. Where memory is wanting the entries stay.
 fn renumber(
     alloc: Global,
     numbers: &mut BTreeMap<Vec<u8>, u32>,
@@ -80,7 +80,7 @@ fn renumber(
         ≡ (if bytes_eq key new.now then Some number
         else if bytes_eq key old.now then None
         else number_at numbers.old key)) }
-    ensures err { OnErr result (numbers.new ≡ numbers.old) }
+    ensures err { OnErr result (numbers.new.entries ≡ numbers.old.entries) }
 {
     let bytes = copied(alloc, new)?;
     if numbers.insert(bytes, number).is_err() {
