@@ -7,8 +7,8 @@ ghost use Rattle.fpl_words.specs.Values.{Answers};
 
 use crate::options::{entered, parse};
 use crate::values::{
-    clients_of, connections_of, gameweek_of, is_word, key_of, length_of, more_of, number_of, pages_of,
-    path_of, profile_of, store_of, what_of,
+    clients_of, connections_of, gameweek_of, is_word, key_of, length_of, more_of, number_of,
+    pages_of, path_of, profile_of, store_of, what_of,
 };
 use crate::words::{WordFault, Words};
 use clap::ArgMatches;
