@@ -7,7 +7,7 @@ use Rattle.rule_book.specs.declared.player.Player.{Player}
 use Rattle.rule_book.specs.Entries.{most_entries}
 use Rattle.rule_book.specs.Refusals.{IsJudged, first_broken, unless}
 use Rattle.manager_book.specs.declared.manager.Manager.{Manager}
-use Rattle.manager_book.specs.Managers.{Managers, entry_with}
+use Rattle.manager_book.specs.Managers.{number_from}
 use Rattle.season_book.specs.Book.{EntryFacts}
 use Rattle.season_book.specs.declared.answer.Answer.{Answer}
 use Rattle.season_book.specs.declared.answer.Answer.TheVariants as answer
@@ -37,10 +37,10 @@ IsKeyJudgedByBooks operator managers key judged = (players : List Player) (entri
     → AreEntries players managers entries → IsJudged (key_refusal operator entries key) judged
 
 -- an entry is there, and this key is nobody's or its own
-pub record IsRekeyGranted (managers : Managers) (e : ℕ) (key : List ℕ) : Type 0 where
+pub record IsRekeyGranted (managers : List Manager) (e : ℕ) (key : List ℕ) : Type 0 where
   pub one : 1 ≤ e
-  pub issued : e ≤ length managers.managers
-  pub free : IfSome (entry_with managers key) (λ owner. owner ≡ e)
+  pub issued : e ≤ length managers
+  pub free : IfSome (number_from 1 managers key) (λ owner. owner ≡ e)
 
 -- the answer that refuses an entry a key, if one does: there is no such entry, or it is the operator's or another entry's
 abbrev pub rekey_broken : List ℕ → List Manager → ℕ → List ℕ → Option Answer

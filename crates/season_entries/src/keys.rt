@@ -67,7 +67,7 @@ fn judge_rekey_by_keys(
     key: &Key,
 ) -> Result<(), Answer>
     ensures rows { IsAnswered (rekey_broken operator.now managers.now.managers number key.now) result }
-    ensures granted { OnOk result (IsRekeyGranted managers.now number key.now) }
+    ensures granted { OnOk result (IsRekeyGranted managers.now.managers number key.now) }
 {
     let Some(entry) = EntryId::new(number) else {
         return Err(Answer::Unknown);
@@ -101,7 +101,7 @@ pub fn judge_rekey(
 ) -> Result<(), Answer>
     ensures rows { IsAnswered (rekey_broken operator.now managers.now.managers number key.now) result }
     ensures books { IsRekeyJudgedByBooks operator.now managers.now.managers number key.now result }
-    ensures granted { OnOk result (IsRekeyGranted managers.now number key.now) }
+    ensures granted { OnOk result (IsRekeyGranted managers.now.managers number key.now) }
 {
     judge_rekey_by_keys(operator, managers, number, key)
 }
@@ -113,7 +113,7 @@ pub fn do_rekey(
     key: &Key,
     name: &Name,
 ) -> Result<(), Memory>
-    requires granted { IsRekeyGranted managers.old number key.now }
+    requires granted { IsRekeyGranted managers.old.managers number key.now }
     ensures rows { OnOk result
         (managers.new
         ≡ record managers.old {

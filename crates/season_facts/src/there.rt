@@ -26,8 +26,9 @@ impl Season {
         ensures { MatchOption result (has_player self.now number ≡ false)
             (λ player. (player ≡ number) × (has_player self.now number ≡ true)) }
     {
+        let players = &self.players;
         match PlayerId::new(number) {
-            Some(player) if self.has_player(player) => Some(player),
+            Some(player) if players.get(player).is_some() => Some(player),
             Some(_) => None,
             None => None,
         }

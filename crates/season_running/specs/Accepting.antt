@@ -47,7 +47,7 @@ HasRoom managers command = ⊤
 
 -- the entry is there to which a command gives a key, and the key is nobody's or its own
 abbrev pub IsOpen : List Manager → Command → Type 0
-IsOpen managers (command.Rekey e key name) = (profile : Profile) → IsRekeyGranted (record { profile = profile; managers = managers }) e key
+IsOpen managers (command.Rekey e key name) = IsRekeyGranted managers e key
 IsOpen managers command = ⊤
 
 -- the player is there to whom a command gives a name and a position, and may have the position

@@ -10,7 +10,7 @@ use Rattle.season_running.proofs.running.RunningSeason.rekey.Goals as goal
 
 pub do_rekey-requires : goal.do_rekey-requires
 do_rekey-requires c = record {
-  granted = subst (IsOpen c.self.inside.managers.managers) c.in-Rekey.is (subst (λ (r : Running). IsOpen r.managers c.args.command.now) (sym c.self.view_is) c.requires.granted) c.self.inside.managers.profile;
+  granted = subst (IsOpen c.self.inside.managers.managers) c.in-Rekey.is (subst (λ (r : Running). IsOpen r.managers c.args.command.now) (sym c.self.view_is) c.requires.granted);
 }
 
 pub invariant_of-self : goal.invariant_of-self
