@@ -170,16 +170,16 @@ module _ (key name : List ℕ) where
   season_same (m ∷ ms) (suc (suc e)) zero = refl
   season_same (m ∷ ms) (suc (suc e)) (suc j) = season_same ms (suc e) j
 
-  as_many : (ms : List Manager) (e : ℕ) → length (changed_in (with_key key name) ms e) ≡ length ms
-  as_many [] e = refl
-  as_many (m ∷ ms) zero = refl
-  as_many (m ∷ ms) (suc zero) = refl
-  as_many (m ∷ ms) (suc (suc e)) = ap suc (as_many ms (suc e))
+  same_many : (ms : List Manager) (e : ℕ) → length (changed_in (with_key key name) ms e) ≡ length ms
+  same_many [] e = refl
+  same_many (m ∷ ms) zero = refl
+  same_many (m ∷ ms) (suc zero) = refl
+  same_many (m ∷ ms) (suc (suc e)) = ap suc (same_many ms (suc e))
 
   pub rekey_stays : (facts : Facts) (leagues : List LeagueFacts) (cups : List Bracket) (olds : List Manager) (e : ℕ)
       → EntriesStay (season_seen facts olds leagues cups) (season_seen facts (rekeyed olds e key name) leagues cups)
   rekey_stays facts leagues cups olds e = record {
-    begun = λ k g w i. (nat_le 1 k && nat_le k (sym (as_many olds e) i)) && option_map_or (λ first. nat_le first g) (first_in (sym (season_same olds e (k - 1)) i)) false;
+    begun = λ k g w i. (nat_le 1 k && nat_le k (sym (same_many olds e) i)) && option_map_or (λ first. nat_le first g) (first_in (sym (season_same olds e (k - 1)) i)) false;
     team = λ k g l. ap (λ rows. unwrap_or (team_in (standing_at rows g)) no_team) (sym (season_same olds e (k - 1)));
     cost = λ k g l. ap (λ rows. cost_by facts.profile rows g) (sym (season_same olds e (k - 1)));
   }
