@@ -19,8 +19,8 @@ returns-then-eq-clause-rows c =
     rekey_own c.args.operator.now c.args.managers.now c.args.number c.args.key.now one few (search rules)
 
 -- its own
-pub returns-in-Some-entry_of-then-eq-2-clause-rows : goal.returns-in-Some-entry_of-then-eq-2-clause-rows
-returns-in-Some-entry_of-then-eq-2-clause-rows c =
+pub returns-then-eq-2-clause-rows : goal.returns-then-eq-2-clause-rows
+returns-then-eq-2-clause-rows c =
     let one : 1 ≤ c.args.number = search rules in
     let few : c.args.number ≤ length c.args.managers.now.managers = omega (arith, c.entries.ensures.count, c.if-number-entries.false) in
     let owner : entry_with c.args.managers.now c.args.key.now ≡ Some c.in-Some-entry_of.owner = sym c.entry_of.ensures ∙ c.in-Some-entry_of.is in
@@ -28,8 +28,8 @@ returns-in-Some-entry_of-then-eq-2-clause-rows c =
     rekey_free c.args.operator.now c.args.managers.now c.args.number c.args.key.now one few (search rules) free
 
 -- another entry's
-pub returns-in-Some-entry_of-else-eq-2-clause-rows : goal.returns-in-Some-entry_of-else-eq-2-clause-rows
-returns-in-Some-entry_of-else-eq-2-clause-rows c =
+pub returns-else-eq-2-clause-rows : goal.returns-else-eq-2-clause-rows
+returns-else-eq-2-clause-rows c =
     let one : 1 ≤ c.args.number = search rules in
     let few : c.args.number ≤ length c.args.managers.now.managers = omega (arith, c.entries.ensures.count, c.if-number-entries.false) in
     let owner : entry_with c.args.managers.now c.args.key.now ≡ Some c.in-Some-entry_of.owner = sym c.entry_of.ensures ∙ c.in-Some-entry_of.is in
