@@ -8,7 +8,7 @@ pub returns-in-Rekey-clause-ruled : goal.returns-in-Rekey-clause-ruled
 returns-in-Rekey-clause-ruled c = λ now caller book plays.
     let running : Running = record { facts = c.self.inside.season; managers = c.self.inside.managers.managers; leagues = c.self.inside.leagues; cups = c.self.inside.cups } in
     let plays_here : Plays running book = subst (λ r. Plays r book) (sym c.self.view_is) plays in
-    rekey_ruled c.args.operator.now book caller now c.args.command.now running plays_here c.in-Rekey.entry c.in-Rekey.key c.in-Rekey.name c.judge_rekey.result c.in-Rekey.is c.judge_rekey.ensures.books
+    rekey_ruled c.args.operator.now book caller now c.args.command.now running plays_here c.in-Rekey.entry c.in-Rekey.key _ c.judge_rekey.result c.in-Rekey.is c.judge_rekey.ensures.books
 
 pub returns-in-Rekey-clause-refusal : goal.returns-in-Rekey-clause-refusal
 returns-in-Rekey-clause-refusal c =
