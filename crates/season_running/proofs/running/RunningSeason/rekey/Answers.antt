@@ -18,7 +18,7 @@ invariant_of-self c = record {
   profile = profile_stays c.do_rekey.result c.self.inside.managers c.do_rekey.new.managers _ c.do_rekey.ensures.rows c.do_rekey.ensures.err ∙ c.self.invariant.profile;
   early = c.do_rekey.ensures.later (Some (gameweek_seen c.self.inside.season.calendar)) c.self.invariant.early;
   members = (c.members_stay.ensures c.self.inside.season c.self.inside.managers.managers c.self.inside.leagues).entries (length c.do_rekey.new.managers.managers)
-      (none_fewer c.do_rekey.result c.self.inside.managers c.do_rekey.new.managers _ _ _ c.do_rekey.ensures.rows c.do_rekey.ensures.err) c.self.invariant.members;
+      (none_fewer c.do_rekey.result c.self.inside.managers c.do_rekey.new.managers c.in-Rekey.entry c.in-Rekey.key c.in-Rekey.name c.do_rekey.ensures.rows c.do_rekey.ensures.err) c.self.invariant.members;
 }
 
 pub returns-in-Rekey-clause-done : goal.returns-in-Rekey-clause-done
