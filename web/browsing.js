@@ -5,7 +5,7 @@ import { recall, remember } from "./kept.js";
 import { POSITIONS, counted, money, plain, whole } from "./words.js";
 
 const AT_ONCE = 12; // rows, within a frame
-/** The figures by which players are sorted, and how they are written. */
+// The figures by which players are sorted, and how they are written.
 export const SORTS = {
 	total_points: { text: "Points", shown: whole },
 	points_per_game: { text: "Points a game", shown: String },
@@ -16,7 +16,7 @@ export const SORTS = {
 const PRICES = [45, 50, 55, 60, 70, 80, 90, 100, 120, 150];
 const ALL = { search: "", position: 0, club: 0, price: 0, sort: "total_points" };
 
-/** What was chosen last in a list of this name. */
+// What was chosen last in a list of this name.
 export const filtersOf = (name) => ({ ...ALL, ...recall(`list ${name}`) });
 
 export const filter = (name, changed) => remember(`list ${name}`, { ...filtersOf(name), ...changed });
@@ -31,7 +31,7 @@ function found(season, { search, position, club, price, sort }) {
 	return season.all.filter(fits).sort((one, other) => other[sort] - one[sort] || one.id - other.id);
 }
 
-/** The list with its filters: `open` makes what holds the rows, and `row` a player's row. */
+// The list with its filters: `open` makes what holds the rows, and `row` a player's row.
 export function browsing(season, name, open, row) {
 	const place = make("div", { id: `list-${name}` });
 	const count = make("p.quiet.small", { role: "status" });
@@ -46,7 +46,7 @@ export function browsing(season, name, open, row) {
 	return make("section", filters(season, name, redraw), count, place);
 }
 
-/** Draws some more whenever the end of what is drawn comes near. */
+// Draws some more whenever the end of what is drawn comes near.
 function drawOn(players, place, rows, row) {
 	let drawn = 0;
 	const end = make("div");
@@ -75,7 +75,7 @@ function filters(season, name, redraw) {
 		"div.filters",
 		field("Search", search),
 		select("Position", "position", POSITIONS.map((text, position) => [position, text ? `${text}s` : "all"])),
-		select("Club", "club", [[0, "all"], ...[...season.clubs.values()].map((club) => [club.id, club.name])]),
+		select("Club", "club", [[0, "all"], ...season.clubChoices()]),
 		select("Price", "price", [[0, "any"], ...PRICES.map((price) => [price, `up to ${money(price)}`])]),
 		select("Sorted by", "sort", Object.entries(SORTS).map(([sort, { text }]) => [sort, text])),
 	);

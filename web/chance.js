@@ -3,7 +3,7 @@
 const LETTERS = "abcdefghjkmnpqrstuvwxyz23456789"; // without those that look alike
 const RANGE = 2 ** 32;
 
-/** A whole number below another one, each as likely as the others. */
+// A whole number below another one, each as likely as the others.
 export function randomBelow(bound) {
 	const most = RANGE - (RANGE % bound);
 	for (;;) {
@@ -14,7 +14,7 @@ export function randomBelow(bound) {
 	}
 }
 
-/** A list in an order by lot. */
+// A list in an order by lot.
 export function shuffled(list) {
 	const drawn = [...list];
 	for (let place = drawn.length - 1; place > 0; place -= 1) {
@@ -24,7 +24,7 @@ export function shuffled(list) {
 	return drawn;
 }
 
-/** So many small letters and digits. */
+// So many small letters and digits.
 export function randomLetters(length) {
 	return Array.from({ length }, () => LETTERS[randomBelow(LETTERS.length)]).join("");
 }

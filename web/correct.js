@@ -14,7 +14,7 @@ let chosen = {};
 let report = null; // what the last correction changed
 
 export async function drawCorrection(page, id) {
-	const season = await page.season();
+	const { season } = page;
 	const sheet = await page.read(`/api/fixtures/${id}/sheet/`);
 	const fixture = season.fixture(id);
 	const view = { page, season, sheet, fixture };
@@ -35,7 +35,7 @@ export async function drawCorrection(page, id) {
 
 const isAmong = (goals, one) => goals.some((it) => it.id === one?.id);
 
-/** A goal of a player, and the figure that counts it. */
+// A goal of a player, and the figure that counts it.
 function goal({ season }, player, figure) {
 	return { player, figure, id: `${player}-${figure}`, text: `${season.playerName(player)}${figure === OWN_GOALS ? ", own goal" : ""}` };
 }
@@ -45,7 +45,7 @@ function goalsOf(view) {
 	return [...of(GOALS), ...of(OWN_GOALS)];
 }
 
-/** Who may have scored it for the same side: a player of it, or one of the other by an own goal. */
+// Who may have scored it for the same side: a player of it, or one of the other by an own goal.
 function takersOf(view) {
 	const { season, sheet, fixture } = view;
 	const isAtHome = ({ player, figure }) => (season.player(player).team === fixture.team_h) === (figure === GOALS);
@@ -74,7 +74,7 @@ function confirmation(view) {
 	);
 }
 
-/** Whether it was the winning goal: that of its scorer, who had no other. */
+// Whether it was the winning goal: that of its scorer, who had no other.
 function takesWinner({ sheet }) {
 	const { player, figure } = chosen.from;
 	const { figures } = sheet.lines.find((line) => line.player === player);
@@ -124,7 +124,7 @@ async function stateOf({ season, fixture, sheet }) {
 	return new Map([...players, ...(await teamsNow(fixture.event)), ...(await placesNow())]);
 }
 
-/** The points of each team in a gameweek; of none where there are too many to compare. */
+// The points of each team in a gameweek; of none where there are too many to compare.
 async function teamsNow(gameweek) {
 	const entries = (await readAnew("/api/entries/")).filter((it) => it.started_event !== null && it.started_event <= gameweek);
 	const points = async ({ entry, name }) => {

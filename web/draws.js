@@ -7,7 +7,8 @@ import { heading } from "./parts.js";
 import { counted } from "./words.js";
 
 export async function drawDraws(page) {
-	const [season, leagues, entries] = await Promise.all([page.season(), page.read("/api/leagues/"), page.read("/api/entries/")]);
+	const { season } = page;
+	const [leagues, entries] = await Promise.all([page.read("/api/leagues/"), page.read("/api/entries/")]);
 	const waiting = leagues.filter((it) => it.scoring === "h" && !it.drawn);
 	return [
 		heading("Draws"),
@@ -48,7 +49,7 @@ function cupForm(page, season, entries) {
 	);
 }
 
-/** The slots of a cup by lot, with byes up to a power of two, no two of which meet; and a coin for each tie. */
+// The slots of a cup by lot, with byes up to a power of two, no two of which meet; and a coin for each tie.
 function bracketOf(entries) {
 	const drawn = shuffled(entries);
 	const ties = 2 ** Math.max(0, Math.ceil(Math.log2(drawn.length)) - 1);

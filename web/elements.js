@@ -3,16 +3,14 @@
 const DRAWING = "http://www.w3.org/2000/svg";
 const NAME_BYTES = 64;
 
-/**
- * An element: make("a.button", { href: "#/team" }, "My team"). The properties may be left out; one that is null or false is
- * not set, and one that begins with "on" is a listener. Children are elements, texts and numbers, in lists too.
- */
+// An element: make("a.button", { href: "#/team" }, "My team"). The properties may be left out; one that is null or false is
+// not set, and one that begins with "on" is a listener. Children are elements, texts and numbers, in lists too.
 export function make(name, ...parts) {
 	const [tag, ...classes] = name.split(".");
 	return filled(document.createElement(tag), classes, parts);
 }
 
-/** The same for a part of a drawing (SVG). */
+// The same for a part of a drawing (SVG).
 export function draw(name, ...parts) {
 	const [tag, ...classes] = name.split(".");
 	return filled(document.createElementNS(DRAWING, tag), classes, parts);
@@ -38,7 +36,7 @@ function give(element, name, value) {
 
 const isThere = (value) => value !== null && value !== undefined && value !== false;
 
-/** A text by a person, which may run in another direction than the page. */
+// A text by a person, which may run in another direction than the page.
 export const named = (text) => make("bdi", text);
 
 export const link = (address, ...text) => make("a", { href: `#/${address}` }, ...text);
@@ -47,14 +45,14 @@ export const quiet = (...text) => make("p.quiet", ...text);
 
 export const icon = (name) => draw("svg", { viewBox: "0 0 24 24", "aria-hidden": "true" }, draw("use", { href: `icons.svg#${name}` }));
 
-/** A button that calls with itself. */
+// A button that calls with itself.
 export function button(id, text, call, { kind = "", ...properties } = {}) {
 	return make(`button${kind}`, { type: "button", id, onclick: (event) => call(event.currentTarget), ...properties }, text);
 }
 
 export const mainButton = (id, text, call, properties = {}) => button(id, text, call, { kind: ".main", ...properties });
 
-/** A form with its button, with which it calls. */
+// A form with its button, with which it calls.
 export function form(id, text, call, ...children) {
 	const busy = make("button.main", { id }, text);
 	const send = (event) => {
@@ -64,11 +62,20 @@ export function form(id, text, call, ...children) {
 	return make("form.form", { onsubmit: send }, ...children, busy);
 }
 
+// A card with a form that sets something.
+export const setting = (what, call, ...fields) => make("div.card", form(`set-${what}`, "Set", call, ...fields));
+
+// What is unfolded by a tap on its title.
+export const folded = (id, title, ...content) => make("details", { id }, make("summary", title), ...content);
+
+// The properties of what is scrolled inside of itself, by keyboard too.
+export const scrolling = (label) => ({ tabindex: 0, role: "group", "aria-label": label });
+
 export function input(id, properties = {}) {
 	return make("input", { id, required: true, autocomplete: "off", ...properties });
 }
 
-/** A choice of one among pairs of a value and its text. */
+// A choice of one among pairs of a value and its text.
 export function choice(id, pairs, chosen, properties = {}) {
 	const options = pairs.map(([value, text]) => make("option", { value, selected: String(value) === String(chosen) }, text));
 	return make("select", { id, ...properties }, options);
@@ -76,11 +83,11 @@ export function choice(id, pairs, chosen, properties = {}) {
 
 export const field = (label, entry) => make("div", make("label", { for: entry.id }, label), entry);
 
-/** A field for the name of a team or a league. */
-export function nameInput(id) {
+// A field for the name of a team or a league.
+export function nameInput(id, properties = {}) {
 	const isLong = (text) => new TextEncoder().encode(text).length > NAME_BYTES;
 	const judge = ({ target }) => target.setCustomValidity(isLong(target.value) ? `A name has at most ${NAME_BYTES} bytes.` : "");
-	return input(id, { oninput: judge });
+	return input(id, { oninput: judge, ...properties });
 }
 
 export function check(id, text, isChecked, properties = {}) {
@@ -88,7 +95,7 @@ export function check(id, text, isChecked, properties = {}) {
 	return make("label.check", { for: id }, box, text);
 }
 
-/** A dialog over the page, which goes when it is closed. */
+// A dialog over the page, which goes when it is closed.
 export function ask(title, ...children) {
 	const dialog = make("dialog", { "aria-labelledby": "asked" }, make("h2", { id: "asked" }, title), ...children);
 	dialog.addEventListener("close", () => dialog.remove());
@@ -98,7 +105,7 @@ export function ask(title, ...children) {
 	return dialog;
 }
 
-/** Asks for a yes. */
+// Asks for a yes.
 export function confirmed(title, yes, ...children) {
 	return new Promise((answer) => {
 		const agree = () => dialog.close("yes");

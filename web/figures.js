@@ -1,47 +1,36 @@
-// The 28 figures of a line: name, group in a sheet, greatest value.
+// The 28 figures of a line, by their places in it, in the groups of a sheet.
 
-export const FIGURES = [
-	["Minutes", "Match", 120],
-	["Goals", "Attack"],
-	["Assists", "Attack"],
-	["Goals conceded", "Match"],
-	["Saves", "Keeping"],
-	["Penalties saved", "Keeping"],
-	["Penalties missed", "Attack"],
-	["Yellow card", "Cards", 1],
-	["Red card", "Cards", 1],
-	["Own goals", "Match"],
-	["Crosses", "Passes"],
-	["Big chances created", "Passes"],
-	["Clearances, blocks, interceptions", "Defence"],
-	["Recoveries", "Defence"],
-	["Key passes", "Passes"],
-	["Net tackles", "Defence"],
-	["Dribbles", "Attack"],
-	["Winning goal", "Attack", 1],
-	["Passes attempted", "Passes", 400],
-	["Passes completed", "Passes", 400],
-	["Penalties conceded", "Faults"],
-	["Big chances missed", "Faults"],
-	["Errors to a goal", "Faults"],
-	["Errors to an attempt", "Faults"],
-	["Times tackled", "Faults"],
-	["Fouls", "Faults"],
-	["Offsides", "Faults"],
-	["Shots off target", "Faults"],
-].map(([name, group, most = 99]) => ({ name, group, most }));
+export const GROUPS = {
+	Match: { 0: "Minutes", 3: "Goals conceded", 9: "Own goals" },
+	Attack: { 1: "Goals", 2: "Assists", 6: "Penalties missed", 16: "Dribbles", 17: "Winning goal" },
+	Keeping: { 4: "Saves", 5: "Penalties saved" },
+	Cards: { 7: "Yellow card", 8: "Red card" },
+	Passes: { 10: "Crosses", 11: "Big chances created", 14: "Key passes", 18: "Passes attempted", 19: "Passes completed" },
+	Defence: { 12: "Clearances, blocks, interceptions", 13: "Recoveries", 15: "Net tackles" },
+	Faults: {
+		20: "Penalties conceded",
+		21: "Big chances missed",
+		22: "Errors to a goal",
+		23: "Errors to an attempt",
+		24: "Times tackled",
+		25: "Fouls",
+		26: "Offsides",
+		27: "Shots off target",
+	},
+};
+const MOST = { 0: 120, 7: 1, 8: 1, 17: 1, 18: 400, 19: 400 }; // and 99 of the others
 
-const placeOf = (name) => FIGURES.findIndex((figure) => figure.name === name);
-export const GOALS = placeOf("Goals");
-export const OWN_GOALS = placeOf("Own goals");
-export const WINNING_GOAL = placeOf("Winning goal");
-const ATTEMPTED = placeOf("Passes attempted");
-const COMPLETED = placeOf("Passes completed");
+export const FIGURES = Object.assign([], ...Object.values(GROUPS));
 
-/** What is wrong with the figure at a place of a line, or null. */
+export const GOALS = FIGURES.indexOf("Goals");
+export const OWN_GOALS = FIGURES.indexOf("Own goals");
+export const WINNING_GOAL = FIGURES.indexOf("Winning goal");
+const ATTEMPTED = FIGURES.indexOf("Passes attempted");
+const COMPLETED = FIGURES.indexOf("Passes completed");
+
+// What is wrong with the figure at a place of a line, or null.
 export function wrongFigure(line, place) {
-	const { name, most } = FIGURES[place];
-	const figure = line[place];
+	const [name, figure, most] = [FIGURES[place], line[place], MOST[place] ?? 99];
 	if (!Number.isInteger(figure) || figure < 0) {
 		return `${name} is a whole number.`;
 	}
@@ -49,11 +38,4 @@ export function wrongFigure(line, place) {
 		return "More passes are completed than attempted.";
 	}
 	return figure > most ? `${name} goes up to ${most}.` : null;
-}
-
-/** The groups of a sheet, each with the places of its figures. */
-export function groups() {
-	const found = new Map();
-	FIGURES.forEach(({ group }, place) => found.set(group, [...(found.get(group) ?? []), place]));
-	return [...found];
 }

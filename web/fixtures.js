@@ -7,7 +7,7 @@ import { STATS, counted, day, hour, when, whole } from "./words.js";
 const UNTOLD = ["saves", "bps"];
 
 export async function drawFixtures(page, given) {
-	const season = await page.season();
+	const { season } = page;
 	const gameweek = given ?? (season.current || season.next);
 	return [
 		turning(heading(`Gameweek ${gameweek}`), "fixtures", gameweek, 1, season.last),
@@ -17,7 +17,7 @@ export async function drawFixtures(page, given) {
 	];
 }
 
-/** The matches of a gameweek by day, then those in none; `more` is added to each. */
+// The matches of a gameweek by day, then those in none; `more` is added to each.
 export function matchesOf(season, gameweek, more) {
 	const matches = season.fixturesIn(gameweek);
 	const nowhere = season.fixturesIn(null);
@@ -30,9 +30,9 @@ export function matchesOf(season, gameweek, more) {
 	];
 }
 
-/** A match with its score, and below it who did what on either side. */
+// A match with its score, and below it who did what on either side.
 function matchCard(season, it, more) {
-	const score = it.team_h_score === null ? hour(it.kickoff_time) : `${it.team_h_score} \u2013 ${it.team_a_score}`;
+	const score = it.team_h_score === null ? hour(it.kickoff_time) : `${it.team_h_score} – ${it.team_a_score}`;
 	const state = it.finished ? "Finished" : `Not finished: ${counted(it.minutes, "minute")} told`;
 	return make(
 		"article.card",

@@ -8,13 +8,13 @@ const LONGEST_PAUSE = 8; // seconds between two tries
 const TRY_AGAIN = [502, 503, 504, 507]; // the host, or a proxy before it, could not do it now
 const NUMBERED = [1, 2, 3]; // refusals for the number alone
 
-/** The host, or the way to it, gave no answer. */
+// The host, or the way to it, gave no answer.
 export class NoAnswer extends Error {}
 
-/** What was asked for is not kept from an earlier time. */
+// What was asked for is not kept from an earlier time.
 export class NotKept extends Error {}
 
-/** An answer other than the one that was hoped for. */
+// An answer other than the one that was hoped for.
 export class Refusal extends Error {
 	constructor(status, body) {
 		super(`${status} ${JSON.stringify(body)}`);
@@ -22,7 +22,7 @@ export class Refusal extends Error {
 	}
 }
 
-/** The deadline passed before a command for its gameweek was done; `next` is the next one now, or null. */
+// The deadline passed before a command for its gameweek was done; `next` is the next one now, or null.
 export class TooLate extends Error {
 	constructor(gameweek, next) {
 		super(`gameweek ${gameweek}`);
@@ -84,7 +84,7 @@ async function ask(method, target, text) {
 
 // Views
 
-/** The body of a view as it was read last. */
+// The body of a view as it was read last.
 export function readKept(target) {
 	if (!read.has(target)) {
 		throw new NotKept(target);
@@ -96,7 +96,7 @@ export function readKept(target) {
 	return body;
 }
 
-/** Reads a view anew. If it is as it was, the body is the same object. */
+// Reads a view anew. If it is as it was, the body is the same object.
 export async function readAnew(target) {
 	const answer = await ask("GET", target);
 	if (TRY_AGAIN.includes(answer.status)) {
@@ -110,10 +110,10 @@ export async function readAnew(target) {
 	return readKept(target);
 }
 
-/** How often something was read that was other than before. */
+// How often something was read that was other than before.
 export const changes = () => changed;
 
-/** What is shown stands behind this command, and nothing was begun on what stood before it. */
+// What is shown stands behind this command, and nothing was begun on what stood before it.
 export function goOnFrom(number) {
 	if (!isSending && (last === null || number > last)) {
 		know(number);
@@ -135,11 +135,9 @@ export function isBusy() {
 	return isSending;
 }
 
-/**
- * Sends a command with the next number, again and again until it is answered, and gives the answer's body; else throws
- * TooLate or a Refusal. `drafts` names what is kept here for it, which goes once it is done; with `gameweek` it is not sent
- * once that is locked.
- */
+// Sends a command with the next number, again and again until it is answered, and gives the answer's body; else throws
+// TooLate or a Refusal. `drafts` names what is kept here for it, which goes once it is done; with `gameweek` it is not sent
+// once that is locked.
 export function command(target, members, { drafts = [], gameweek = null } = {}) {
 	return alone(async () => {
 		const number = 1 + (last ?? (await readAnew("/api/me/")).last);
@@ -148,7 +146,7 @@ export function command(target, members, { drafts = [], gameweek = null } = {}) 
 	});
 }
 
-/** Goes on with a command that was sent before a reload; null if there is none. */
+// Goes on with a command that was sent before a reload; null if there is none.
 export function resume() {
 	return alone(() => (recall("command") === null ? null : deliver()));
 }
@@ -182,7 +180,7 @@ async function deliver() {
 	throw new Refusal(answer.status, answer.body);
 }
 
-/** The answer to a command, however long it takes: again after 1, 2, 4, 8 seconds, the same bytes. */
+// The answer to a command, however long it takes: again after 1, 2, 4, 8 seconds, the same bytes.
 async function answered(sent) {
 	for (let pause = 1; ; pause = Math.min(2 * pause, LONGEST_PAUSE)) {
 		try {
@@ -201,7 +199,7 @@ async function answered(sent) {
 	}
 }
 
-/** Where the deadline has passed, a command that was not done is not sent any more. */
+// Where the deadline has passed, a command that was not done is not sent any more.
 async function refuseTooLate({ gameweek, number }) {
 	if (gameweek === null) {
 		return;
@@ -212,7 +210,7 @@ async function refuseTooLate({ gameweek, number }) {
 	}
 }
 
-/** Waits so many seconds, or until the network is back. */
+// Waits so many seconds, or until the network is back.
 export function pauseOf(seconds) {
 	return new Promise((go) => {
 		const end = () => {

@@ -10,7 +10,7 @@ function nameOf(name) {
 	return `kowhirupe ${owner} ${name}`;
 }
 
-/** Whether something was begun here that is not on the host. */
+// Whether something was begun here that is not on the host.
 export function hasDrafts() {
 	return Object.keys(sessionStorage).some((name) => name.startsWith(nameOf("draft")));
 }

@@ -1,7 +1,7 @@
 // Leagues and cups: tables, matches, brackets; making a league and joining one.
 
 import { randomLetters } from "./chance.js";
-import { choice, field, form, input, link, make, named, nameInput, quiet } from "./elements.js";
+import { choice, field, folded, form, input, link, make, named, nameInput, quiet, scrolling } from "./elements.js";
 import { heading, noTeam, ranked, table, turning } from "./parts.js";
 import { counted, whole } from "./words.js";
 
@@ -9,8 +9,8 @@ const KINDS = { c: "Classic", h: "Head-to-head" };
 const CODE = { pattern: "[a-z0-9]{4,16}", title: "4 to 16 small letters and digits" };
 
 export async function drawLeagues(page) {
-	const { read, caller, isOperator } = page;
-	const [season, all, cups] = await Promise.all([page.season(), read("/api/leagues/"), read("/api/cups/")]);
+	const { read, caller, isOperator, season } = page;
+	const [all, cups] = await Promise.all([read("/api/leagues/"), read("/api/cups/")]);
 	const isIn = caller.started_event !== null;
 	const mine = isIn ? await read("/api/my-leagues/") : [];
 	const others = all.filter((league) => mine.every((it) => it.id !== league.id));
@@ -48,12 +48,7 @@ function joinForm(page, leagues) {
 		const league = which.value;
 		page.send(busy, `/leagues/${league}/join`, { code: code.value }, { done: "You are in.", next: () => `#/league/${league}` });
 	};
-	return make(
-		"details",
-		{ id: "join-a-league" },
-		make("summary", "Join a league by its code"),
-		form("join", "Join", join, field("League", which), field("Its code", code)),
-	);
+	return folded("join-a-league", "Join a league by its code", form("join", "Join", join, field("League", which), field("Its code", code)));
 }
 
 function makeForm(page, season) {
@@ -66,26 +61,14 @@ function makeForm(page, season) {
 		const done = `The league is made. Its code is ${members.code}.`;
 		page.send(busy, "/leagues", members, { done, next: (body) => `#/league/${body.league}` });
 	};
-	return make(
-		"details",
-		{ id: "make-a-league" },
-		make("summary", "Make a league"),
-		form(
-			"make-league",
-			"Make it",
-			send,
-			field("Kind", kind),
-			field("Name", name),
-			field("Code with which others join", code),
-			field("From gameweek", start),
-		),
-	);
+	const fields = [field("Kind", kind), field("Name", name), field("Code with which others join", code), field("From gameweek", start)];
+	return folded("make-a-league", "Make a league", form("make-league", "Make it", send, ...fields));
 }
 
 // One league
 
 export async function drawLeague(page, id, gameweek) {
-	const season = await page.season();
+	const { season } = page;
 	const league = (await page.read("/api/leagues/")).find((it) => it.id === id);
 	const isHead = league?.scoring === "h";
 	const { standings } = await page.read(`/api/leagues-${isHead ? "h2h" : "classic"}/${id}/standings/`);
@@ -118,7 +101,7 @@ async function matches(page, season, league, given) {
 	const gameweek = given ?? Math.max(season.current, league.start_event);
 	const isPlayed = gameweek <= season.current;
 	const row = (it) => ({
-		cells: [named(it.entry_1_name), isPlayed ? `${whole(it.entry_1_points)} : ${whole(it.entry_2_points)}` : "\u2013", named(it.entry_2_name)],
+		cells: [named(it.entry_1_name), isPlayed ? `${whole(it.entry_1_points)} : ${whole(it.entry_2_points)}` : "–", named(it.entry_2_name)],
 		isOwn: [it.entry_1_entry, it.entry_2_entry].includes(page.caller.entry),
 	});
 	const title = make("h2", `Matches of gameweek ${gameweek}`);
@@ -141,14 +124,14 @@ export async function drawCup(page, id) {
 	return [
 		heading(`Cup ${id}`),
 		quiet("Points decide, then goals, then goals conceded, then a coin."),
-		make("div.bracket", { tabindex: 0, role: "group", "aria-label": "The bracket" }, rounds),
+		make("div.bracket", scrolling("The bracket"), rounds),
 	];
 }
 
 function roundOf({ event, ties }, title, nobody, names) {
 	const side = (entry, points, winner) => {
 		const isWinner = entry !== null && entry === winner;
-		const who = make("span", entry === null ? nobody : named(names.get(entry)), isWinner && [" \u2713", make("span.unseen", " goes on")]);
+		const who = make("span", entry === null ? nobody : named(names.get(entry)), isWinner && [" ✓", make("span.unseen", " goes on")]);
 		return make(isWinner ? "div.won" : "div", who, points !== null && whole(points));
 	};
 	const item = (tie) => make("li.tie", side(tie.entry_1, tie.entry_1_points, tie.winner), side(tie.entry_2, tie.entry_2_points, tie.winner));

@@ -14,7 +14,7 @@ function changed(players, one, other) {
 	return order;
 }
 
-/** Whether the players, given by their positions, may stand so. */
+// Whether the players, given by their positions, may stand so.
 function isLegal(positions) {
 	const outfield = positions.slice(1, STARTERS);
 	const count = (position) => outfield.filter((it) => it === position).length;
@@ -22,13 +22,13 @@ function isLegal(positions) {
 	return hasKeepers && count(DEFENDER) >= 3 && count(FORWARD) >= 1;
 }
 
-/** Whether two slots can be changed: one is on the bench, and the eleven stays legal. */
-export function canChange(players, one, other, positionOf) {
+// Whether two slots can be changed: one is on the bench, and the eleven stays legal.
+export function canChange(players, one, other, season) {
 	const isOnBench = !isStarter(one) || !isStarter(other);
-	return one !== other && isOnBench && isLegal(changed(players, one, other).map(positionOf));
+	return one !== other && isOnBench && isLegal(changed(players, one, other).map((id) => season.position(id)));
 }
 
-/** A lineup with two slots changed. Who comes for a leader wears his armband. */
+// A lineup with two slots changed. Who comes for a leader wears his armband.
 export function withChange({ players, captain, vice }, one, other) {
 	const order = changed(players, one, other);
 	const starters = order.slice(0, STARTERS);
@@ -38,15 +38,15 @@ export function withChange({ players, captain, vice }, one, other) {
 	return { players: order, captain: leader(captain), vice: leader(vice) };
 }
 
-/** A lineup with another captain or vice-captain; if he is the other one, they change. */
+// A lineup with another captain or vice-captain; if he is the other one, they change.
 export function withLeader(lineup, armband, player) {
 	const other = armband === "captain" ? "vice" : "captain";
 	return { ...lineup, [other]: lineup[other] === player ? lineup[armband] : lineup[other], [armband]: player };
 }
 
-/** Fifteen players in the slots of 4-4-2, those of each position as they come. */
-export function usualOrder(players, positionOf) {
-	const [keepers, defenders, midfielders, forwards] = [1, 2, 3, 4].map((it) => players.filter((player) => positionOf(player) === it));
+// Fifteen players in the slots of 4-4-2, those of each position as they come.
+export function usualOrder(players, season) {
+	const [keepers, defenders, midfielders, forwards] = [1, 2, 3, 4].map((it) => players.filter((id) => season.position(id) === it));
 	const starters = [keepers[0], ...defenders.slice(0, 4), ...midfielders.slice(0, 4), ...forwards.slice(0, 2)];
 	return [...starters, keepers[1], ...defenders.slice(4), ...midfielders.slice(4), ...forwards.slice(2)];
 }

@@ -4,7 +4,7 @@ import { button, confirmed, field, form, icon, input, make, named } from "./elem
 import * as host from "./host.js";
 import { hasDrafts, recall, remember } from "./kept.js";
 import { heading } from "./parts.js";
-import { isBeforeSeason, sentence } from "./say.js";
+import { sentence } from "./say.js";
 import { seasonBy } from "./season.js";
 import { countdown, when, whole } from "./words.js";
 
@@ -20,7 +20,7 @@ import { drawSheet } from "./sheet.js";
 import { drawTeam } from "./team.js";
 import { drawTransfers } from "./transfers.js";
 
-/** Each place by the first word of its address: how it is drawn, and where it stands in the bar. */
+// Each place by the first word of its address: how it is drawn, and where it stands in the bar.
 const PLACES = {
 	points: [drawPoints, "points"],
 	week: [drawWeek, "points"],
@@ -54,7 +54,7 @@ let open = null; // the address of the place that is in the page
 let shown = 0; // how often something was read anew when it was put there
 let deadline = null; // of the next gameweek, in seconds, with its name
 
-/** What was typed into forms of the open place and not sent, by the ids of the fields. */
+// What was typed into forms of the open place and not sent, by the ids of the fields.
 const typed = () => recall("typed")?.[open] ?? {};
 const keepTyped = (fields) => remember("typed", { [open]: fields });
 
@@ -65,7 +65,7 @@ function placeNow() {
 	return { name: Object.hasOwn(PLACES, name) ? name : null, ids: ids.map(Number) };
 }
 
-/** A reader that asks the host, each target once. */
+// A reader that asks the host, each target once.
 function freshReader() {
 	const asked = new Map();
 	return (target) => {
@@ -78,7 +78,7 @@ function freshReader() {
 
 const keptReader = async (target) => host.readKept(target);
 
-/** The open place by a reader. A place is given its reader, who asks, and how it acts. */
+// The open place by a reader. A place is given its reader, who asks, how it acts, and the season.
 async function drawn(read) {
 	const caller = await read("/api/me/");
 	if (!hasDrafts()) {
@@ -88,18 +88,18 @@ async function drawn(read) {
 	const { hash } = location;
 	const { name = null, ids } = placeNow();
 	const place = name ?? (isOperator ? "matches" : "points");
-	const page = { read, caller, isOperator, send, season: () => seasonBy(read), redraw };
-	const header = await headerOf(page);
+	const page = { read, caller, isOperator, send, redraw };
 	let nodes;
 	try {
+		page.season = await seasonBy(read);
 		nodes = await PLACES[place][0](page, ...ids);
 	} catch (fault) {
 		nodes = instead(fault);
 	}
-	return { hash, header, isOperator, here: PLACES[place][1], nodes: [nodes].flat(Infinity).filter(Boolean) };
+	return { hash, header: await headerOf(page), isOperator, here: PLACES[place][1], nodes: [nodes].flat(Infinity).filter(Boolean) };
 }
 
-/** What is drawn where the host refused what a place reads. */
+// What is drawn where the host refused what a place reads.
 function instead(fault) {
 	if (!(fault instanceof host.Refusal) || fault.status === 401) {
 		throw fault;
@@ -107,7 +107,7 @@ function instead(fault) {
 	return [heading(fault.status === 404 ? "There is nothing here" : "Not yet"), make("p", sentence(fault))];
 }
 
-/** Shows the open place: first as it is kept, if it was opened just now, then as the host tells it. */
+// Shows the open place: first as it is kept, if it was opened just now, then as the host tells it.
 async function show() {
 	const mine = ++turn;
 	if (open !== location.hash) {
@@ -141,7 +141,7 @@ async function showKept() {
 	}
 }
 
-/** Signs in again where the key isn't known; waits where the host can't answer. */
+// Signs in again where the key isn't known; waits where the host can't answer.
 async function endure(fault) {
 	if (fault.status === 401) {
 		host.signOut();
@@ -154,7 +154,7 @@ async function endure(fault) {
 	}
 }
 
-/** Draws the place again: something was chosen here. */
+// Draws the place again: something was chosen here.
 async function redraw() {
 	const mine = turn;
 	const found = await drawn(keptReader);
@@ -163,7 +163,7 @@ async function redraw() {
 	}
 }
 
-/** Puts what was drawn into the page; focus, what was typed, unfolded and scrolled stay. */
+// Puts what was drawn into the page; focus, what was typed, unfolded and scrolled stay.
 function put({ hash, header, isOperator, here, nodes }) {
 	const isOpened = open !== hash;
 	if (isOpened && open !== null) {
@@ -178,7 +178,7 @@ function put({ hash, header, isOperator, here, nodes }) {
 	showBar(isOperator, here);
 	part("main").replaceChildren(...nodes);
 	const title = part("main").querySelector("h1");
-	document.title = `${title.textContent} \u00b7 Kowhirupe`;
+	document.title = `${title.textContent} · Kowhirupe`;
 	countDown();
 	Object.entries(typed()).forEach(([it, values]) => part(it) && Object.assign(part(it), values));
 	if (isOpened) {
@@ -198,31 +198,14 @@ function put({ hash, header, isOperator, here, nodes }) {
 
 // Header and bar
 
-async function headerOf(page) {
-	const name = page.isOperator ? "The operator" : named(page.caller.name);
-	deadline = await nextDeadline(page);
-	const points = await pointsIn(page);
-	return [make("span.who", name, points), button("sign-out", "Sign out", signOut, { kind: ".link" }), make("span", { id: "next" })];
-}
-
-async function nextDeadline(page) {
-	try {
-		const season = await page.season();
-		return season.next && { name: `Gameweek ${season.next}`, moment: season.deadline(season.next) };
-	} catch (fault) {
-		if (fault instanceof host.Refusal && isBeforeSeason(fault)) {
-			return null;
-		}
-		throw fault;
-	}
-}
-
-async function pointsIn({ caller, read }) {
+async function headerOf({ season, isOperator, caller, read }) {
+	deadline = season?.next && { name: `Gameweek ${season.next}`, moment: season.deadline(season.next) };
 	const points = caller.started_event && (await read(`/api/entry/${caller.entry}/`)).summary_event_points;
-	return points === null ? null : ` \u00b7 ${whole(points)} points`;
+	const who = make("span.who", isOperator ? "The operator" : named(caller.name), points !== null && ` · ${whole(points)} points`);
+	return [who, button("sign-out", "Sign out", signOut, { kind: ".link" }), make("span", { id: "next" })];
 }
 
-/** Tells how long it is to the deadline, and asks the host once it is there. */
+// Tells how long it is to the deadline, and asks the host once it is there.
 function countDown() {
 	const shown = part("next");
 	if (shown && deadline) {
@@ -234,7 +217,7 @@ function countDown() {
 	}
 }
 
-/** Marks where one is in the bar, which is made once. */
+// Marks where one is in the bar, which is made once.
 function showBar(isOperator, here) {
 	const places = isOperator ? BAR_OF_THE_OPERATOR : BAR_OF_MANAGERS;
 	const way = ([place, text]) => make("li", make("a", { href: `#/${place}`, id: `to-${place}` }, icon(place), text));
@@ -248,7 +231,7 @@ function showBar(isOperator, here) {
 
 let waiting = null;
 
-/** A bar moves on top while the host is asked for longer than a moment. */
+// A bar moves on top while the host is asked for longer than a moment.
 function work(isGoingOn) {
 	clearTimeout(waiting);
 	part("main").setAttribute("aria-busy", String(isGoingOn));
@@ -263,7 +246,7 @@ function unsaved(text) {
 	part("unsaved").hidden = false;
 }
 
-/** A notice, until it is closed or another place is opened. */
+// A notice, until it is closed or another place is opened.
 function say(kind, text) {
 	saidAt = Date.now();
 	const close = button("close-notice", "Close", () => part("notice").replaceChildren(), { kind: ".link" });
@@ -272,10 +255,8 @@ function say(kind, text) {
 
 // Commands
 
-/**
- * Sends a command for a button, which is busy meanwhile, says how it ended, and shows the place anew, or the one that `next`
- * gives. `done` is what is said of it; the others are those of `host.command`. Gives the answer's body; null where it was refused.
- */
+// Sends a command for a button, which is busy meanwhile, says how it ended, and shows the place anew, or the one that `next`
+// gives. `done` is what is said of it; the others are those of `host.command`. Gives the answer's body; null where it was refused.
 async function send(busy, target, members, { done = "Saved.", next = null, ...others } = {}) {
 	const from = location.hash;
 	if (host.isBusy()) {
@@ -301,12 +282,12 @@ async function send(busy, target, members, { done = "Saved.", next = null, ...ot
 	return body;
 }
 
-/** Forgets what was typed into the form of a button. */
+// Forgets what was typed into the form of a button.
 function forget({ form }) {
 	keepTyped(Object.fromEntries(Object.entries(typed()).filter(([id]) => part(id)?.form !== form)));
 }
 
-/** Why a command was not done. */
+// Why a command was not done.
 async function inWords(fault) {
 	if (fault instanceof host.TooLate) {
 		const next = fault.next === null ? "The season is over." : `Gameweek ${fault.next} is next: look at your team, and save again.`;
@@ -322,7 +303,7 @@ async function inWords(fault) {
 	throw fault;
 }
 
-/** Goes on with a command that was under way before a reload. */
+// Goes on with a command that was under way before a reload.
 async function resume() {
 	try {
 		if ((await host.resume()) === null) {
@@ -365,7 +346,7 @@ function signInForm(wrong = "") {
 	if (wrong) {
 		say("bad", wrong);
 	}
-	document.title = "Sign in \u00b7 Kowhirupe";
+	document.title = "Sign in · Kowhirupe";
 	key.focus();
 }
 
@@ -384,7 +365,7 @@ function begin() {
 
 // What happens on its own
 
-/** Reads anew what is looked at, unless something is asked or sent. */
+// Reads anew what is looked at, unless something is asked or sent.
 function refresh() {
 	if (document.visibilityState === "visible" && part("places").firstChild && !document.querySelector("dialog") && !host.isBusy()) {
 		show();

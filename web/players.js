@@ -1,16 +1,17 @@
 // All players, and one with his matches and what the operator changes of him.
 
 import { SORTS, browsing } from "./browsing.js";
-import { choice, field, form, input, link, make, named, quiet } from "./elements.js";
+import { choice, field, input, link, make, named, nameInput, quiet, setting } from "./elements.js";
 import { heading, playerLink, shortly, strip, table } from "./parts.js";
 import { POSITIONS, STATS, money, when, whole } from "./words.js";
 
+const LETTERS = "GDMF"; // of the positions, in commands
 const STAT_NAMES = Object.keys(STATS);
 const STAT_HEADS = Object.values(STATS).map((text) => `${text}#`);
 const statsOf = (it) => STAT_NAMES.map((name) => whole(it[name]));
 
 export async function drawPlayers(page) {
-	const season = await page.season();
+	const { season } = page;
 	const head = ["Player", ...Object.values(SORTS).map(({ text }) => `${text}#`), ...STAT_HEADS];
 	const open = () => table("All players of the season", head, [], { isWide: true });
 	const row = (player) => {
@@ -22,7 +23,7 @@ export async function drawPlayers(page) {
 }
 
 export async function drawPlayer(page, id) {
-	const season = await page.season();
+	const { season } = page;
 	const { fixtures, history } = await page.read(`/api/element-summary/${id}/`);
 	const player = season.player(id);
 	return [
@@ -45,7 +46,7 @@ export async function drawPlayer(page, id) {
 function played(season, history) {
 	const match = (it) => {
 		const against = it.opponent_team === null ? season.fixtureName(it.fixture) : `${season.shortName(it.opponent_team)} (${it.was_home ? "H" : "A"})`;
-		const score = it.team_h_score === null ? "" : ` ${it.team_h_score}\u2013${it.team_a_score}`;
+		const score = it.team_h_score === null ? "" : ` ${it.team_h_score}–${it.team_a_score}`;
 		return [link(`fixtures/${it.round}`, `Week ${it.round}`), " ", against, score];
 	};
 	const row = (it) => [match(it), whole(it.total_points), ...statsOf(it)];
@@ -58,17 +59,19 @@ function toCome(season, fixtures) {
 	return table("The matches of his club", ["Against", "Kick-off", "Week#"], fixtures.map(row));
 }
 
-/** What the operator changes, each by a command of its own. */
-function changes(page, season, { id, now_cost: cost, team, status }) {
+// What the operator changes, each by a command of its own.
+function changes(page, season, { id: player, web_name: called, element_type: plays, now_cost: cost, team, status }) {
 	const price = input("price", { type: "number", step: "0.1", value: (cost / 10).toFixed(1) });
-	const club = choice("club", [...season.clubs.values()].map((it) => [it.id, it.name]), team);
+	const club = choice("club", season.clubChoices(), team);
+	const name = nameInput("name", { value: called });
+	const position = choice("position", [...LETTERS].map((letter, place) => [letter, POSITIONS[place + 1]]), LETTERS[plays - 1]);
 	const isGone = status === "u";
-	const set = (target, name, value) => (busy) => page.send(busy, target, { player: id, [name]: value() });
-	const one = (name, call, content) => make("div.card", form(`set-${name}`, "Set", call, content));
+	const set = (target, members) => (busy) => page.send(busy, target, members());
 	return make(
 		"div.cards",
-		one("price", set("/prices", "price", () => Math.round(10 * price.value)), field("Price in millions", price)),
-		one("club", set("/clubs", "club", () => Number(club.value)), field("Club", club)),
-		one("gone", set("/gone", "gone", () => !isGone), make("span", isGone ? "He has left. Set that he is back:" : "Set that he has left:")),
+		setting("price", set("/prices", () => ({ player, price: Math.round(10 * price.value) })), field("Price in millions", price)),
+		setting("club", set("/clubs", () => ({ player, club: Number(club.value) })), field("Club", club)),
+		setting("gone", set("/gone", () => ({ player, gone: !isGone })), make("span", isGone ? "He has left. Set that he is back:" : "Set that he has left:")),
+		setting("name", set(`/players/${player}`, () => ({ name: name.value, position: position.value })), field("Name", name), field("Position", position)),
 	);
 }

@@ -16,7 +16,7 @@ export async function drawEntry(page, entry, gameweek) {
 }
 
 async function gameweekOf(page, entry, first, given, address) {
-	const season = await page.season();
+	const { season } = page;
 	if (first > season.current) {
 		return [heading("Points"), make("p", `They come once gameweek ${first} has begun. `, link("team", "My team"))];
 	}
@@ -55,19 +55,19 @@ function summary(event, { entry_history: row, active_chip: active }) {
 
 function pickButton(season, pick, player, gameweek, hasCome, hasGone) {
 	const points = whole(player.stats.total_points);
-	const times = pick.multiplier > 1 ? `\u00d7${pick.multiplier}` : "";
+	const times = pick.multiplier > 1 ? `×${pick.multiplier}` : "";
 	const marks = [
 		pick.is_captain && ["leader", "C", "captain"],
 		pick.is_vice_captain && ["leader", "V", "vice-captain"],
-		hasCome && ["came", "\u2191", "came in"],
-		hasGone && ["went", "\u2193", "went out"],
+		hasCome && ["came", "↑", "came in"],
+		hasGone && ["went", "↓", "went out"],
 	].filter(Boolean);
 	const about = [`${points} points`, ...marks.map(([, , spoken]) => spoken), times && `counts ${pick.multiplier} times`];
 	const onclick = () => explain(season, player, gameweek, times);
 	return playerButton(season, pick.element, { worth: points + times, badges: marks, about, onclick });
 }
 
-/** What a player's points of a gameweek are made of, line by line. */
+// What a player's points of a gameweek are made of, line by line.
 function explain(season, { id, explain: lines, stats }, gameweek, times = "") {
 	const { team, web_name: name } = season.player(id);
 	const row = (it) => [STATS[it.identifier], whole(it.value), whole(it.points)];
@@ -81,12 +81,12 @@ function explain(season, { id, explain: lines, stats }, gameweek, times = "") {
 }
 
 export async function drawWeek(page, given) {
-	const season = await page.season();
+	const { season } = page;
 	if (season.current === 0) {
 		return [heading("Team of the week"), quiet("There is one once a gameweek has begun.")];
 	}
 	const gameweek = given ?? season.current;
-	const { team, top_player: top } = await page.read(`/api/dream-team/${gameweek}/`);
+	const { team } = await page.read(`/api/dream-team/${gameweek}/`);
 	const { elements } = await page.read(`/api/event/${gameweek}/live/`);
 	const buttonOf = ({ element, points }) => {
 		const onclick = () => explain(season, elements.find((it) => it.id === element), gameweek);
@@ -95,6 +95,5 @@ export async function drawWeek(page, given) {
 	return [
 		turning(heading(`Team of week ${gameweek}`), "week", gameweek, 1, season.current),
 		team.length > 0 ? pitch(season, team.map(buttonOf)) : quiet("No eleven has played yet."),
-		top && quiet(`Most points: ${season.playerName(top.id)} with ${whole(top.points)}.`),
 	];
 }

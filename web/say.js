@@ -6,8 +6,8 @@ import { money } from "./words.js";
 
 const REFUSALS = {
 	1: "The host is behind what this page knew. Look at what stands now, and save again.",
-	2: "This was changed on another device or in another window. Look at it, and save again.",
-	3: "This was changed on another device or in another window. Look at it, and save again.",
+	2: "This was changed on another device. Look at it, and save again.",
+	3: "This was changed on another device. Look at it, and save again.",
 	4: "There is no season yet. The operator loads it.",
 	5: "There is a season already.",
 	6: "The season is over: every gameweek is locked.",
@@ -54,6 +54,8 @@ const REFUSALS = {
 	47: "{fixture} is there already.",
 	48: "A season has at most 380 matches.",
 	49: "A season has at most 32 cups.",
+	65: "{player} is or was in a team, or has figures, so his position stays.",
+	66: "{fixture} has figures or is finished, so its clubs stay.",
 };
 
 const STATUSES = {
@@ -64,7 +66,7 @@ const STATUSES = {
 	500: "The host's store is damaged. Please tell who runs it.",
 };
 
-/** What a refusal names, in words. */
+// What a refusal names, in words.
 function wordsOf(body, season, team) {
 	return {
 		...body,
@@ -72,18 +74,17 @@ function wordsOf(body, season, team) {
 		player: season?.playerName(body.player) ?? "A player",
 		club: season?.clubName(body.club) ?? "a club",
 		fixture: season?.fixtureName(body.fixture) ?? "A match",
-		field: FIGURES[body.field - 1]?.name ?? body.field,
+		field: FIGURES[body.field - 1] ?? body.field,
 		short_by: money(body.short_by),
 	};
 }
 
-/** A refusal as a sentence, with the names of whom it is about. */
+// A refusal as a sentence, with the names of whom it is about.
 export function sentence({ status, body }, season = null, team = "Your team") {
 	const text = (status === 409 ? REFUSALS[body.rule] : STATUSES[status]) ?? `The host answered ${status}.`;
 	const words = wordsOf(body, season, team);
 	return text.replace(/\{(\w+)\}/g, (_, name) => words[name]);
 }
 
-/** Whether a refusal says that there is no season, and that the caller has no squad. */
-export const isBeforeSeason = (refusal) => refusal.status === 409 && refusal.body.rule === 4;
+// Whether a refusal says that the caller has no squad.
 export const isUnregistered = (refusal) => refusal.status === 409 && refusal.body.rule === 32;

@@ -6,14 +6,15 @@ import { plain } from "./words.js";
 const seasons = new WeakMap(); // by the host's answers, so that each is gone through once
 const byId = (list) => new Map(list.map((item) => [item.id, item]));
 
-function there(found) {
+// What was found, which a place can't do without.
+export function there(found) {
 	if (!found) {
 		throw new Refusal(404, {});
 	}
 	return found;
 }
 
-/** Reads the season by the reader of a place. */
+// Reads the season by the reader of a place.
 export async function seasonBy(read) {
 	const [overview, fixtures] = await Promise.all([read("/api/bootstrap-static/"), read("/api/fixtures/")]);
 	if (seasons.get(overview)?.fixtures !== fixtures) {
@@ -38,6 +39,10 @@ class Season {
 
 	player(id) {
 		return this.players.get(id);
+	}
+
+	position(id) {
+		return this.player(id).element_type;
 	}
 
 	playerName(id) {
@@ -65,17 +70,21 @@ class Season {
 		return there(this.fixtureOf.get(id));
 	}
 
-	/** Those in a gameweek, or in none where it is null. */
+	// Those in a gameweek, or in none where it is null.
 	fixturesIn(gameweek) {
 		return this.fixtures.filter((fixture) => fixture.event === gameweek);
 	}
 
-	/** As choices. */
+	// As choices.
 	openGameweeks() {
 		return this.gameweeks.filter((event) => event.id > this.current).map((event) => [event.id, event.name]);
 	}
 
-	/** Against whom a club plays in a gameweek: `BUR (H)`, two where it plays twice. */
+	clubChoices() {
+		return [...this.clubs.values()].map((club) => [club.id, club.name]);
+	}
+
+	// Against whom a club plays in a gameweek: `BUR (H)`, two where it plays twice.
 	opponents(club, gameweek) {
 		const matches = this.fixturesIn(gameweek).filter((it) => it.team_h === club || it.team_a === club);
 		const against = (it) => (it.team_h === club ? `${this.shortName(it.team_a)} (H)` : `${this.shortName(it.team_h)} (A)`);

@@ -1,18 +1,18 @@
 // The sheet of a match: checked as it is typed, what changed marked, sent whole.
 
-import { button, check, mainButton, make, named } from "./elements.js";
-import { FIGURES, groups, wrongFigure } from "./figures.js";
+import { button, check, folded, mainButton, make, named, scrolling } from "./elements.js";
+import { FIGURES, GROUPS, wrongFigure } from "./figures.js";
 import { recall, remember } from "./kept.js";
 import { heading, shortly } from "./parts.js";
 
-const GROUPS = groups();
-const COLUMNS = GROUPS.flatMap(([, places]) => places);
-const STARTS = GROUPS.map(([, places]) => places[0]);
+const PLACES = Object.values(GROUPS).map((group) => Object.keys(group).map(Number));
+const COLUMNS = PLACES.flat();
+const STARTS = PLACES.map(([first]) => first);
 const NOTHING = FIGURES.map(() => 0);
 const isEmpty = (line) => line.every((figure) => figure === 0);
 
 export async function drawSheet(page, id) {
-	const season = await page.season();
+	const { season } = page;
 	const told = await page.read(`/api/fixtures/${id}/sheet/`);
 	const sheet = new Sheet(page, season, id, told, recall(`draft sheet ${id}`));
 	return [
@@ -61,12 +61,12 @@ class Sheet {
 		this.state.textContent = this.wrong() ?? (this.isChanged() ? "Not saved yet" : "");
 	}
 
-	/** Those with a row: who has a figure, and who was added here. */
+	// Those with a row: who has a figure, and who was added here.
 	shown() {
 		return this.order([...this.lines.keys()].filter((player) => !this.told.has(player) || !isEmpty(this.lines.get(player))));
 	}
 
-	/** Home first, by position. */
+	// Home first, by position.
 	order(players) {
 		const place = (id) => {
 			const { team, element_type: position } = this.season.player(id);
@@ -78,12 +78,12 @@ class Sheet {
 	// The table
 
 	table() {
-		const group = ([title, places]) => make("th.group", { scope: "colgroup", colspan: places.length }, title);
-		const column = (place) => make(`th${this.edge(place)}`, { scope: "col" }, make("span", FIGURES[place].name));
-		const head = make("thead", make("tr", make("td"), GROUPS.map(group)), make("tr", make("th", { scope: "col" }, "Player"), COLUMNS.map(column)));
+		const group = (title, at) => make("th.group", { scope: "colgroup", colspan: PLACES[at].length }, title);
+		const column = (place) => make(`th${this.edge(place)}`, { scope: "col" }, make("span", FIGURES[place]));
+		const head = make("thead", make("tr", make("td"), Object.keys(GROUPS).map(group)), make("tr", make("th", { scope: "col" }, "Player"), COLUMNS.map(column)));
 		return make(
 			"div.scroll.sheet",
-			{ id: "sheet", tabindex: 0, role: "group", "aria-label": "The figures", onpaste: (event) => this.pasted(event) },
+			{ id: "sheet", ...scrolling("The figures"), onpaste: (event) => this.pasted(event) },
 			make("table", head, make("tbody", this.shown().map((player) => this.row(player)))),
 		);
 	}
@@ -107,7 +107,7 @@ class Sheet {
 			inputmode: "numeric",
 			autocomplete: "off",
 			value: this.lines.get(player)[place],
-			"aria-label": `${name}, ${FIGURES[place].name}`,
+			"aria-label": `${name}, ${FIGURES[place]}`,
 			onfocus: () => entry.select(),
 			oninput: () => this.typed(player, place, entry.value),
 		});
@@ -121,7 +121,7 @@ class Sheet {
 		this.keep();
 	}
 
-	/** Shows which figures of a player are wrong, and which are others than the host has. */
+	// Shows which figures of a player are wrong, and which are others than the host has.
 	mark(player) {
 		const line = this.lines.get(player);
 		this.inputs.get(player).forEach((entry, at) => {
@@ -132,7 +132,7 @@ class Sheet {
 		});
 	}
 
-	/** Rows and columns of a spreadsheet go into the cells from the one where they are pasted. */
+	// Rows and columns of a spreadsheet go into the cells from the one where they are pasted.
 	pasted(event) {
 		const rows = event.clipboardData.getData("text").trimEnd().split("\n").map((row) => row.split("\t"));
 		if (rows.flat().length === 1) {
@@ -157,7 +157,7 @@ class Sheet {
 		const shown = this.shown();
 		const rest = this.season.all.filter(({ id, team }) => (team === home || team === away) && !shown.includes(id)).map(({ id }) => id);
 		const add = (player) => button(`add-${player}`, named(this.season.playerName(player)), () => this.add(player));
-		return make("details", { id: "others" }, make("summary", `Players without a figure (${rest.length})`), make("div.choices", this.order(rest).map(add)));
+		return folded("others", `Players without a figure (${rest.length})`, make("div.choices", this.order(rest).map(add)));
 	}
 
 	add(player) {

@@ -6,12 +6,12 @@ import { recall, remember } from "./kept.js";
 import { canChange, isStarter, withChange, withLeader } from "./lineups.js";
 import { bench, heading, noTeam, pitch, playerButton, strip } from "./parts.js";
 import { isUnregistered } from "./say.js";
-import { CHIPS, money, when } from "./words.js";
+import { CHIPS, money } from "./words.js";
 
 const DRAFT = "draft lineup";
 let chosen = null; // the player who was tapped
 
-/** The caller's team as /me has it; null where there is none. */
+// The caller's team as /me has it; null where there is none.
 export async function myTeam(page) {
 	try {
 		return page.isOperator ? null : await page.read("/me");
@@ -24,7 +24,8 @@ export async function myTeam(page) {
 }
 
 export async function drawTeam(page) {
-	const [season, me] = await Promise.all([page.season(), myTeam(page)]);
+	const { season } = page;
+	const me = await myTeam(page);
 	if (me === null) {
 		return noTeam("My team");
 	}
@@ -35,7 +36,6 @@ export async function drawTeam(page) {
 	}
 	return [
 		heading(`My team for gameweek ${me.gameweek}`),
-		quiet(`It can be changed until ${when(season.deadline(me.gameweek))}.`),
 		figuresOf(me),
 		make("div.beside", make("div", standing(view), tools(view)), await chips(view)),
 	];
@@ -45,7 +45,7 @@ function lineupOf({ players, captain, vice }) {
 	return { players: players.map((it) => it.player), captain, vice };
 }
 
-/** What was moved and is not on the host yet. It goes where the squad is another now. */
+// What was moved and is not on the host yet. It goes where the squad is another now.
 function draftOf(me) {
 	const draft = recall(DRAFT);
 	const stands = lineupOf(me);
@@ -91,17 +91,15 @@ function slotButton(view, id, slot) {
 	});
 }
 
-export const positionIn = (season) => (player) => season.player(player).element_type;
-
 function stateOf({ season, lineup }, id, slot) {
 	const from = lineup.players.indexOf(chosen) + 1;
 	if (from === 0) {
 		return undefined;
 	}
-	return id === chosen ? "chosen" : canChange(lineup.players, from, slot, positionIn(season)) ? "may" : "not";
+	return id === chosen ? "chosen" : canChange(lineup.players, from, slot, season) ? "may" : "not";
 }
 
-/** The first tap chooses a player, the second changes him with another, where that is legal. */
+// The first tap chooses a player, the second changes him with another, where that is legal.
 function tapped(view, id, slot) {
 	const { page, lineup } = view;
 	if (stateOf(view, id, slot) === "may") {

@@ -5,8 +5,8 @@ import { button, choice, confirmed, field, mainButton, make, named, quiet } from
 import { recall, remember } from "./kept.js";
 import { usualOrder } from "./lineups.js";
 import { heading, pitch, playerButton, playerLink, shirt, shortly, strip } from "./parts.js";
-import { myTeam, positionIn } from "./team.js";
-import { CHIPS, POSITIONS, counted, money, when } from "./words.js";
+import { myTeam } from "./team.js";
+import { CHIPS, POSITIONS, counted, money } from "./words.js";
 
 const SWAPS = "draft swaps"; // pairs of who goes, and who comes or null
 const SQUAD = "draft squad"; // the players of a first squad
@@ -17,7 +17,8 @@ const COST = 4; // points for each transfer beyond the free ones
 const FREE = ["wildcard", "free_hit"];
 
 export async function drawTransfers(page) {
-	const [season, me] = await Promise.all([page.season(), myTeam(page)]);
+	const { season } = page;
+	const me = await myTeam(page);
 	if (page.isOperator || season.next === null) {
 		return [heading("Transfers"), quiet(page.isOperator ? "The operator has no team." : "The season is over.")];
 	}
@@ -26,7 +27,7 @@ export async function drawTransfers(page) {
 
 const sum = (numbers) => numbers.reduce((total, number) => total + number, 0);
 
-/** The list of players, with a button for each who may come. */
+// The list of players, with a button for each who may come.
 function market(season, name, mayCome, come) {
 	const figures = (content) => {
 		const isShown = (sort) => sort === filtersOf(name).sort || sort === "now_cost";
@@ -63,12 +64,12 @@ async function transfers(page, season, me) {
 		remember(SWAPS, null);
 	}
 	const view = { page, season, me, swaps, sells, bank, keep, made: await madeSoFar(page, me) };
-	const open = (player) => swaps.find((swap) => swap.in === null && positionIn(season)(swap.out) === player.element_type);
+	const open = (player) => swaps.find((swap) => swap.in === null && season.position(swap.out) === player.element_type);
 	const mayCome = (player) => open(player) !== undefined && !comers.includes(player.id) && !held.includes(player.id);
 	const come = (player) => keep(swaps.map((swap) => (swap === open(player) ? { ...swap, in: player.id } : swap)));
 	return [
 		heading(`Transfers for gameweek ${me.gameweek}`),
-		quiet(`Until ${when(season.deadline(me.gameweek))}. Tap a player to sell him, then choose who comes.`),
+		quiet("Tap a player to sell him, then choose who comes."),
 		strip([
 			["Bank", money(bank)],
 			["Free transfers", me.free ?? "all"],
@@ -79,7 +80,7 @@ async function transfers(page, season, me) {
 	];
 }
 
-/** How many were made in the gameweek, as far as it is told, by what they cost, who is new or what was made here. */
+// How many were made in the gameweek, as far as it is told, by what they cost, who is new or what was made here.
 async function madeSoFar(page, me) {
 	if (me.free === null || me.cost > 0) {
 		return me.free === null ? 0 : me.free + me.cost / COST;
@@ -97,10 +98,10 @@ function costOf({ me, made, swaps }) {
 	return me.free === null || FREE.includes(me.chip) ? 0 : cost(made + swaps.length) - cost(made);
 }
 
-/** The squad as it would be. A tap sells who is held, keeps who goes, and takes back who comes. */
+// The squad as it would be. A tap sells who is held, keeps who goes, and takes back who comes.
 function squadButtons({ season, me, swaps, sells, keep }) {
 	const sell = (player) => () => {
-		filter("transfers", { position: positionIn(season)(player), search: "" });
+		filter("transfers", { position: season.position(player), search: "" });
 		keep([...swaps, { out: player, in: null }]);
 	};
 	const stay = (swap) => () => keep(swaps.filter((it) => it !== swap));
@@ -109,11 +110,11 @@ function squadButtons({ season, me, swaps, sells, keep }) {
 		const swap = swaps.find((it) => it.out === player);
 		if (swap?.in) {
 			const price = money(season.player(swap.in).now_cost);
-			const comes = { worth: price, badges: [["came", "\u2191"]], about: [`comes for ${price}`], state: "chosen", onclick: leave(swap) };
+			const comes = { worth: price, badges: [["came", "↑"]], about: [`comes for ${price}`], state: "chosen", onclick: leave(swap) };
 			return [swap.in, playerButton(season, swap.in, comes)];
 		}
 		const price = money(sells.get(player));
-		const goes = swap && { badges: [["went", "\u2193"]], state: "not", onclick: stay(swap) };
+		const goes = swap && { badges: [["went", "↓"]], state: "not", onclick: stay(swap) };
 		return [player, playerButton(season, player, { worth: price, about: [`sells for ${price}`], onclick: sell(player), ...goes })];
 	});
 }
@@ -140,7 +141,7 @@ async function agreed(view, busy) {
 	const { page, season, me, swaps, sells, bank, made } = view;
 	const cost = costOf(view);
 	const line = (swap) =>
-		make("li", named(season.playerName(swap.out)), ` ${money(sells.get(swap.out))} \u2192 `, named(season.playerName(swap.in)), ` ${money(season.player(swap.in).now_cost)}`);
+		make("li", named(season.playerName(swap.out)), ` ${money(sells.get(swap.out))} → `, named(season.playerName(swap.in)), ` ${money(season.player(swap.in).now_cost)}`);
 	const isSure = await confirmed(
 		counted(swaps.length, "transfer"),
 		cost === 0 ? "Make them" : `Make them for ${cost} points`,
@@ -158,7 +159,7 @@ async function agreed(view, busy) {
 
 function firstSquad(page, season) {
 	const squad = (recall(SQUAD) ?? []).filter((id) => season.player(id));
-	const wanted = (position) => PLACES[position] - squad.filter((id) => positionIn(season)(id) === position).length;
+	const wanted = (position) => PLACES[position] - squad.filter((id) => season.position(id) === position).length;
 	const left = BUDGET - sum(squad.map((id) => season.player(id).now_cost));
 	const missing = 15 - squad.length;
 	const keep = (changed) => {
@@ -187,7 +188,7 @@ function firstSquad(page, season) {
 	];
 }
 
-/** A place that is open: a tap shows the players for it. */
+// A place that is open: a tap shows the players for it.
 function emptyPlace(page, position, place) {
 	const look = async () => {
 		filter("squad", { position });
@@ -198,9 +199,9 @@ function emptyPlace(page, position, place) {
 	return button(`empty-${position}-${place}`, face, look, { kind: ".player.not" });
 }
 
-/** Asks for the armbands, and enters the squad in the slots of 4-4-2. */
+// Asks for the armbands, and enters the squad in the slots of 4-4-2.
 async function registered(page, season, squad, busy) {
-	const players = usualOrder(squad, positionIn(season));
+	const players = usualOrder(squad, season);
 	const starters = players.slice(0, 11).map((id) => [id, season.playerName(id)]);
 	const dearest = [...starters].sort(([one], [other]) => season.player(other).now_cost - season.player(one).now_cost);
 	const captain = choice("squad-captain", starters, dearest[0][0]);

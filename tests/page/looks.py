@@ -6,7 +6,7 @@ from wanted import need
 KEA = "kea123456"
 PLACES = {
     KEA: ("points", "team", "transfers", "fixtures", "players", "player/9", "leagues", "league/1", "league/2", "cup/1", "week", "entry/2/2"),
-    OPERATOR: ("matches", "sheet/30", "correct/30", "move/41", "season", "keys", "draws", "leagues"),
+    OPERATOR: ("matches", "sheet/30", "correct/30", "move/41", "season", "keys", "keys/1", "draws", "leagues", "player/9"),
 }
 NOW = deadline(4) - 2 * 86400 - 3 * 3600
 

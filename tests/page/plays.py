@@ -3,7 +3,7 @@ import socket
 import time
 
 from looks import LOOKS, pictures
-from seasons import GAMEWEEKS, Caller, Small, deadline
+from seasons import CLUBS, GAMEWEEKS, MANAGERS, Caller, Small, deadline
 from served import OPERATOR
 from stories import STORIES, choose
 from wanted import need
@@ -339,6 +339,66 @@ def evening(stage):
     page.go("draws").tap("draw-3").tap("yes").sees("The league is drawn", "#notice")
 
 
+def another_key(stage):
+    """A key that leaked lets nobody in any more: the manager is asked for a key, and goes on with the one on his new card."""
+    stage.open(360)
+    stage.serve_played(1)
+    _, me = stage.served.ask("GET", "/me", KEA)
+    manager = stage.window(KEA)
+    manager.sees("Kea Kickers", "#header")
+    operator = stage.window(OPERATOR, is_new=True)
+    operator.go("keys")
+    operator.find("a[href='#/keys/1']").click()
+    operator.sees("A new key for Kea Kickers").tap("make-key").sees("The key is made", "#notice")
+    key = operator.text(".key")
+    need(len(key) == 16 and stage.served.ask("GET", "/me", KEA)[0] == 401, "the old key is known")
+    operator.picture("360-another-key")
+    operator.go("keys/2").set("team-name", "Tui City").tap("make-key").sees("Tui City", "table")
+    operator.go("keys/1").tap("make-key")
+    operator.until(lambda: key not in operator.text(), "no card for a key that is another one now")
+    need(len(operator.all(".key")) == 2, "not a card for each team")
+    key = operator.text(".key")
+    manager.here().refresh().sees("not known here", "#notice").sign_in(key)
+    manager.sees("Kea Kickers", "#header").go("team").tap(f"player-{me['players'][5]['player']}").tap("captain").tap("save")
+    manager.sees("Your team is saved", "#notice")
+
+
+def misspelt_player(stage):
+    """A player's name is put right at any time, and his position until he is in use; then it is told why not."""
+    stage.open(360)
+    season = stage.serve_played(1)
+    ask = lambda target: stage.served.ask("GET", target, OPERATOR)[1]
+    held = {player for *_, seed in MANAGERS for player in season.squad(seed)}
+    idle = next(it for it in range(2, 121, 15) if it not in held)  # the second goalkeeper of a club, who has not played
+    page = stage.window(OPERATOR)
+    page.go(f"player/{idle}").set("name", "Te Rangi").set("position", "F").reload().tap("set-name").sees("Saved", "#notice")
+    page.sees("Te Rangi", "h1").sees("forward")
+    need(ask(f"/players/{idle}")["position"] == "F", "another position")
+    used = min(held)
+    page.go(f"player/{used}").set("name", "O\u2019Hara").tap("set-name").sees("O\u2019Hara", "h1")
+    position = ask(f"/players/{used}")["position"]
+    page.set("position", next(it for it in "GDMF" if it != position)).tap("set-name")
+    page.sees("O\u2019Hara is or was in a team, or has figures, so his position stays", "#notice")
+    need(ask(f"/players/{used}")["position"] == position, "another position of one who is in use")
+
+
+def other_clubs(stage):
+    """The clubs of a match are put right until it has figures; then it is told why not. None plays against itself."""
+    stage.open(360)
+    season = stage.serve_played(1)
+    ask = lambda target: stage.served.ask("GET", target, OPERATOR)[1]
+    home, away = season.fixtures[20]
+    page = stage.window(OPERATOR)
+    page.go("move/20").set("home", away).tap("set-clubs")
+    need(page.driver.execute_script("return !document.getElementById('away').validity.valid"), "a club plays against itself")
+    page.set("away", home).tap("set-clubs").sees("Saved", "#notice")
+    now = ask("/fixtures/20")
+    need((now["home"], now["away"], now["gameweek"]) == (away, home, 2), f"another match: {now}")
+    home, away = season.fixtures[10]
+    page.go("move/10").set("home", away).set("away", home).tap("set-clubs")
+    page.sees(f"{CLUBS[home - 1]} against {CLUBS[away - 1]} has figures or is finished, so its clubs stay", "#notice")
+
+
 def two_windows(stage):
     """Two windows of one manager: the slower one is told, over a reload too, keeps what was chosen, and saves it then."""
     stage.open()
@@ -365,7 +425,6 @@ def stopped_host(stage):
     page.go("team").tap(f"player-{me['players'][5]['player']}").tap("captain")
     stage.served.stop()
     page.tap("save").sees("Not saved yet, trying again", "#unsaved")
-    time.sleep(4)
     stage.served.start()
     page.sees("Your team is saved", "#notice")
     _, now = stage.served.ask("GET", "/me", KEA)
@@ -450,7 +509,7 @@ def screen_reader(stage):
     acting = ("button", "link", "textbox", "searchbox", "combobox", "checkbox", "spinbutton", "DateTime", "dialog")
     for key, places in (
         (KEA, ("points", "team", "transfers", "fixtures", "players", "player/9", "leagues", "league/1", "league/2", "cup/1", "week", "entry/2/1")),
-        (OPERATOR, ("matches", "sheet/30", "correct/30", "move/41", "season", "keys", "draws", "player/9")),
+        (OPERATOR, ("matches", "sheet/30", "correct/30", "move/41", "season", "keys", "keys/1", "draws", "player/9")),
     ):
         page = stage.window(key)
         page.sees("Gameweek 4", "#header")
@@ -587,6 +646,9 @@ PLAYS = {
             correction,
             sheets,
             evening,
+            another_key,
+            misspelt_player,
+            other_clubs,
             two_windows,
             stopped_host,
             cut_network,

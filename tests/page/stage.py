@@ -34,6 +34,7 @@ class Stage:
     def __init__(self, top, program, shots):
         self.top, self.program, self.shots = Path(top), program, Path(shots)
         self.web, self.served, self.driver, self.width = self.top / "web", None, None, None
+        self.is_used = False  # whether a play has opened the page
         self.played = {}  # by how many gameweeks were played, what the host held then, and the season
         self.shots.mkdir(parents=True, exist_ok=True)
 
@@ -51,7 +52,7 @@ class Stage:
                 except Exception:
                     pass  # a play may have stopped it
             self.served = None
-            if self.driver:
+            if self.is_used:
                 self.one_window()
 
     def host(self):
@@ -87,6 +88,7 @@ class Stage:
         """A Chromium, whose windows are as wide as this."""
         self.width = width
         if self.driver:
+            self.is_used = True
             return
         options = webdriver.ChromeOptions()
         options.binary_location = "/usr/bin/chromium"
@@ -110,6 +112,7 @@ class Stage:
             self.driver.switch_to.window(window)
             self.driver.close()
         self.driver.switch_to.window(fresh)
+        self.is_used = False
 
     def window(self, key=None, moment=None, is_new=False):
         """A window with the page, in which this key is signed in."""
