@@ -48,7 +48,7 @@ const REFRESHED = 60; // seconds until what is looked at is read again
 const NOT_SAVED = "Not saved yet, trying again.";
 const part = (id) => document.getElementById(id);
 
-let saidAt = 0; // when a notice was shown last
+let isLed = false; // whether what was sent leads to another place, where its notice stays
 let turn = 0; // of several that draw at once, the last one shows
 let open = null; // the address of the place that is in the page
 let shown = 0; // how often something was read anew when it was put there
@@ -248,7 +248,6 @@ function unsaved(text) {
 
 // A notice, until it is closed or another place is opened.
 function say(kind, text) {
-	saidAt = Date.now();
 	const close = button("close-notice", "Close", () => part("notice").replaceChildren(), { kind: ".link" });
 	part("notice").replaceChildren(make(`p.notice.${kind}`, make("span", text), close));
 }
@@ -275,6 +274,7 @@ async function send(busy, target, members, { done = "Saved.", next = null, ...ot
 	}
 	busy.disabled = false;
 	if (body && next && location.hash === from) {
+		isLed = true;
 		location.hash = next(body);
 	} else {
 		await show();
@@ -376,9 +376,10 @@ setInterval(countDown, 1000);
 setInterval(refresh, REFRESHED * 1000);
 document.addEventListener("visibilitychange", refresh);
 addEventListener("hashchange", () => {
-	if (Date.now() - saidAt > 1000) {
+	if (!isLed) {
 		part("notice").replaceChildren();
 	}
+	isLed = false;
 	if (host.hasKey()) {
 		show();
 	}
