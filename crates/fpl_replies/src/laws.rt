@@ -35,7 +35,8 @@ pub fn faults_never_fall()
 
 /// A law on the definitions: every reply to a message, but want of memory, a keeper that failed and a record of it that
 /// is not lawful, may be given by every host that is the same to whom the message comes from. So no reply hangs on what
-/// another manager did in an open gameweek.
+/// another manager did in an open gameweek, but one to the operator: whether an entry has had a player to whom he gives
+/// another position.
 pub fn messages_are_isolated()
     ensures { MessagesAreIsolated }
 {

@@ -15,7 +15,9 @@ pub fn views_are_isolated()
 {}
 
 /// A law: every command of a caller leads two books that are the same to him to the same: both refuse it with the
-/// same answer, or both accept it, it makes the same, and the books behind it are the same to him again.
+/// same answer, or both accept it, it makes the same, and the books behind it are the same to him again. Where it gives a
+/// player who has no line another position, as the operator may, they also have to say the same of whether an entry has
+/// had him: that is what refuses it, and it may have been in the open gameweek. So it is in the laws on replies below.
 pub fn commands_are_isolated()
     ensures { CommandsAreIsolated }
 {}
