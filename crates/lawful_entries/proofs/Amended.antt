@@ -25,11 +25,11 @@ module _ (p : ℕ) where
   -- an order of a squad in which he is not does not name him
   not_ordered : (players : List ℕ) → times p players ≡ 0 → list_any (λ q. q == p) players ≡ false
   not_ordered [] none = refl
-  not_ordered (q ∷ players) none = by_test (q == p) none
+  not_ordered (q ∷ players) none = by_test (q == p) none (λ more. not_ordered players more)
     where
-      by_test : (b : Bool) → (if b then 1 else 0) + times p players ≡ 0 → (b || list_any (λ q. q == p) players) ≡ false
-      by_test true none = absurd (omega (arith, none))
-      by_test false none = not_ordered players (omega (arith, none))
+      by_test : (b : Bool) → (if b then 1 else 0) + times p players ≡ 0 → (times p players ≡ 0 → list_any (λ q. q == p) players ≡ false) → (b || list_any (λ q. q == p) players) ≡ false
+      by_test true none rest = absurd (omega (arith, none))
+      by_test false none rest = rest (omega (arith, none))
 
   -- no deed names him, an order neither
   abbrev IsApart : Deed → Type 0

@@ -114,6 +114,9 @@ first_with key (z ∷ zs) from n x at is = by_test (bytes_eq z.key key) refl n a
         let f = further n at in
         record { place = suc f.place; first = f.first; found = ap (λ b. cond b (Some from) (more key)) other ∙ f.found ∙ ap Some (next f.place); there = f.there; has_it = f.has_it }
 
+from_zero : (n : ℕ) → 0 + n ≡ n
+from_zero n = omega arith
+
 -- where an entry has another key
 module _ (operator : List ℕ) (entries : List EntryFacts) (given : NewKey) (entry : EntryFacts) (entry_at : entry_in entries given.entry ≡ Some entry) (differ : KeysDiffer entries)
     (unbroken : rekey_refusal operator (keys_of entries) given.entry given.key ≡ None) where
@@ -134,7 +137,7 @@ module _ (operator : List ℕ) (entries : List EntryFacts) (given : NewKey) (ent
   none_else (suc n) x at other has =
       let f = first_with given.key entries 0 n x (sym (at_number entries n) ∙ at) has in
       let found : entry_with (keys_of entries) given.key ≡ Some (Entry (f.place + 1)) =
-      ap (option_map (λ place. Entry (place + 1))) (position_from-zero (λ other. bytes_eq other given.key) (keys_of entries) ∙ f.found) in
+      ap (option_map (λ place. Entry (place + 1))) (position_from-zero (λ other. bytes_eq other given.key) (keys_of entries) ∙ f.found ∙ ap Some (from_zero f.place)) in
       let is : f.place + 1 ≡ given.entry = its_own (bytes_eq operator given.key) (entry_with (keys_of entries) given.key) (f.place + 1) found unbroken in
       let place : suc f.place ≡ given.entry = omega (arith, is) in
       let at_first : entry_in entries (suc f.place) ≡ Some f.first = at_number entries f.place ∙ f.there in
@@ -150,7 +153,7 @@ module _ (operator : List ℕ) (entries : List EntryFacts) (given : NewKey) (ent
   others : (d : ℕ) (x : EntryFacts) → entry_in entries d ≡ Some x → (d ≡ given.entry → ⊥) → bytes_eq x.key given.key ≡ false
   others d x at other = elim (cases_Bool (bytes_eq x.key given.key)) [
     | inl has ↦ absurd (none_else d x at other has)
-    | inr no ↦ no
+    | inr has_not ↦ has_not
   ]
 
   -- who stands at a number behind it
@@ -213,7 +216,7 @@ its_holder entries (suc n) x key differ at has =
         | inr ge ↦ omega (arith, le, ge)
       ]
     ] in
-    ap (option_map (λ place. Entry (place + 1))) (position_from-zero (λ other. bytes_eq other key) (keys_of entries) ∙ f.found) ∙ ap (λ p. Some (Entry p)) (omega (arith, place))
+    ap (option_map (λ place. Entry (place + 1))) (position_from-zero (λ other. bytes_eq other key) (keys_of entries) ∙ f.found ∙ ap Some (from_zero f.place)) ∙ ap (λ p. Some (Entry p)) (omega (arith, place))
 
 -- nobody has a key that no entry has
 no_holder : (entries : List EntryFacts) (key : List ℕ) → ((n : ℕ) (x : EntryFacts) → entry_in entries n ≡ Some x → bytes_eq x.key key ≡ true → ⊥) → entry_with (keys_of entries) key ≡ None
@@ -266,8 +269,8 @@ keys_change_hands operator book given entry outcome lawful at ruled = by_issued 
 
     by_issued : (b : Bool) → b ≡ true → (broken : Option Rule) → rekey_refusal operator (keys_of book.entries) given.entry given.key ≡ broken
         → (if b then unless_broken broken (record { made = made.Nothing; book = record book { entries = after } }) else Err answer.Unknown) ≡ Ok outcome → ChangesHands operator given entry.key outcome.book.entries
-    by_issued true yes broken is ok = by_refusal broken is ok
-    by_issued false yes broken is ok = cc
+    by_issued true issued broken is ok = by_refusal broken is ok
+    by_issued false issued broken is ok = cc
 
 -- where only what an entry did changes
 pub keys_kept : (entries : List EntryFacts) (e : ℕ) (h : List Event) (entry : EntryFacts) → entry_in entries e ≡ Some entry → KeysDiffer entries → KeysDiffer (histories_with entries e h)
