@@ -41,7 +41,7 @@ use Rattle.season_entries.specs.Deeds.{IsAnswered, IsJudgedByBooks, StandForBook
 use Rattle.season_entries.specs.Entries.{AreEntries}
 use Rattle.season_entries.specs.EntryLaws.{EntriesAreIssued, FactsLeaveEntries}
 use Rattle.season_entries.specs.Keys.{IsRekeyJudgedByBooks}
-use Rattle.season_running.specs.Accepting.{IsRuled, Leads, made_by, made_in}
+use Rattle.season_running.specs.Accepting.{IsAmendable, IsRuled, Leads, made_by, made_in}
 use Rattle.season_running.specs.Standing.{Plays, Running}
 use Rattle.season_running.proofs.AnswerFacts.{granted_is}
 
@@ -304,6 +304,12 @@ module _ (operator : List ℕ) (book : Book) (caller : Caller) (now : ℕ) (comm
         }));
         lasts = ap (λ (b : Book). b.lasts) drawn.behind;
       }
+
+-- who is named may have the position, in the season as it is kept
+pub amendable : (kept seen : Running) (command : Command) (p : ℕ) (name : List ℕ) (position : Position) → kept ≡ seen → command ≡ commands.AmendPlayer p name position
+    → IsAmendable seen.facts seen.managers command → CanAmend kept.facts kept.managers p position
+amendable kept seen command p name position same is granted =
+    subst (λ (c : Command). IsAmendable kept.facts kept.managers c) is (subst (λ (r : Running). IsAmendable r.facts r.managers command) (sym same) granted)
 
 -- what follows where a call went well
 pub on_ok : {T E P Q : Type 0} (r : Result T E) → OnOk r P → (P → Q) → OnOk r Q

@@ -1,19 +1,17 @@
-use Rattle.std.proofs.Common.{ap, subst, sym}
-use Rattle.season_entries.specs.Amended.{CanAmend}
-use Rattle.season_running.specs.Accepting.{IsAmendable, IsDone}
+use Rattle.std.proofs.Common.{ap, subst}
+use Rattle.season_running.specs.Accepting.{IsDone}
 use Rattle.season_running.specs.Changed.{IsChangedBy}
 use Rattle.season_running.specs.Standing.{Running}
 use Rattle.season_running.proofs.ChangedFacts.{amend_changed}
-use Rattle.season_running.proofs.RuledFacts.{amend_done, on_ok}
+use Rattle.season_running.proofs.RuledFacts.{amend_done, amendable, on_ok}
 use Rattle.season_running.proofs.StepFacts.{in_step_amended}
 use Rattle.season_running.proofs.running.RunningSeason.amend.Goals as goal
 
-can : (c : goal.In-AmendPlayer) → CanAmend c.self.inside.season c.self.inside.managers.managers c.in-AmendPlayer.player c.in-AmendPlayer.position
-can c = subst (IsAmendable c.self.inside.season c.self.inside.managers.managers) c.in-AmendPlayer.is
-    (subst (λ (r : Running). IsAmendable r.facts r.managers c.args.command.now) (sym c.self.view_is) c.requires.granted)
-
 pub amend_player-requires : goal.amend_player-requires
-amend_player-requires c = record { there = (can (goal.at.amend_player-requires c).In-AmendPlayer).there }
+amend_player-requires c =
+    let before : Running = record { facts = c.self.inside.season; managers = c.self.inside.managers.managers; leagues = c.self.inside.leagues; cups = c.self.inside.cups } in
+    let can = amendable before c.args.self.now c.args.command.now c.in-AmendPlayer.player c.in-AmendPlayer.name c.in-AmendPlayer.position c.self.view_is c.in-AmendPlayer.is c.requires.granted in
+    record { there = can.there }
 
 pub invariant_of-self : goal.invariant_of-self
 invariant_of-self c =
@@ -21,12 +19,12 @@ invariant_of-self c =
 
 pub returns-in-AmendPlayer-clause-done : goal.returns-in-AmendPlayer-clause-done
 returns-in-AmendPlayer-clause-done c = λ now caller.
-    let managers = c.self.inside.managers.managers in
-    let before : Running = record { facts = c.self.inside.season; managers = managers; leagues = c.self.inside.leagues; cups = c.self.inside.cups } in
+    let before : Running = record { facts = c.self.inside.season; managers = c.self.inside.managers.managers; leagues = c.self.inside.leagues; cups = c.self.inside.cups } in
     let after : Running = record before { facts = c.amend_player.new.self } in
+    let can = amendable before c.args.self.now c.args.command.now c.in-AmendPlayer.player c.in-AmendPlayer.name c.in-AmendPlayer.position c.self.view_is c.in-AmendPlayer.is c.requires.granted in
     on_ok c.amend_player.result c.amend_player.ensures.ok (λ same. subst (λ (r : Running). IsDone caller now c.args.command.now r after) c.self.view_is
     (λ operator book plays ok. amend_done operator book caller now c.args.command.now before plays c.in-AmendPlayer.player c.in-AmendPlayer.name c.in-AmendPlayer.position after
-    c.amendments_leave_entries.ensures c.in-AmendPlayer.is (can (goal.at.returns-in-AmendPlayer-clause-done c).In-AmendPlayer)
+    c.amendments_leave_entries.ensures c.in-AmendPlayer.is can
     (ap (λ f. let r : Running = record before { facts = f } in r) same) ok))
 
 pub returns-in-AmendPlayer-clause-changed : goal.returns-in-AmendPlayer-clause-changed
