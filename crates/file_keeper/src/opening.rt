@@ -10,6 +10,7 @@ ghost use Rattle.fpl_base.specs.declared.outside.KeeperFault.TheVariants as caus
 ghost use Rattle.season_keeper.specs.Holding.{HoldsMap, MayLeave};
 ghost use Rattle.file_keeper.specs.Opening.{CommittedTells, IsBegunBy, IsOpenedBy};
 
+use crate::cause::Cause;
 use crate::stored::StoredFile;
 use fpl_base::KeeperFault;
 use path_keeper::Opening;
@@ -21,17 +22,19 @@ use sqlite::{Alter, Connection, Error, ErrorCode, File, FileFrom, Start};
 #[derive(Drop)]
 pub struct StoreFiles<'a, S: Start> {
     rt: &'a HostRuntime,
+    cause: &'a Cause,
     start: Option<S>,
     faults: u64,
 }
 
 impl<'a, S: Start> StoreFiles<'a, S> {
-    /// The files of this machine, of which none is open.
-    pub fn new(rt: &'a HostRuntime, start: S) -> Self
+    /// The files of this machine, of which none is open. Why an opening of one failed is kept in `cause`.
+    pub fn new(rt: &'a HostRuntime, cause: &'a Cause, start: S) -> Self
         ensures faults { ⟦<StoreFiles<'a, S> as Opening>⟧.faults result ≡ 0 }
     {
         StoreFiles {
             rt,
+            cause,
             start: Some(start),
             faults: 0,
         }
@@ -70,19 +73,31 @@ impl<'a, S: Start> Opening for StoreFiles<'a, S> {
             return Err(self.counted(KeeperFault::Failed));
         };
         match Connection::open_from(self.rt, path, false, start) {
-            Ok(connection) => Ok(StoredFile {
-                keeper: begun(connection),
-            }),
-            Err((error, _)) => Err(self.counted(fault_of(error))),
+            Ok(connection) => {
+                self.cause.keep(None);
+                Ok(StoredFile {
+                    keeper: begun(connection),
+                })
+            }
+            Err((error, _)) => {
+                self.cause.keep(Some(error));
+                Err(self.counted(fault_of(error)))
+            }
         }
     }
 
     fn open(&mut self, path: &str) -> Result<StoredFile<File>, KeeperFault> {
         match Connection::open(self.rt, path) {
-            Ok(connection) => Ok(StoredFile {
-                keeper: SqlKeeper::over(connection),
-            }),
-            Err(error) => Err(self.counted(fault_of(error))),
+            Ok(connection) => {
+                self.cause.keep(None);
+                Ok(StoredFile {
+                    keeper: SqlKeeper::over(connection),
+                })
+            }
+            Err(error) => {
+                self.cause.keep(Some(error));
+                Err(self.counted(fault_of(error)))
+            }
         }
     }
 }

@@ -1,4 +1,5 @@
 // Why the program ended, for a person who reads its standard error.
+use file_keeper::Cause;
 use std::fs::OpenOptions;
 use std::io;
 
@@ -10,13 +11,23 @@ pub fn tell(rt: &HostRuntime, kind: &str, name: &str, why: Option<&io::Error>) {
     };
 }
 
-/// Tells that the store of this path failed, with what the system says where it cannot be opened.
-pub fn tell_store(rt: &HostRuntime, path: &str) {
+/// Tells that the store of this path failed: with what the system says where its file cannot be opened, and else with what the
+/// database says where it was not opened.
+pub fn tell_store(rt: &HostRuntime, path: &str, cause: &Cause) {
     let mut options = OpenOptions::new();
     options.read(true).write(true);
     match options.open(rt, path) {
-        Ok(_) => tell(rt, "store", path, None),
+        Ok(_) => tell_database(rt, path, cause),
         Err(fault) => tell(rt, "store", path, Some(&fault)),
+    }
+}
+
+fn tell_database(rt: &HostRuntime, path: &str, cause: &Cause) {
+    match cause.words(rt.alloc()) {
+        Some(words) => {
+            let _ = eprintln!(rt; "kowhirupe: store {path}: {words}");
+        }
+        None => tell(rt, "store", path, None),
     }
 }
 

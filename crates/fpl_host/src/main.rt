@@ -13,7 +13,7 @@ use crate::causes::{tell, tell_port, tell_store};
 use crate::folder::pages_in;
 use crate::key_file::keyed;
 use crate::notes::tell_note;
-use file_keeper::{with_file, with_file_behind};
+use file_keeper::{Cause, with_file, with_file_behind};
 use fpl_asking::status::{DOORS, KEEPER, MEMORY, SHELF};
 use fpl_base::{Doors, Memory, Text};
 use fpl_doors::Listening;
@@ -154,12 +154,15 @@ fn loading(rt: &HostRuntime, alloc: Global, words: &[Text], store: Text) -> u8 {
         return MEMORY;
     };
     let mut note = None;
-    let status = stored_behind(rt, alloc, words, &mut Quiet, &mut disk, &mut note, store);
+    let cause = Cause::new();
+    let status = stored_behind(
+        rt, alloc, words, &cause, &mut Quiet, &mut disk, &mut note, store,
+    );
     if let Some(note) = note {
         tell_note(rt, note);
     }
     if status == KEEPER {
-        tell_store(rt, path.text());
+        tell_store(rt, path.text(), &cause);
     }
     if status == SHELF {
         if let Some((name, fault)) = disk.missed() {
@@ -170,11 +173,12 @@ fn loading(rt: &HostRuntime, alloc: Global, words: &[Text], store: Text) -> u8 {
 }
 
 // Runs with these doors, this shelf and a place for what is noted of a load, over the store of this path, which is opened
-// behind the files.
+// behind the files. Why it was not opened is kept in `cause`.
 fn stored_behind<D: Doors, F: AskedShelf>(
     rt: &HostRuntime,
     alloc: Global,
     words: &[Text],
+    cause: &Cause,
     doors: &mut D,
     shelf: &mut F,
     note: &mut Option<Note>,
@@ -190,7 +194,7 @@ fn stored_behind<D: Doors, F: AskedShelf>(
         shelf,
         note,
     };
-    with_file_behind(rt, store, work)
+    with_file_behind(rt, cause, store, work)
 }
 
 // Runs with these doors and this shelf, over a store in this file, or in memory.
@@ -241,9 +245,10 @@ fn stored<D: Doors, F: AskedShelf>(
         shelf,
         note: &mut note,
     };
-    let status = with_file(rt, path, work);
+    let cause = Cause::new();
+    let status = with_file(rt, &cause, path, work);
     if status == KEEPER {
-        tell_store(rt, name.text());
+        tell_store(rt, name.text(), &cause);
     }
     status
 }
