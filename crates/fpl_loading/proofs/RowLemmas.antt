@@ -1,5 +1,5 @@
 -- Rows that are gone through one after another.
-use Rattle.std.proofs.Common.{◌≡◌, ◌∙◌, ◌+◌, ◌<◌, ◌++◌, Bool, true, false, ℕ, List, [], ◌∷◌, length, take, drop, get_or, map, ap, append_assoc, append-nil, arith, refl, sym}
+use Rattle.std.proofs.Common.{◌≡◌, ◌∙◌, ◌+◌, ◌<◌, ◌≤◌, ◌++◌, Bool, true, false, ℕ, List, [], ◌∷◌, length, take, drop, get_or, map, ap, append_assoc, append-nil, arith, refl, sym}
 use Rattle.std.proofs.lemmas.List.{drop_all, drop_more, flat_map_more, map-append, take_more}
 use Rattle.std.specs.Prelude.{codes}
 use Rattle.fpl_loading.specs.Faults.{row_text}
@@ -13,7 +13,7 @@ abbrev pub with_rows : Added → Place → List Bool → Added
 with_rows added place rows = record added { there = added.there + count_same rows; differs = added.differs ++ differing place rows }
 
 added_is : (asked loaded a b : ℕ) (xs ys : List Place) → a ≡ b → xs ≡ ys
-    → record { asked = asked; loaded = loaded; there = a; differs = xs } ≡ record { asked = asked; loaded = loaded; there = b; differs = ys }
+    → ◌≡◌ {A = Added} (record { asked = asked; loaded = loaded; there = a; differs = xs }) (record { asked = asked; loaded = loaded; there = b; differs = ys })
 added_is asked loaded a b xs ys there differs = rw (there, differs) refl
 
 -- one row more was found
@@ -73,7 +73,7 @@ one_held added behind place next same rows at d first within is found stands so_
     ∙ so_far
 
 -- all were
-pub all_held : (added : Added) (place : Place) (rows : List Bool) (at : ℕ) (first : Place) → (at < length rows → ⊥) → with_rows added place (drop at rows) ≡ found_there first rows
+pub all_held : (added : Added) (place : Place) (rows : List Bool) (at : ℕ) (first : Place) → length rows ≤ at → with_rows added place (drop at rows) ≡ found_there first rows
     → added ≡ found_there first rows
 all_held added place rows at first behind so_far =
-    sym (no_row added place) ∙ ap (with_rows added place) (sym (drop_all at rows (omega (arith, behind)))) ∙ so_far
+    sym (no_row added place) ∙ ap (with_rows added place) (sym (drop_all at rows behind)) ∙ so_far

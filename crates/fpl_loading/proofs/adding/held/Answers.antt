@@ -1,3 +1,4 @@
+use Rattle.std.proofs.Common.{refl}
 use Rattle.fpl_loading.proofs.RowLemmas.{all_held, nothing_found, one_held}
 use Rattle.fpl_loading.proofs.adding.held.Goals as goal
 
@@ -6,7 +7,7 @@ loop-same-init c = nothing_found c.new.result c.args.place c.args.rows.now c.new
 
 pub loop-same-preserved : goal.loop-same-preserved
 loop-same-preserved c =
-    one_held c.loop-same.added c.hold_row.new.added c.loop-same.at c.in_ok-at.at c.same-item.result c.args.rows.now c.loop-same.same-index _ c.args.place c.loop-same-test.true c.same-item.is
+    one_held c.loop-same.added c.hold_row.new.added c.loop-same.at c.in_ok-at.at _ c.args.rows.now c.loop-same.same-index _ c.args.place c.loop-same-test.true refl
     c.in_ok-hold_row.ensures c.in_ok-at.ensures c.loop-same.invariant
 
 pub returns : goal.returns
