@@ -95,10 +95,14 @@ export function check(id, text, isChecked, properties = {}) {
 	return make("label.check", { for: id }, box, text);
 }
 
-// A dialog over the page, which goes when it is closed.
+// A dialog over the page. When it is closed the focus goes back, also where the page was drawn anew meanwhile.
 export function ask(title, ...children) {
+	const { id } = document.activeElement;
 	const dialog = make("dialog", { "aria-labelledby": "asked" }, make("h2", { id: "asked" }, title), ...children);
-	dialog.addEventListener("close", () => dialog.remove());
+	dialog.addEventListener("close", () => {
+		dialog.remove();
+		document.getElementById(id)?.focus();
+	});
 	dialog.addEventListener("click", ({ target }) => (target === dialog || target.closest("a, #no")) && dialog.close());
 	document.body.append(dialog);
 	dialog.showModal();

@@ -22,11 +22,11 @@ const MOST = { 0: 120, 7: 1, 8: 1, 17: 1, 18: 400, 19: 400 }; // and 99 of the o
 
 export const FIGURES = Object.assign([], ...Object.values(GROUPS));
 
-export const GOALS = FIGURES.indexOf("Goals");
-export const OWN_GOALS = FIGURES.indexOf("Own goals");
-export const WINNING_GOAL = FIGURES.indexOf("Winning goal");
-const ATTEMPTED = FIGURES.indexOf("Passes attempted");
-const COMPLETED = FIGURES.indexOf("Passes completed");
+export const GOALS = 1;
+export const OWN_GOALS = 9;
+export const WINNING_GOAL = 17;
+const ATTEMPTED = 18;
+const COMPLETED = 19;
 
 // What is wrong with the figure at a place of a line, or null.
 export function wrongFigure(line, place) {

@@ -24,7 +24,7 @@ function actions(page, { id, started, finished }, isLocked) {
 		"div.buttons",
 		isLocked && started && way("correct", "Correct a goal"),
 		isLocked && way("sheet", "Sheet"),
-		isLocked && button(`finish-${id}`, finished ? "Not finished" : "Finished", mark),
+		isLocked && button(`finish-${id}`, finished ? "Mark as not finished" : "Mark as finished", mark),
 		way("move", "Change"),
 	);
 }
@@ -64,7 +64,6 @@ export async function drawSeason(page) {
 	};
 	return [
 		heading("The season"),
-		quiet(`${season.current} of ${season.last} gameweeks are locked.`),
 		make("p", "What is told of a player is changed ", link("players", "on his own page"), "."),
 		make("h2", "Deadlines"),
 		make("div.cards", season.openGameweeks().map(row)),

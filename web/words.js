@@ -65,7 +65,7 @@ export function countdown(moment) {
 			parts.push(`${count}\u00a0${name}`);
 		}
 	}
-	return parts.slice(0, 2).join(" ") || "less than a minute";
+	return parts.slice(0, 2).join("\u00a0") || "less than a minute";
 }
 
 // The moment, in seconds, of a field for a local date and time.

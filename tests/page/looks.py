@@ -23,7 +23,7 @@ WRONG = r"""
     wrong.push(...players.filter(isBeside).map(() => "a player stands beside the pitch"));
     players.forEach((one, place) => players.slice(place + 1).forEach((other) => touch(one, other) && wrong.push("two players overlap")));
   }
-  for (const it of document.querySelectorAll("button:not(.player), .button, a, dt, dd, h1, h2, summary, .score, .who")) {
+  for (const it of document.querySelectorAll("button:not(.player, .unseen), .button, a, dt, dd, h1, h2, summary, .score, .who")) {
     if (it.clientWidth > 0 && it.scrollWidth > it.clientWidth + 1) wrong.push(`cut off: ${it.textContent}`);
   }
   const parts = (colour) => colour.match(/[\d.]+/g).map(Number);
