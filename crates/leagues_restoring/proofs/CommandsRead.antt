@@ -41,6 +41,7 @@ can_be_read (command.Season profile deadlines split clubs) e =
     let few = between 1 20 (length clubs) two.1 in
     (gameweeks.0, gameweeks.1, leb-true split (length deadlines) one.1, few.0, few.1, all_differ (club_ids clubs) three.1)
 can_be_read (command.Fixture id home away g kickoff) e = λ same. absurd (grind (arith, nat_tests, e, same))
+can_be_read (command.AmendFixture f home away) e = λ same. absurd (grind (arith, nat_tests, e, same))
 can_be_read (command.Sheet f lines finished) e = leb-true (length lines) 100 e
 can_be_read (command.Transfers swaps) e = between 1 15 (length swaps) e
 can_be_read (command.Chip chip) e = λ same. absurd (grind (arith, nat_tests, e, ap chip_number same))
