@@ -1,13 +1,12 @@
 // Keys to hand out: made here, sent to the host alone, shown as cards to print.
 
 import { randomLetters } from "./chance.js";
-import { button, field, form, link, make, named, nameInput, quiet } from "./elements.js";
+import { button, field, form, make, named, nameInput, quiet } from "./elements.js";
 import { recall, remember } from "./kept.js";
 import { heading, table } from "./parts.js";
 import { there } from "./season.js";
 import { whole } from "./words.js";
 
-const LETTERS = 16;
 const CARDS = "cards"; // those that were made in this window, until they are put away
 
 // Keys for new teams, or another key for a team, whose old one is lost or known to others.
@@ -16,19 +15,20 @@ export async function drawKeys(page, entry) {
 	const team = entry && there(entries.find((it) => it.entry === entry));
 	const cards = recall(CARDS) ?? [];
 	const name = nameInput("team-name", { value: team?.name });
-	const row = (it) => [named(it.name), whole(it.entry), whole(it.started_event), link(`keys/${it.entry}`, "New key")];
+	const another = ({ entry, name }) => make("a", { href: `#/keys/${entry}`, "aria-label": `New key for ${name}` }, "New key");
+	const row = (it) => [named(it.name), whole(it.entry), whole(it.started_event), another(it)];
 	return [
 		heading(team ? ["A new key for ", named(team.name)] : "Keys"),
 		team && make("p", "The old key lets nobody in any more. The team keeps all that it has."),
 		form("make-key", team ? "Make a new key" : "Make a key", (busy) => makeKey(page, busy, name.value, team), field("Name of the team", name)),
 		cards.length > 0 && cardsOf(page, cards),
-		entries.length > 0 ? table("The teams, with their first gameweek", ["Team", "Number#", "From#", ""], entries.map(row)) : quiet("No team yet. Make a key for each manager."),
+		entries.length > 0 ? table("The teams, with their first gameweek", ["Team", "Number#", "From#", "Key"], entries.map(row)) : quiet("No team yet. Make a key for each manager."),
 	];
 }
 
 // The card is kept before the command goes, so that no lost answer loses the key.
 async function makeKey(page, busy, name, team) {
-	const card = { name, key: randomLetters(LETTERS) };
+	const card = { name, key: randomLetters(16) };
 	const before = recall(CARDS) ?? [];
 	remember(CARDS, [card, ...before]);
 	const telling = { done: "The key is made. Hand it to the manager.", next: team && (() => "#/keys") };
