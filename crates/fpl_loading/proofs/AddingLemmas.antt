@@ -244,5 +244,9 @@ went_well (Err e) none on = absurd (true≢false none)
 
 -- what a command adds that was done
 pub lacking_is : (command : Command) (rows : ℕ) (differs : List Place) → rows ≡ rows_in command → differs ≡ []
-    → Ok {E = Stop} (record { asked = 1; loaded = rows; there = 0; differs = differs }) ≡ Ok (found_lacking command)
+    → ◌≡◌ {A = Result Added Stop} (Ok (record { asked = 1; loaded = rows; there = 0; differs = differs })) (Ok (found_lacking command))
 lacking_is command rows differs many none = rw (many, none) refl
+
+-- before the first command nothing is added
+pub nothing_is : (last : ℕ) (differs : List Place) → differs ≡ [] → ◌≡◌ {A = Tally} (record { number = last; loaded = 0; there = 0; differs = differs }) (nothing_added last)
+nothing_is last differs none = rw none refl

@@ -7,7 +7,7 @@ use Rattle.fpl_desk.specs.Kept.{Kept}
 use Rattle.fpl_loading.specs.More.{StopsBy}
 use Rattle.fpl_loading.specs.declared.notes.Place.{Place}
 use Rattle.fpl_loading.proofs.LoadingLemmas.{nothing_left, rose_since}
-use Rattle.fpl_loading.proofs.AddingLemmas.{adds_end, adds_goes, adds_lack, adds_start, adds_stop, more_is, went_well}
+use Rattle.fpl_loading.proofs.AddingLemmas.{adds_end, adds_goes, adds_lack, adds_start, adds_stop, more_is, nothing_is, went_well}
 use Rattle.fpl_loading.proofs.more.loaded_more.Goals as goal
 
 pub loop-command-init : goal.loop-command-init
@@ -16,7 +16,7 @@ loop-command-init g c =
     record {
       on = adds_start _ g.K.Keeper.tells g.K.Keeper.serves g.K.Keeper.holds g.K.Keeper.passes c.last-number.result (into_iter_items c.into_iter-command-iterator.result) _
           (record { host = c.args.host.now; moments = g.C.Clock.left c.args.clock.now; failed = g.K.Keeper.faults c.args.keeper.now; keeper = c.args.keeper.now })
-          (ap (λ (places : List Place). record { number = c.last-number.result; loaded = 0; there = 0; differs = places }) c.new.ensures);
+          (nothing_is _ _ c.new.ensures);
       fresh = c.requires.fresh;
       lawful = All-same IsCommand (into_iter_items c.into_iter-command-iterator.result) c.args.commands.items items c.requires.lawful;
       placed = omega arith;

@@ -12,7 +12,7 @@ invariant-loop-command g l =
       on : Leads g.K.Keeper.tells g.K.Keeper.serves g.K.Keeper.holds g.K.Keeper.passes
           (record { host = l.fn.host; moments = g.C.Clock.left l.fn.clock; failed = g.K.Keeper.faults l.fn.keeper; keeper = l.fn.keeper })
           (record { host = l.host; moments = g.C.Clock.left l.clock; failed = g.K.Keeper.faults l.keeper; keeper = l.keeper })
-          (On l.number (into_iter_items l.initial.command-iterator) (into_iter_items l.command-iterator) l.place l.tally);
+          (On l.initial.tally.number (into_iter_items l.initial.command-iterator) (into_iter_items l.command-iterator) l.place l.tally);
       fresh : l.host.stale ≡ false;
       lawful : All IsCommand (into_iter_items l.command-iterator);
       placed : l.place.row + length (into_iter_items l.command-iterator) ≤ length (into_iter_items l.initial.command-iterator);
