@@ -1,4 +1,4 @@
--- Looks behind which no gameweek is locked that was not before.
+-- Looks behind which no gameweek is locked that was not before: so none of the moments that were told for them locked one.
 use Rattle.std.proofs.Common.{◌≡◌, ◌∙◌, ◌≤◌, ℕ, Bool, false, List, [], ◌∷◌, Option, Some, None, Ok, Err, ap, arith, not, ◌==◌, refl, sym, subst}
 use Rattle.std.specs.Prelude.{is_some}
 use Rattle.std.specs.Option.{option_map}
