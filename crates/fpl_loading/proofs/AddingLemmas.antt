@@ -187,7 +187,7 @@ ok_not_err x e is = cc
 not_held : (place : Place) (command : Command) (told : Answer) (added : Added) → rows_same command told ≡ None → IsHeld place command told (Ok added) → ⊥
 not_held place command told added none (inl ends) =
     ok_not_err added (stop.Told told)
-    (subst (λ (rows : Option (List Bool)). MatchOption rows (Ok added ≡ Err (stop.Told told)) (λ r. Ok {E = Stop} added ≡ Ok (found_there place r))) none ends)
+    (subst (λ (rows : Option (List Bool)). MatchOption rows (◌≡◌ {A = Result Added Stop} (Ok added) (Err (stop.Told told))) (λ r. ◌≡◌ {A = Result Added Stop} (Ok added) (Ok (found_there place r)))) none ends)
 not_held place command told added none (inr memory) = ok_not_err added stop.Memory memory
 
 pub fresh_held : (place : Place) (command : Command) (stale : Bool) (told : Answer) (added : Added)
@@ -219,7 +219,7 @@ told_is a b is = cc
 pub told_keeper : (told : Answer) → stop.Told told ≡ stop.Told answer.Keeper → told ≡ answer.Keeper
 told_keeper told is = told_is told answer.Keeper is
 
-err_is : {X E : Type 0} (a b : E) → Err {X} a ≡ Err b → a ≡ b
+err_is : {X E : Type 0} (a b : E) → ◌≡◌ {A = Result X E} (Err a) (Err b) → a ≡ b
 err_is a b is = cc
 
 memory_not_told : (told : Answer) → stop.Memory ≡ stop.Told told → ⊥
@@ -231,7 +231,8 @@ pub held_keeper : (failures : Failures) (place : Place) (command : Command) (tol
 held_keeper failures place command told (Ok added) caused held = tt
 held_keeper failures place command told (Err why) caused held = λ is. go (rows_same command told) held is
   where
-    go : (rows : Option (List Bool)) → MatchOption rows (Err {Added} why ≡ Err (stop.Told told)) (λ r. Err why ≡ Ok (found_there place r)) ⊎ (Err {Added} why ≡ Err stop.Memory)
+    go : (rows : Option (List Bool)) → MatchOption rows (◌≡◌ {A = Result Added Stop} (Err why) (Err (stop.Told told))) (λ r. ◌≡◌ {A = Result Added Stop} (Err why) (Ok (found_there place r)))
+        ⊎ (◌≡◌ {A = Result Added Stop} (Err why) (Err stop.Memory))
         → why ≡ stop.Told answer.Keeper → Rose failures.before failures.behind
     go None (inl ends) is = rose_behind failures told caused (told_is told answer.Keeper (sym (err_is why (stop.Told told) ends) ∙ is))
     go (Some rows) (inl there) is = absurd (ok_not_err (found_there place rows) why (sym there))

@@ -5,13 +5,13 @@ use Rattle.fpl_loading.specs.More.{is_done}
 use Rattle.fpl_loading.proofs.AddingLemmas.{added_done, added_none, added_not, fresh_if, lacking_is, told_keeper}
 use Rattle.fpl_loading.proofs.adding.add.Goals as goal
 
-pub returns-then-clause-added : goal.returns-then-clause-added
-returns-then-clause-added g c =
+pub returns-then-number-ge-MOST-clause-added : goal.returns-then-number-ge-MOST-clause-added
+returns-then-number-ge-MOST-clause-added g c =
     let first : Kept _ = record { host = c.args.host.now; moments = g.C.Clock.left c.args.clock.now; failed = g.K.Keeper.faults c.args.keeper.now; keeper = c.args.keeper.now } in
-    added_none _ g.K.Keeper.tells g.K.Keeper.serves g.K.Keeper.holds g.K.Keeper.passes c.args.number c.args.command first (omega (arith, c.if.true))
+    added_none _ g.K.Keeper.tells g.K.Keeper.serves g.K.Keeper.holds g.K.Keeper.passes c.args.number c.args.command first (omega (arith, c.if-number-ge-MOST.true))
 
 pub ask-told-requires : goal.ask-told-requires
-ask-told-requires g c = record { fresh = c.requires.fresh; asked = (omega (arith, c.if.false), omega (arith, c.if.false), c.requires.lawful) }
+ask-told-requires g c = record { fresh = c.requires.fresh; asked = (omega (arith, c.if-number-ge-MOST.false), omega (arith, c.if-number-ge-MOST.false), c.requires.lawful) }
 
 pub returns-then-is_done-clause-added : goal.returns-then-is_done-clause-added
 returns-then-is_done-clause-added g c =
