@@ -69,7 +69,9 @@ fn load_all<W: Sink, C: Clock, K: Keeper, L: Ledger>(
     ensures keeper { result.status ≡ 4 → Rose (K.faults keeper.old) (K.faults keeper.new) }
 {
     match Host::open(alloc, keeper, key, steps) {
-        Ok(mut host) => loaded_by(alloc, &mut host, more, commands, output, clock, keeper, steps),
+        Ok(mut host) => loaded_by(
+            alloc, &mut host, more, commands, output, clock, keeper, steps,
+        ),
         Err(fault) => {
             let status = unopened(alloc, fault, output);
             LoadEnd { status, note: None }
