@@ -3,7 +3,7 @@
 ghost use Rattle.std.specs.Prelude.{◌≡◌, ◌<◌, ◌^◌};
 
 use crate::changes::{change_leaves, make_tree, plant_all};
-use fpl_base::{Memory, Steps};
+use fpl_base::{Memory, ReadCount};
 use std::alloc::Global;
 use std::marker::Brand;
 use std::sync::ledger::{Blank, Ledger};
@@ -50,7 +50,7 @@ fn measure<L: Ledger>(
     requires parts { blank.parts ≡ L.parts }
     requires some { 0 < blank.parts }
 {
-    let mut steps = Steps::<L>::open(blank);
+    let mut steps = ReadCount::<L>::open(blank);
     let mut tree = make_tree(alloc, size)?;
     let mut cells = plant_all(alloc, &tree)?;
     if stage == Stage::Plant {

@@ -3,7 +3,7 @@
 ghost use Rattle.std.specs.Prelude.{◌≡◌, ◌<◌};
 
 use crate::Plan;
-use fpl_base::{FixtureId, Memory, PlayerId, Refused, Steps};
+use fpl_base::{FixtureId, Memory, PlayerId, ReadCount, Refused};
 use match_facts::{Line, MatchFacts};
 use std::alloc::Global;
 use std::marker::Brand;
@@ -39,7 +39,7 @@ fn ran<L: Ledger>(alloc: Global, plan: Plan, call: Call, blank: Blank) -> Result
 {
     let sheet = sheet(alloc)?;
     let mut facts = filled(alloc, plan.size, &sheet)?;
-    let mut steps: Steps<L> = Steps::open(blank);
+    let mut steps: ReadCount<L> = ReadCount::open(blank);
     called(&mut facts, plan, call, &sheet, &mut steps)
 }
 
@@ -83,7 +83,7 @@ fn called<L: Ledger>(
     plan: Plan,
     call: Call,
     sheet: &[(PlayerId, Line)],
-    steps: &mut Steps<L>,
+    steps: &mut ReadCount<L>,
 ) -> Result<u64, Refused> {
     let mut total = 0u64;
     for turn in 0..plan.times {
@@ -103,7 +103,7 @@ fn made<L: Ledger>(
     fixture: FixtureId,
     player: PlayerId,
     sheet: &[(PlayerId, Line)],
-    steps: &mut Steps<L>,
+    steps: &mut ReadCount<L>,
 ) -> Result<u64, Refused> {
     let line = Line { figures: [1; 28] };
     match call {

@@ -4,7 +4,7 @@ ghost use Rattle.std.specs.Prelude.{◌≡◌, ◌<◌, ◌↔◌, IsTrue, IsSom
 ghost use Rattle.rule_book.specs.Players.{player_of};
 
 use crate::Plan;
-use fpl_base::{ClubId, EntryId, Gw, Key, Name, PlayerId, Position, Profile, Steps, Tenths};
+use fpl_base::{ClubId, EntryId, Gw, Key, Name, PlayerId, Position, Profile, ReadCount, Tenths};
 use manager_book::ManagerBook;
 use player_prices::{Player, Players};
 use std::alloc::Global;
@@ -38,7 +38,7 @@ fn ran<L: Ledger>(alloc: Global, plan: Plan, call: Call, blank: Blank) -> Option
     let squad = squad()?;
     let players = players(alloc, &squad)?;
     let mut book = filled(alloc, plan.size, &players, &squad)?;
-    let mut steps: Steps<L> = Steps::open(blank);
+    let mut steps: ReadCount<L> = ReadCount::open(blank);
     called(alloc, &mut book, plan, call, &squad, &mut steps)
 }
 
@@ -177,7 +177,7 @@ fn called<L: Ledger>(
     plan: Plan,
     call: Call,
     squad: &[PlayerId; 15],
-    steps: &mut Steps<L>,
+    steps: &mut ReadCount<L>,
 ) -> Option<u64> {
     let g = Gw::new(plan.gameweek)?;
     let key = key_of(alloc, plan.size)?;
@@ -197,7 +197,7 @@ fn made<L: Ledger>(
     g: Gw,
     key: &Key,
     squad: &[PlayerId; 15],
-    steps: &mut Steps<L>,
+    steps: &mut ReadCount<L>,
 ) -> Option<u64> {
     match call {
         Call::TeamAt => Some(u64::from(book.team_at(e, g, steps).is_some())),

@@ -4,7 +4,7 @@ ghost use Rattle.rescore_graph.specs.States.{look, values_in};
 ghost use Rattle.bench.specs.Tree.{tree_graph, part};
 ghost use Rattle.bench.specs.TreeLaws.{tree_lawful, number_exact};
 
-use fpl_base::{Memory, Steps};
+use fpl_base::{Memory, ReadCount};
 use rescore_graph::{Cells, Rules};
 use std::alloc::Global;
 use std::sync::ledger::Ledger;
@@ -38,7 +38,7 @@ impl Tree {
     }
 
     // The value of a node, and 0 of one that is not there.
-    fn part<L: Ledger>(&self, m: u32, cells: &Cells<u32, u32>, steps: &mut Steps<L>) -> u32
+    fn part<L: Ledger>(&self, m: u32, cells: &Cells<u32, u32>, steps: &mut ReadCount<L>) -> u32
         ensures value { result
             ≡ part (length self.now.numbers.items) (values_in (look nat_cmp cells.now)) m }
         ensures cost { steps.new ≤ steps.old + 1 }
@@ -82,7 +82,7 @@ impl Rules for Tree {
         _alloc: Global,
         n: u32,
         cells: &Cells<u32, u32>,
-        steps: &mut Steps<L>,
+        steps: &mut ReadCount<L>,
     ) -> Result<u32, Memory> {
         let number = self.numbers[n as usize - 1];
         let first = self.part(2 * n, cells, steps);

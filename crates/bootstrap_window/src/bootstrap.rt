@@ -12,7 +12,7 @@ use crate::element_types::write_element_types;
 use crate::elements::write_elements;
 use crate::events::write_events;
 use crate::teams::write_teams;
-use fpl_base::{ClubId, EntryId, Memory, Name, Steps};
+use fpl_base::{ClubId, EntryId, Memory, Name, ReadCount};
 use json::Writer;
 use json_members::write_count;
 use season_entries::entries_are_issued;
@@ -28,7 +28,7 @@ pub fn write_bootstrap<L: Ledger>(
     alloc: Global,
     seen: &Seen<L>,
     cells: &SeenCells<L>,
-    steps: &mut Steps<L>,
+    steps: &mut ReadCount<L>,
 ) -> Result<bool, Memory>
     requires kept { IsKept seen.now cells.now }
     ensures value { ShowsEach seen.now (λ entries. Some (bootstrap_window seen.now.facts entries))
@@ -47,7 +47,7 @@ fn write_parts<L: Ledger>(
     seen: &Seen<L>,
     cells: &SeenCells<L>,
     clubs: &[(ClubId, Name)],
-    steps: &mut Steps<L>,
+    steps: &mut ReadCount<L>,
 ) -> Result<(), AllocError>
     requires kept { IsKept seen.now cells.now }
     requires clubs { clubs.now ≡ seen.now.facts.clubs }

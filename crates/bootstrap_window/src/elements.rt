@@ -13,7 +13,7 @@ use crate::element_types::position_number;
 use crate::holders::{Holders, count_in, holders_now};
 use crate::table::{Table, table_of, totals_in};
 use crate::totals::Totals;
-use fpl_base::{Gw, PlayerId, Steps};
+use fpl_base::{Gw, PlayerId, ReadCount};
 use json::Writer;
 use json_members::{text_of, write_count, write_integer, write_nothing, write_text};
 use player_prices::Players;
@@ -28,7 +28,7 @@ pub(crate) fn write_elements<L: Ledger>(
     alloc: Global,
     seen: &Seen<L>,
     cells: &SeenCells<L>,
-    steps: &mut Steps<L>,
+    steps: &mut ReadCount<L>,
 ) -> Result<(), AllocError>
     requires { IsKept seen.now cells.now }
     ensures value { WritesEach seen.now (λ entries. elements_window seen.now.facts entries) result
@@ -63,7 +63,7 @@ fn points_now<L: Ledger>(
     seen: &Seen<L>,
     cells: &SeenCells<L>,
     player: PlayerId,
-    steps: &mut Steps<L>,
+    steps: &mut ReadCount<L>,
 ) -> i32
     requires kept { IsKept seen.now cells.now }
     requires there { is_some (player_of seen.now.facts.players player) ≡ true }

@@ -12,7 +12,7 @@ ghost use Rattle.bootstrap_window.specs.EventRows.{event_by};
 ghost use Rattle.bootstrap_window.specs.Told.{AreTold, entry_of, highest_of};
 
 use crate::scores::{Best, EventScores, event_scores};
-use fpl_base::{FixtureId, Gw, Moment, Steps};
+use fpl_base::{FixtureId, Gw, Moment, ReadCount};
 use json::Writer;
 use json_members::{
     write_count, write_count_or_null, write_integer_or_null, write_text, write_truth,
@@ -42,7 +42,7 @@ pub(crate) fn write_events<L: Ledger>(
     alloc: Global,
     seen: &Seen<L>,
     cells: &SeenCells<L>,
-    steps: &mut Steps<L>,
+    steps: &mut ReadCount<L>,
 ) -> Result<(), AllocError>
     requires { IsKept seen.now cells.now }
     ensures value { WritesEach seen.now (λ entries. events_window seen.now.facts entries) result

@@ -9,7 +9,7 @@ ghost use Rattle.season_book.specs.Elements.{is_picked};
 ghost use Rattle.season_book.specs.Elements.{entries_now};
 ghost use Rattle.bootstrap_window.specs.Tables.{AreHeld, count_in};
 
-use fpl_base::{EntryId, Gw, PlayerId, Steps};
+use fpl_base::{EntryId, Gw, PlayerId, ReadCount};
 use rule_book::{Pick, Team};
 use season_entries::entries_are_issued;
 use season_views::Seen;
@@ -31,7 +31,7 @@ pub(crate) struct Holders {
 pub(crate) fn holders_now<L: Ledger>(
     alloc: Global,
     seen: &Seen<L>,
-    steps: &mut Steps<L>,
+    steps: &mut ReadCount<L>,
 ) -> Result<Holders, AllocError>
     ensures value { IfOk result
         (λ holders. OfEachSeen seen.now
@@ -61,7 +61,7 @@ fn count_entry<L: Ledger>(
     seen: &Seen<L>,
     entry: EntryId,
     gameweek: Gw,
-    steps: &mut Steps<L>,
+    steps: &mut ReadCount<L>,
 ) -> Result<(), AllocError>
     requires few { (p : ℕ) → count_in holders.old.counts p < 2 ^ 32 - 1 }
     requires entries { holders.old.entries < 2 ^ 32 - 1 }

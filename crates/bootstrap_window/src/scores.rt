@@ -10,7 +10,7 @@ ghost use Rattle.season_book.specs.EntryTotals.{gross_by, is_in};
 ghost use Rattle.season_book.specs.Events.{Scores, scores_in};
 ghost use Rattle.bootstrap_window.specs.Told.{AreTold, better_of};
 
-use fpl_base::{EntryId, Gw, Steps};
+use fpl_base::{EntryId, Gw, ReadCount};
 use rule_book::TeamScore;
 use season_entries::entries_are_issued;
 use season_ledger::rows_tell;
@@ -37,7 +37,7 @@ pub(crate) fn event_scores<L: Ledger>(
     seen: &Seen<L>,
     cells: &SeenCells<L>,
     gameweek: Gw,
-    steps: &mut Steps<L>,
+    steps: &mut ReadCount<L>,
 ) -> EventScores
     requires { IsKept seen.now cells.now }
     ensures value { OfEachSeen seen.now
@@ -66,7 +66,7 @@ fn with_entry<L: Ledger>(
     scores: EventScores,
     entry: EntryId,
     gameweek: Gw,
-    steps: &mut Steps<L>,
+    steps: &mut ReadCount<L>,
 ) -> EventScores
     requires kept { IsKept seen.now cells.now }
     requires locked { gameweek ≤ seen.now.facts.calendar.locked }
@@ -136,7 +136,7 @@ fn gross_held<L: Ledger>(
     cells: &SeenCells<L>,
     entry: EntryId,
     gameweek: Gw,
-    steps: &mut Steps<L>,
+    steps: &mut ReadCount<L>,
 ) -> Option<i32>
     requires kept { IsKept seen.now cells.now }
     requires locked { gameweek ≤ seen.now.facts.calendar.locked }

@@ -18,7 +18,7 @@ ghost use Rattle.season_book.specs.LineSums.{all_lines};
 ghost use Rattle.bootstrap_window.specs.Tables.{AllSmall, AreSmall, Sums, told, totals_in, with_line};
 
 use crate::totals::{Totals, no_totals, with_line};
-use fpl_base::{FixtureId, PlayerId, Position, Profile, Steps};
+use fpl_base::{FixtureId, PlayerId, Position, Profile, ReadCount};
 use line_scoring::{bps, line_points};
 use rule_book::{Fixture, Line};
 use season_graph::lines_are_told;
@@ -36,7 +36,7 @@ pub(crate) fn table_of<L: Ledger>(
     alloc: Global,
     seen: &Seen<L>,
     cells: &SeenCells<L>,
-    steps: &mut Steps<L>,
+    steps: &mut ReadCount<L>,
 ) -> Result<Table, AllocError>
     requires { IsKept seen.now cells.now }
     ensures value { IfOk result (λ table. Sums seen.now.facts table (all_lines seen.now.facts)) }
@@ -57,7 +57,7 @@ fn add_fixture<L: Ledger>(
     seen: &Seen<L>,
     cells: &SeenCells<L>,
     fixture: &Fixture,
-    steps: &mut Steps<L>,
+    steps: &mut ReadCount<L>,
 ) -> Result<(), AllocError>
     requires kept { IsKept seen.now cells.now }
     requires small { AllSmall table.old }

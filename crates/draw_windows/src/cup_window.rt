@@ -15,7 +15,7 @@ ghost use Rattle.season_views.specs.CupWindowReads.{cup_window_reads};
 use crate::shown::is_shown;
 use crate::ties::{comer_at, write_tie};
 use cup_rounds::{rounds, rounds_follow};
-use fpl_base::{CupId, EntryId, Gw, Memory, Steps};
+use fpl_base::{CupId, EntryId, Gw, Memory, ReadCount};
 use json::Writer;
 use json_members::write_count;
 use rule_book::{Bracket, Slots};
@@ -32,7 +32,7 @@ pub fn write_cup_window<L: Ledger>(
     seen: &Seen<L>,
     cells: &SeenCells<L>,
     number: u32,
-    steps: &mut Steps<L>,
+    steps: &mut ReadCount<L>,
 ) -> Result<bool, Memory>
     requires kept { IsKept seen.now cells.now }
     ensures value { ShowsEach seen.now
@@ -54,7 +54,7 @@ fn write_if_there<L: Ledger>(
     seen: &Seen<L>,
     cells: &SeenCells<L>,
     id: CupId,
-    steps: &mut Steps<L>,
+    steps: &mut ReadCount<L>,
 ) -> Result<bool, Memory>
     requires kept { IsKept seen.now cells.now }
     ensures value { ShowsEach seen.now (λ entries. cup_window seen.now.facts entries seen.now.cups id)
@@ -82,7 +82,7 @@ fn write_cup<L: Ledger>(
     id: CupId,
     bracket: &Bracket,
     through: &[Option<Slots>],
-    steps: &mut Steps<L>,
+    steps: &mut ReadCount<L>,
 ) -> Result<(), AllocError>
     requires kept { IsKept seen.now cells.now }
     requires shape { HasShape bracket.now }
@@ -108,7 +108,7 @@ fn write_rounds<L: Ledger>(
     cells: &SeenCells<L>,
     bracket: &Bracket,
     through: &[Option<Slots>],
-    steps: &mut Steps<L>,
+    steps: &mut ReadCount<L>,
 ) -> Result<(), AllocError>
     requires kept { IsKept seen.now cells.now }
     requires shape { HasShape bracket.now }
@@ -136,7 +136,7 @@ fn write_round<L: Ledger>(
     bracket: &Bracket,
     through: &[Option<Slots>],
     before: u8,
-    steps: &mut Steps<L>,
+    steps: &mut ReadCount<L>,
 ) -> Result<(), AllocError>
     requires kept { IsKept seen.now cells.now }
     requires shape { HasShape bracket.now }
@@ -166,7 +166,7 @@ fn write_ties<L: Ledger>(
     bracket: &Bracket,
     through: &[Option<Slots>],
     before: u8,
-    steps: &mut Steps<L>,
+    steps: &mut ReadCount<L>,
 ) -> Result<(), AllocError>
     requires kept { IsKept seen.now cells.now }
     requires shape { HasShape bracket.now }
@@ -199,7 +199,7 @@ fn write_tie_at<L: Ledger>(
     bracket: &Bracket,
     through: &[Option<Slots>],
     at: (u8, u16),
-    steps: &mut Steps<L>,
+    steps: &mut ReadCount<L>,
 ) -> Result<(), AllocError>
     requires kept { IsKept seen.now cells.now }
     requires shown { OfEachSeen seen.now (λ entries. through.now
@@ -228,7 +228,7 @@ fn points_of<L: Ledger>(
     cells: &SeenCells<L>,
     gameweek: u8,
     comer: &Option<EntryId>,
-    steps: &mut Steps<L>,
+    steps: &mut ReadCount<L>,
 ) -> Option<i32>
     requires kept { IsKept seen.now cells.now }
     requires one { 1 ≤ gameweek }
@@ -250,7 +250,7 @@ fn net_of<L: Ledger>(
     cells: &SeenCells<L>,
     entry: EntryId,
     gameweek: Gw,
-    steps: &mut Steps<L>,
+    steps: &mut ReadCount<L>,
 ) -> i32
     requires kept { IsKept seen.now cells.now }
     requires locked { gameweek ≤ seen.now.facts.calendar.locked }

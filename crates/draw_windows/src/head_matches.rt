@@ -17,7 +17,7 @@ ghost use Rattle.draw_windows.specs.RowTokens.{row_tokens};
 use crate::shown::is_shown;
 use crate::sides::{seen_by_other, write_first, write_place, write_second};
 use classic_leagues::League;
-use fpl_base::{EntryId, Gw, LeagueId, Memory, Steps};
+use fpl_base::{EntryId, Gw, LeagueId, Memory, ReadCount};
 use head_to_head::{opponent, opponent_is_the_one};
 use json::Writer;
 use json_members::{text_of, write_count, write_truth};
@@ -36,7 +36,7 @@ pub fn write_head_matches<L: Ledger>(
     seen: &Seen<L>,
     cells: &SeenCells<L>,
     number: u32,
-    steps: &mut Steps<L>,
+    steps: &mut ReadCount<L>,
 ) -> Result<bool, Memory>
     requires kept { IsKept seen.now cells.now }
     ensures value { ShowsEach seen.now
@@ -56,7 +56,7 @@ fn write_if_there<L: Ledger>(
     seen: &Seen<L>,
     cells: &SeenCells<L>,
     id: LeagueId,
-    steps: &mut Steps<L>,
+    steps: &mut ReadCount<L>,
 ) -> Result<bool, Memory>
     requires kept { IsKept seen.now cells.now }
     ensures value { ShowsEach seen.now
@@ -79,7 +79,7 @@ fn write_page<L: Ledger>(
     cells: &SeenCells<L>,
     id: LeagueId,
     league: &League,
-    steps: &mut Steps<L>,
+    steps: &mut ReadCount<L>,
 ) -> Result<(), AllocError>
     requires kept { IsKept seen.now cells.now }
     requires there { entry_in seen.now.leagues id ≡ Some league.now }
@@ -104,7 +104,7 @@ fn write_matches<L: Ledger>(
     cells: &SeenCells<L>,
     id: LeagueId,
     league: &League,
-    steps: &mut Steps<L>,
+    steps: &mut ReadCount<L>,
 ) -> Result<(), AllocError>
     requires kept { IsKept seen.now cells.now }
     requires there { entry_in seen.now.leagues id ≡ Some league.now }
@@ -134,7 +134,7 @@ fn write_gameweek<L: Ledger>(
     id: LeagueId,
     league: &League,
     gameweek: u8,
-    steps: &mut Steps<L>,
+    steps: &mut ReadCount<L>,
 ) -> Result<(), AllocError>
     requires kept { IsKept seen.now cells.now }
     requires there { entry_in seen.now.leagues id ≡ Some league.now }
@@ -162,7 +162,7 @@ fn write_if_first<L: Ledger>(
     id: LeagueId,
     league: &League,
     at: (u8, u8),
-    steps: &mut Steps<L>,
+    steps: &mut ReadCount<L>,
 ) -> Result<(), AllocError>
     requires kept { IsKept seen.now cells.now }
     requires there { entry_in seen.now.leagues id ≡ Some league.now }
@@ -217,7 +217,7 @@ fn scores_of<L: Ledger>(
     id: LeagueId,
     league: &League,
     at: (u8, u8),
-    steps: &mut Steps<L>,
+    steps: &mut ReadCount<L>,
 ) -> Option<(i32, i32)>
     requires kept { IsKept seen.now cells.now }
     requires there { entry_in seen.now.leagues id ≡ Some league.now }
@@ -243,7 +243,7 @@ fn scores_held<L: Ledger>(
     league: LeagueId,
     gameweek: Gw,
     place: u8,
-    steps: &mut Steps<L>,
+    steps: &mut ReadCount<L>,
 ) -> (i32, i32)
     ensures value { result ≡ scores_held (held_values cells.now (Node.Match league gameweek place)) }
     ensures cost { steps.new ≡ steps.old + 1 }

@@ -6,7 +6,7 @@ ghost use Rattle.season_views.specs.TransfersWindowReads.{transfers_window_reads
 
 use crate::shown::is_shown;
 use crate::transfers::write_latest;
-use fpl_base::{EntryId, Memory, Steps};
+use fpl_base::{EntryId, Memory, ReadCount};
 use json::Writer;
 use season_entries::entries_are_issued;
 use season_views::{Seen, issued};
@@ -18,7 +18,7 @@ pub fn write_transfers<L: Ledger>(
     out: &mut Writer,
     seen: &Seen<L>,
     number: u32,
-    steps: &mut Steps<L>,
+    steps: &mut ReadCount<L>,
 ) -> Result<bool, Memory>
     ensures value { ShowsEach seen.now (λ entries. transfers_window seen.now.facts entries number)
         result out.old out.new }
@@ -38,7 +38,7 @@ fn write_if_registered<L: Ledger>(
     out: &mut Writer,
     seen: &Seen<L>,
     entry: EntryId,
-    steps: &mut Steps<L>,
+    steps: &mut ReadCount<L>,
 ) -> Result<bool, Memory>
     requires { entry ≤ length seen.now.managers.managers }
     ensures value { ShowsEach seen.now (λ entries. transfers_window seen.now.facts entries entry) result

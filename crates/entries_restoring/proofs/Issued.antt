@@ -22,10 +22,10 @@ use Rattle.manager_book.specs.declared.manager.Manager.{Manager}
 use Rattle.manager_book.specs.Managers.{number_from}
 use Rattle.stored_records.specs.SeasonRules.{is_full, misses}
 use Rattle.stored_records.specs.Stored.{Rows, between, is_there, is_within, told}
-use Rattle.season_books.specs.EntryRules.{entry_breaks}
-use Rattle.season_books.specs.Lawful.{judged}
-use Rattle.season_books.specs.LeagueRules.{has_gap, has_key, has_other_key, issue_breaks}
-use Rattle.season_books.proofs.EntriesJudged.{and_then_some, entry_has, nothing_broken}
+use Rattle.store_validation.specs.EntryRules.{entry_breaks}
+use Rattle.store_validation.specs.Lawful.{judged}
+use Rattle.store_validation.specs.LeagueRules.{has_gap, has_key, has_other_key, issue_breaks}
+use Rattle.store_validation.proofs.EntriesJudged.{and_then_some, entry_has, nothing_broken}
 use Rattle.entries_restoring.specs.Restoring.{AreRestored, EndsAt, IsRestored, IsTold}
 use Rattle.entries_restoring.proofs.Numbers.{entry_at}
 use Rattle.entries_restoring.proofs.Told.{spelled_there}

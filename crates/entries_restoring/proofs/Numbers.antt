@@ -9,8 +9,8 @@ use Rattle.manager_book.specs.Calls.{with_gameweek}
 use Rattle.stored_records.specs.Sequels.{sales_from}
 use Rattle.stored_records.proofs.Trading.{none_ahead, one_ahead}
 use Rattle.stored_records.specs.Sequels.{and_then_those}
-use Rattle.season_books.specs.EntryLaws.{AllBehind, NumberedSale, SalesRise, sale_numbered, sales_of_rows}
-use Rattle.season_books.proofs.Numbered.{IsGapless, reached}
+use Rattle.store_validation.specs.EntryLaws.{AllBehind, NumberedSale, SalesRise, sale_numbered, sales_of_rows}
+use Rattle.store_validation.proofs.Numbered.{IsGapless, reached}
 use Rattle.entries_restoring.specs.Restoring.{through}
 use Rattle.entries_restoring.proofs.Through.{sales_next, sales_none, sales_of_gameweeks, through_next, through_none}
 

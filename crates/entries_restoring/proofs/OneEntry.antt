@@ -32,11 +32,11 @@ use Rattle.stored_records.specs.EntryTold.{first_in as first_of_item, first_told
 use Rattle.stored_records.specs.SeasonRules.{terms_told}
 use Rattle.stored_records.specs.Sequels.{sales_told}
 use Rattle.stored_records.specs.Stored.{Rows, is_there, told}
-use Rattle.season_books.specs.EntryLaws.{AreItsSales, AreItsTeams, sale_numbered, team_of_record}
-use Rattle.season_books.specs.Lawful.{judged}
-use Rattle.season_books.specs.TeamRules.{has_players, is_distinct, is_lined_up, is_priced, positions_told}
-use Rattle.season_books.proofs.EntriesJudged.{judged_lawful, judged_restored, nothing_broken, team_has}
-use Rattle.season_books.proofs.Lawful.{gapless}
+use Rattle.store_validation.specs.EntryLaws.{AreItsSales, AreItsTeams, sale_numbered, team_of_record}
+use Rattle.store_validation.specs.Lawful.{judged}
+use Rattle.store_validation.specs.TeamRules.{has_players, is_distinct, is_lined_up, is_priced, positions_told}
+use Rattle.store_validation.proofs.EntriesJudged.{judged_lawful, judged_restored, nothing_broken, team_has}
+use Rattle.store_validation.proofs.Lawful.{gapless}
 use Rattle.season_records.specs.Records.{player_item, team_item, transfer_item}
 use Rattle.season_rows.specs.Ordered.{IsManagerInOrder, IsRowInOrder}
 use Rattle.season_rows.specs.RowsTold.{manager_item, team_by, transfer_by}

@@ -20,11 +20,11 @@ use Rattle.rule_book.specs.Players.{player_of}
 use Rattle.stored_records.specs.EntryTold.{sale_in, sale_told, team_in, team_told}
 use Rattle.stored_records.specs.Sequels.{sales_told}
 use Rattle.stored_records.specs.Stored.{Rows, is_there, told}
-use Rattle.season_books.specs.EntryLaws.{team_of_record}
-use Rattle.season_books.specs.Lawful.{first_not_spelled, first_wrong, is_in_range, is_spelled, judged}
-use Rattle.season_books.specs.TeamRules.{position_in as position_of_item, position_told}
-use Rattle.season_books.proofs.EntriesJudged.{entry_has, none_mapped, none_passes, sale_has, team_has}
-use Rattle.season_books.proofs.Numbered.{nothing_told}
+use Rattle.store_validation.specs.EntryLaws.{team_of_record}
+use Rattle.store_validation.specs.Lawful.{first_not_spelled, first_wrong, is_in_range, is_spelled, judged}
+use Rattle.store_validation.specs.TeamRules.{position_in as position_of_item, position_told}
+use Rattle.store_validation.proofs.EntriesJudged.{entry_has, none_mapped, none_passes, sale_has, team_has}
+use Rattle.store_validation.proofs.Numbered.{nothing_told}
 use Rattle.season_records.specs.Records.{pick_told, player_item, team_item}
 use Rattle.entries_restoring.specs.Restoring.{ArePlayersTold, IsTold, parts_of, pick_placed, placed, team_placed}
 use Rattle.entries_restoring.specs.declared.managers.Parts.{Parts}

@@ -19,9 +19,9 @@ use Rattle.season_book.specs.EntryViews.{gameweek_seen}
 use Rattle.stored_records.specs.EntryTold.{first_in as first_of_item, first_told, last_open, sale_told, team_in}
 use Rattle.stored_records.specs.SeasonRules.{terms_told}
 use Rattle.stored_records.specs.Stored.{Rows, deadlines_in, locked_in, told}
-use Rattle.season_books.specs.Lawful.{judged}
-use Rattle.season_books.proofs.EntriesJudged.{judged_lawful, team_has}
-use Rattle.season_books.proofs.Lawful.{lawful_at, lawful_sale_at}
+use Rattle.store_validation.specs.Lawful.{judged}
+use Rattle.store_validation.proofs.EntriesJudged.{judged_lawful, team_has}
+use Rattle.store_validation.proofs.Lawful.{lawful_at, lawful_sale_at}
 use Rattle.season_entries.specs.Deeds.{AreInTime}
 use Rattle.season_entries.specs.EntryLaws.{AreEarly}
 use Rattle.season_records.specs.Records.{told_in}

@@ -7,7 +7,7 @@ ghost use Rattle.record_codec.specs.declared.slot.Slot.TheVariants as slot;
 ghost use Rattle.rule_book.specs.Entries.{entry_in};
 ghost use Rattle.season_book.specs.Book.{Facts};
 ghost use Rattle.stored_records.specs.Stored.{told};
-ghost use Rattle.season_books.specs.Lawful.{judged};
+ghost use Rattle.store_validation.specs.Lawful.{judged};
 ghost use Rattle.season_entries.specs.EntryLaws.{AreEarly};
 ghost use Rattle.season_records.specs.Records.{told_in};
 ghost use Rattle.season_rows.specs.Ordered.{IsManagerInOrder};

@@ -14,7 +14,7 @@ ghost use Rattle.season_views.specs.EntryWindowReads.{classic_league_reads, head
 use crate::ranks::{classic_ranks, head_ranks};
 use crate::writing::write_league;
 use classic_leagues::League;
-use fpl_base::{EntryId, LeagueId, Memory, Steps};
+use fpl_base::{EntryId, LeagueId, Memory, ReadCount};
 use json::Writer;
 use rule_book::LeagueKind;
 use season_views::{Seen, SeenCells};
@@ -28,7 +28,7 @@ pub fn write_leagues<L: Ledger>(
     seen: &Seen<L>,
     cells: &SeenCells<L>,
     entry: EntryId,
-    steps: &mut Steps<L>,
+    steps: &mut ReadCount<L>,
 ) -> Result<(), Memory>
     requires kept { IsKept seen.now cells.now }
     ensures value { OfEachSeen seen.now
@@ -54,7 +54,7 @@ fn write_classic_leagues<L: Ledger>(
     seen: &Seen<L>,
     cells: &SeenCells<L>,
     entry: EntryId,
-    steps: &mut Steps<L>,
+    steps: &mut ReadCount<L>,
 ) -> Result<(), Memory>
     requires kept { IsKept seen.now cells.now }
     ensures value { OfEachSeen seen.now
@@ -80,7 +80,7 @@ fn write_if_classic<L: Ledger>(
     cells: &SeenCells<L>,
     id: LeagueId,
     entry: EntryId,
-    steps: &mut Steps<L>,
+    steps: &mut ReadCount<L>,
 ) -> Result<(), Memory>
     requires kept { IsKept seen.now cells.now }
     ensures value { OfEachSeen seen.now
@@ -124,7 +124,7 @@ fn write_head_leagues<L: Ledger>(
     seen: &Seen<L>,
     cells: &SeenCells<L>,
     entry: EntryId,
-    steps: &mut Steps<L>,
+    steps: &mut ReadCount<L>,
 ) -> Result<(), Memory>
     requires kept { IsKept seen.now cells.now }
     ensures value { OfEachSeen seen.now
@@ -150,7 +150,7 @@ fn write_if_head<L: Ledger>(
     cells: &SeenCells<L>,
     id: LeagueId,
     entry: EntryId,
-    steps: &mut Steps<L>,
+    steps: &mut ReadCount<L>,
 ) -> Result<(), Memory>
     requires kept { IsKept seen.now cells.now }
     ensures value { OfEachSeen seen.now

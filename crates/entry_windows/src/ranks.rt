@@ -11,7 +11,7 @@ ghost use Rattle.season_views.specs.Seen.{IsKept, OfEachSeen};
 ghost use Rattle.season_book.specs.LeagueTables.{classic_last_rank, classic_rank, head_last_rank, head_rank};
 
 use classic_leagues::League;
-use fpl_base::{EntryId, LeagueId, Memory, Steps};
+use fpl_base::{EntryId, LeagueId, Memory, ReadCount};
 use rule_book::HeadScore;
 use season_ledger::rows_tell;
 use season_views::{Seen, SeenCells, classic_rows, head_rows};
@@ -34,7 +34,7 @@ pub fn classic_ranks<L: Ledger>(
     cells: &SeenCells<L>,
     league: &League,
     entry: EntryId,
-    steps: &mut Steps<L>,
+    steps: &mut ReadCount<L>,
 ) -> Result<LeagueRanks, Memory>
     requires kept { IsKept seen.now cells.now }
     requires with { AreKeptWith seen.now.facts seen.now.managers league.now cells.now }
@@ -64,7 +64,7 @@ pub fn head_ranks<L: Ledger>(
     id: LeagueId,
     league: &League,
     entry: EntryId,
-    steps: &mut Steps<L>,
+    steps: &mut ReadCount<L>,
 ) -> Result<LeagueRanks, Memory>
     requires kept { IsKept seen.now cells.now }
     requires there { entry_in seen.now.leagues id ≡ Some league.now }

@@ -8,7 +8,7 @@ ghost use Rattle.season_book.specs.EntryTotals.{event_rank, gross_by, is_in};
 ghost use Rattle.entry_windows.specs.EntrySummary.{summary_if_in, summary_of};
 ghost use Rattle.season_book.specs.EntryWindow.{transfers_after};
 
-use fpl_base::{EntryId, Gw, Steps, Tenths};
+use fpl_base::{EntryId, Gw, ReadCount, Tenths};
 use history_windows::{played, race};
 use season_views::{Seen, SeenCells};
 use standings_windows::{last_gameweek, score};
@@ -30,7 +30,7 @@ pub fn last_summary<L: Ledger>(
     seen: &Seen<L>,
     cells: &SeenCells<L>,
     entry: EntryId,
-    steps: &mut Steps<L>,
+    steps: &mut ReadCount<L>,
 ) -> Option<Summary>
     requires kept { IsKept seen.now cells.now }
     ensures value { OfEachSeen seen.now
@@ -52,7 +52,7 @@ fn summary_in<L: Ledger>(
     cells: &SeenCells<L>,
     entry: EntryId,
     last: Gw,
-    steps: &mut Steps<L>,
+    steps: &mut ReadCount<L>,
 ) -> Option<Summary>
     requires kept { IsKept seen.now cells.now }
     requires locked { last ≤ seen.now.facts.calendar.locked }
@@ -84,7 +84,7 @@ fn event_rank<L: Ledger>(
     cells: &SeenCells<L>,
     points: i32,
     last: Gw,
-    steps: &mut Steps<L>,
+    steps: &mut ReadCount<L>,
 ) -> u64
     requires kept { IsKept seen.now cells.now }
     requires locked { last ≤ seen.now.facts.calendar.locked }
@@ -108,7 +108,7 @@ fn more_points<L: Ledger>(
     other: EntryId,
     points: i32,
     last: Gw,
-    steps: &mut Steps<L>,
+    steps: &mut ReadCount<L>,
 ) -> u64
     requires kept { IsKept seen.now cells.now }
     requires locked { last ≤ seen.now.facts.calendar.locked }
@@ -137,7 +137,7 @@ pub fn transfers_after<L: Ledger>(
     seen: &Seen<L>,
     entry: EntryId,
     first: Gw,
-    steps: &mut Steps<L>,
+    steps: &mut ReadCount<L>,
 ) -> u32
     ensures value { OfEachHistory seen.now.facts seen.now.managers entry
         (λ h. result ≡ transfers_after h first seen.now.facts.calendar.locked) }

@@ -11,7 +11,7 @@ ghost use Rattle.season_views.specs.EntryWindowReads.{entry_window_reads, reads_
 use crate::leagues::write_leagues;
 use crate::summary::{last_summary, transfers_after};
 use crate::writing::{begin_entry, end_entry};
-use fpl_base::{EntryId, Gw, Memory, Steps};
+use fpl_base::{EntryId, Gw, Memory, ReadCount};
 use json::Writer;
 use json_members::{write_count, write_text};
 use season_entries::entries_are_issued;
@@ -29,7 +29,7 @@ pub fn write_entry<L: Ledger>(
     seen: &Seen<L>,
     cells: &SeenCells<L>,
     entry: u32,
-    steps: &mut Steps<L>,
+    steps: &mut ReadCount<L>,
 ) -> Result<bool, Memory>
     requires kept { IsKept seen.now cells.now }
     ensures value { ShowsEach seen.now
@@ -53,7 +53,7 @@ fn write_issued<L: Ledger>(
     seen: &Seen<L>,
     cells: &SeenCells<L>,
     entry: EntryId,
-    steps: &mut Steps<L>,
+    steps: &mut ReadCount<L>,
 ) -> Result<bool, Memory>
     requires kept { IsKept seen.now cells.now }
     ensures value { OfEachSeen seen.now
@@ -78,7 +78,7 @@ fn write_registered<L: Ledger>(
     cells: &SeenCells<L>,
     entry: EntryId,
     first: Gw,
-    steps: &mut Steps<L>,
+    steps: &mut ReadCount<L>,
 ) -> Result<bool, Memory>
     requires kept { IsKept seen.now cells.now }
     ensures value { OfEachSeen seen.now
@@ -101,7 +101,7 @@ fn write_told<L: Ledger>(
     cells: &SeenCells<L>,
     entry: EntryId,
     first: Gw,
-    steps: &mut Steps<L>,
+    steps: &mut ReadCount<L>,
 ) -> Result<(), Memory>
     requires kept { IsKept seen.now cells.now }
     ensures value { OfEachSeen seen.now

@@ -4,6 +4,6 @@ mod Room
 mod Rows
 mod Slots
 mod Sound
-mod Steps
+mod ReadCount
 mod Told
 mod Whole

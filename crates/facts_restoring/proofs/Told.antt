@@ -21,7 +21,7 @@ use Rattle.record_codec.specs.declared.slot.Slot.{Slot}
 use Rattle.record_codec.specs.declared.slot.Slot.TheVariants as slot
 use Rattle.stored_records.specs.SeasonRules.{misses_place}
 use Rattle.stored_records.specs.Stored.{Rows, deadlines_in, deadlines_told, has_gameweek, is_there, locked_in, told}
-use Rattle.season_books.specs.Lawful.{is_in_range, judged, rules_broken}
+use Rattle.store_validation.specs.Lawful.{is_in_range, judged, rules_broken}
 use Rattle.season_facts.specs.Kept.{AreFacts}
 use Rattle.season_facts.proofs.KeptFacts.{ranged_line}
 use Rattle.season_records.specs.Records.{told_in}
@@ -32,7 +32,7 @@ use Rattle.facts_restoring.proofs.Fitting.{each_taken, fixture_fits, line_fits, 
 use Rattle.facts_restoring.proofs.Rows.{IsSpelled, Row, rise_of, season_after, told_after}
 use Rattle.facts_restoring.proofs.Slots.{HasIds, own_key}
 use Rattle.facts_restoring.proofs.Sound.{IsSound, all_spelled, first_is_season, season_of, sound_at, sounds, told_there}
-use Rattle.facts_restoring.proofs.Steps.{is_of_facts}
+use Rattle.facts_restoring.proofs.ReadCount.{is_of_facts}
 use Rattle.facts_restoring.proofs.Whole.{AreWhole, DoesSuit, Suits, facts_whole, order_whole, whole_begun, whole_rows}
 
 -- What the season's record says.

@@ -20,7 +20,7 @@ use Rattle.record_codec.specs.declared.slot.Slot.TheVariants as slot
 use Rattle.facts_restoring.specs.declared.restoring.Terms.{Terms}
 use Rattle.stored_records.specs.SeasonRules.{season_breaks}
 use Rattle.stored_records.specs.Stored.{Rows, told}
-use Rattle.season_books.specs.Lawful.{is_in_range}
+use Rattle.store_validation.specs.Lawful.{is_in_range}
 use Rattle.season_records.specs.Records.{told_in}
 
 -- What records tell.

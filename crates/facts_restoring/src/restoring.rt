@@ -1,7 +1,7 @@
 // The facts of a season from its records.
 ghost use Rattle.std.specs.Prelude.{◌≡◌, [], IfOk, IfSome, IsNone, IsSome, None, Some};
 ghost use Rattle.fpl_base.specs.Keeping.{KeysRise, map_of};
-ghost use Rattle.season_books.specs.Lawful.{judged};
+ghost use Rattle.store_validation.specs.Lawful.{judged};
 ghost use Rattle.season_records.specs.Told.{AreInOrder};
 ghost use Rattle.record_codec.specs.ItemReading.{item_of};
 ghost use Rattle.facts_restoring.specs.Restored.{AreTerms, RowsFit, TellsFacts, begun, season_told, terms_in, with_locked, with_rows};

@@ -30,7 +30,7 @@ use crate::matches::{Match, read_match};
 use crate::order::by_kickoff;
 use crate::score::{Score, score_of};
 use crate::sides::{Side, side_of};
-use fpl_base::{ClubId, Memory, PlayerId, Steps};
+use fpl_base::{ClubId, Memory, PlayerId, ReadCount};
 use json::Writer;
 use json_members::{
     write_count, write_count_or_null, write_integer, write_no_list, write_nothing, write_truth,
@@ -51,7 +51,7 @@ pub fn write_element_summary<L: Ledger>(
     seen: &Seen<L>,
     cells: &SeenCells<L>,
     player: u32,
-    steps: &mut Steps<L>,
+    steps: &mut ReadCount<L>,
 ) -> Result<bool, Memory>
     requires kept { IsKept seen.now cells.now }
     ensures value { ShowsEach seen.now (λ entries. element_summary_window seen.now.facts player)
@@ -72,7 +72,7 @@ fn write_summary<L: Ledger>(
     seen: &Seen<L>,
     cells: &SeenCells<L>,
     player: &Player,
-    steps: &mut Steps<L>,
+    steps: &mut ReadCount<L>,
 ) -> Result<(), AllocError>
     requires kept { IsKept seen.now cells.now }
     ensures value { Appends result out.old out.new
@@ -149,7 +149,7 @@ fn write_history<L: Ledger>(
     cells: &SeenCells<L>,
     player: PlayerId,
     order: &[Fixture],
-    steps: &mut Steps<L>,
+    steps: &mut ReadCount<L>,
 ) -> Result<(), AllocError>
     requires kept { IsKept seen.now cells.now }
     ensures value { Appends result out.old out.new
@@ -174,7 +174,7 @@ fn write_if_played<L: Ledger>(
     cells: &SeenCells<L>,
     player: PlayerId,
     fixture: &Fixture,
-    steps: &mut Steps<L>,
+    steps: &mut ReadCount<L>,
 ) -> Result<(), AllocError>
     requires kept { IsKept seen.now cells.now }
     ensures value { Appends result out.old out.new

@@ -15,7 +15,7 @@ use crate::matches::{Match, read_match};
 use crate::order::by_kickoff;
 use crate::score::{Score, score_of};
 use crate::told::write_stats;
-use fpl_base::{FixtureId, Gw, Memory, Steps};
+use fpl_base::{FixtureId, Gw, Memory, ReadCount};
 use json::Writer;
 use json_members::{write_count, write_count_or_null, write_no_list, write_truth};
 use rule_book::{Fixture, Line};
@@ -33,7 +33,7 @@ pub fn write_fixtures<L: Ledger>(
     alloc: Global,
     seen: &Seen<L>,
     cells: &SeenCells<L>,
-    steps: &mut Steps<L>,
+    steps: &mut ReadCount<L>,
 ) -> Result<bool, Memory>
     requires kept { IsKept seen.now cells.now }
     ensures value { ShowsEach seen.now (λ entries. fixtures_window seen.now.facts) result out.old
@@ -54,7 +54,7 @@ fn write_all<L: Ledger>(
     seen: &Seen<L>,
     cells: &SeenCells<L>,
     order: &[Fixture],
-    steps: &mut Steps<L>,
+    steps: &mut ReadCount<L>,
 ) -> Result<(), AllocError>
     requires kept { IsKept seen.now cells.now }
     ensures value { Appends result out.old out.new
@@ -75,7 +75,7 @@ fn write_fixture<L: Ledger>(
     seen: &Seen<L>,
     cells: &SeenCells<L>,
     fixture: &Fixture,
-    steps: &mut Steps<L>,
+    steps: &mut ReadCount<L>,
 ) -> Result<(), AllocError>
     requires kept { IsKept seen.now cells.now }
     ensures value { Appends result out.old out.new

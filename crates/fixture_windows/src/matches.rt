@@ -4,7 +4,7 @@ ghost use Rattle.season_views.specs.Seen.{IsKept};
 ghost use Rattle.season_views.specs.FixturesReads.{match_reads};
 ghost use Rattle.fixture_windows.specs.MatchRows.{IsMatch};
 
-use fpl_base::{FixtureId, PlayerId, Steps};
+use fpl_base::{FixtureId, PlayerId, ReadCount};
 use rule_book::Line;
 use season_graph::lines_are_told;
 use season_views::{Seen, SeenCells, bonuses_held};
@@ -23,7 +23,7 @@ pub(crate) fn read_match<'a, L: Ledger>(
     seen: &'a Seen<L>,
     cells: &'a SeenCells<L>,
     fixture: FixtureId,
-    steps: &mut Steps<L>,
+    steps: &mut ReadCount<L>,
 ) -> Match<'a>
     requires { IsKept seen.now cells.now }
     ensures rows { IsMatch seen.now.facts fixture result.players.now result.lines.now

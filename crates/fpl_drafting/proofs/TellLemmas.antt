@@ -8,19 +8,19 @@ use Rattle.season_book.specs.declared.answer.Answer.{Answer}
 use Rattle.season_book.specs.declared.request.Request.{Request}
 use Rattle.season_book.specs.declared.request.Request.TheVariants as request
 use Rattle.season_book.specs.declared.request.View.TheVariants as view
-use Rattle.fpl_replies.specs.Replying.{Served}
-use Rattle.fpl_desk.specs.Kept.{Kept, Leads}
-use Rattle.fpl_desk.proofs.KeptLemmas.{leads_on, leads_same}
-use Rattle.fpl_asking.proofs.AskingLemmas.{leads_then}
-use Rattle.fpl_asking.specs.Asking.{IsHeard}
-use Rattle.fpl_asking.specs.Printing.{EndsBy, PrintsOne}
+use Rattle.reply_laws.specs.Replying.{Served}
+use Rattle.request_handler.specs.Kept.{Kept, Leads}
+use Rattle.request_handler.proofs.KeptLemmas.{leads_on, leads_same}
+use Rattle.local_requests.proofs.AskingLemmas.{leads_then}
+use Rattle.local_requests.specs.Asking.{IsHeard}
+use Rattle.local_requests.specs.Printing.{EndsBy, PrintsOne}
 use Rattle.draft_league.specs.Leagues.{League, founded, is_over}
 use Rattle.draft_sheet.specs.Texts.{outcomes_text, picks_text}
 use Rattle.draft_sheet.specs.Totals.{IsTableText, asked_of_all}
 use Rattle.draft_sheet.specs.declared.row.DraftRow.{DraftRow}
 use Rattle.draft_sheet.specs.declared.totals.Told.{Told}
 use Rattle.fpl_drafting.specs.Drafting.{IsDrafted, IsScored, IsTabled, IsTabledOver, IsToldOf, PointsOn, locked_in, points_told, told_of}
-use Rattle.fpl_drafting.specs.Steps.{StepsOn}
+use Rattle.fpl_drafting.specs.ReadCount.{StepsOn}
 
 -- what was given went well
 pub went_well : {X E P : Type 0} (gave : Result X E) → is_err gave ≡ false → OnOk gave P → P

@@ -6,15 +6,15 @@ use Rattle.season_book.specs.declared.answer.Answer.TheVariants as answer
 use Rattle.season_book.specs.declared.request.Request.TheVariants as request
 use Rattle.season_book.specs.declared.request.View.TheVariants as view
 use Rattle.season_book.specs.declared.shown.Shown.TheVariants as shown
-use Rattle.fpl_replies.specs.Replying.{Served}
-use Rattle.fpl_asking.specs.Asking.{IsHeard}
-use Rattle.fpl_asking.specs.Printing.{EndsBy, PrintsOne}
+use Rattle.reply_laws.specs.Replying.{Served}
+use Rattle.local_requests.specs.Asking.{IsHeard}
+use Rattle.local_requests.specs.Printing.{EndsBy, PrintsOne}
 use Rattle.draft_league.specs.Leagues.{League, founded, is_over}
 use Rattle.draft_sheet.specs.Texts.{outcomes_text, picks_text}
 use Rattle.draft_sheet.specs.Totals.{IsTableText, asked_of_all}
 use Rattle.draft_sheet.specs.declared.row.DraftRow.{DraftRow}
 use Rattle.draft_sheet.specs.declared.totals.Told.{Told}
-use Rattle.fpl_drafting.specs.Steps.{StepsOn}
+use Rattle.fpl_drafting.specs.ReadCount.{StepsOn}
 
 -- how many gameweeks are locked, by an answer that shows the season; no season has more than 38
 abbrev pub locked_in : Answer → Option ℕ

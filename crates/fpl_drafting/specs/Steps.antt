@@ -7,9 +7,9 @@ use Rattle.season_book.specs.declared.answer.Answer.TheVariants as answer
 use Rattle.season_book.specs.declared.request.Request.TheVariants as request
 use Rattle.season_book.specs.declared.request.View.TheVariants as view
 use Rattle.season_book.specs.declared.shown.Shown.TheVariants as shown
-use Rattle.fpl_replies.specs.Replying.{Served}
-use Rattle.fpl_asking.specs.Asking.{IsHeard}
-use Rattle.fpl_asking.specs.Printing.{EndsBy, PrintsOne}
+use Rattle.reply_laws.specs.Replying.{Served}
+use Rattle.local_requests.specs.Asking.{IsHeard}
+use Rattle.local_requests.specs.Printing.{EndsBy, PrintsOne}
 use Rattle.draft_league.specs.Leagues.{AreOutcomes, League, bidden, picked, waived}
 use Rattle.draft_league.specs.RuleNumbers.{number_of}
 use Rattle.draft_league.specs.Rules.{bid_refusal, pick_refusal, waive_refusal}

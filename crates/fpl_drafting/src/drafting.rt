@@ -1,7 +1,7 @@
 // The command.
 ghost use Rattle.std.specs.Prelude.{◌≡◌, ◌≤◌, ◌⊎◌, false};
 ghost use Rattle.fpl_base.specs.Causes.{Rose};
-ghost use Rattle.fpl_desk.specs.Kept.{Leads, kept_as};
+ghost use Rattle.request_handler.specs.Kept.{Leads, kept_as};
 ghost use Rattle.draft_sheet.specs.Rows.{AreRowsOf};
 ghost use Rattle.fpl_drafting.specs.Drafting.{IsDrafted, IsToldOf};
 
@@ -10,8 +10,8 @@ use crate::steps::steps_done;
 use crate::telling::{tell_outcomes, tell_picks};
 use draft_league::Draft;
 use draft_sheet::DraftRow;
-use fpl_asking::status::DONE;
-use fpl_base::{Clock, Keeper, Sink, Steps};
+use fpl_base::{Clock, Keeper, ReadCount, Sink};
+use local_requests::status::DONE;
 use season_keeping::Host;
 use std::alloc::Global;
 use std::sync::ledger::Ledger;
@@ -28,7 +28,7 @@ pub fn drafted<W: Sink, C: Clock, K: Keeper, L: Ledger>(
     output: &mut W,
     clock: &mut C,
     keeper: &mut K,
-    steps: &mut Steps<L>,
+    steps: &mut ReadCount<L>,
 ) -> u8
     requires fresh { host.old.stale ≡ false }
     requires few { (2 ≤ members) × (members ≤ 8) }
@@ -58,7 +58,7 @@ fn told<W: Sink, C: Clock, K: Keeper, L: Ledger>(
     output: &mut W,
     clock: &mut C,
     keeper: &mut K,
-    steps: &mut Steps<L>,
+    steps: &mut ReadCount<L>,
 ) -> u8
     requires fresh { host.old.stale ≡ false }
     ensures told { Leads K.tells K.serves K.holds K.passes

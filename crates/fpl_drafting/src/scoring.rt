@@ -4,17 +4,17 @@ ghost use Rattle.fpl_base.specs.Causes.{Rose};
 ghost use Rattle.season_book.specs.Hosts.{IsRequest};
 ghost use Rattle.season_book.specs.declared.request.Request.TheVariants as request_of;
 ghost use Rattle.season_book.specs.declared.request.View.TheVariants as view_of;
-ghost use Rattle.fpl_desk.specs.Kept.{Leads, kept_as};
+ghost use Rattle.request_handler.specs.Kept.{Leads, kept_as};
 ghost use Rattle.draft_league.specs.Leagues.{is_over};
 ghost use Rattle.draft_sheet.specs.Totals.{IsTableText};
-ghost use Rattle.fpl_asking.specs.Printing.{PrintsOne};
+ghost use Rattle.local_requests.specs.Printing.{PrintsOne};
 ghost use Rattle.fpl_drafting.specs.Drafting.{IsScored, IsTabled, IsTabledOver, PointsOn, locked_in, points_told, told_of};
 
 use draft_league::Draft;
 use draft_sheet::{Told, questions_of, table_of};
-use fpl_asking::status::{DONE, MEMORY};
-use fpl_asking::{ask, halted, print};
-use fpl_base::{Caller, Clock, Gw, Keeper, ListOf, Memory, PlayerId, Sink, Steps};
+use fpl_base::{Caller, Clock, Gw, Keeper, ListOf, Memory, PlayerId, ReadCount, Sink};
+use local_requests::status::{DONE, MEMORY};
+use local_requests::{ask, halted, print};
 use season_book::{Answer, Request, Shown, View};
 use season_keeping::Host;
 use std::alloc::Global;
@@ -28,7 +28,7 @@ pub(crate) fn tabled<W: Sink, C: Clock, K: Keeper, L: Ledger>(
     output: &mut W,
     clock: &mut C,
     keeper: &mut K,
-    steps: &mut Steps<L>,
+    steps: &mut ReadCount<L>,
 ) -> u8
     requires fresh { host.old.stale ≡ false }
     requires over { is_over draft.now ≡ true }
@@ -58,7 +58,7 @@ fn tabled_over<W: Sink, C: Clock, K: Keeper, L: Ledger>(
     output: &mut W,
     clock: &mut C,
     keeper: &mut K,
-    steps: &mut Steps<L>,
+    steps: &mut ReadCount<L>,
 ) -> u8
     requires fresh { host.old.stale ≡ false }
     requires over { is_over draft.now ≡ true }
@@ -98,7 +98,7 @@ fn scored<W: Sink, C: Clock, K: Keeper, L: Ledger>(
     output: &mut W,
     clock: &mut C,
     keeper: &mut K,
-    steps: &mut Steps<L>,
+    steps: &mut ReadCount<L>,
 ) -> u8
     requires fresh { host.old.stale ≡ false }
     requires over { is_over draft.now ≡ true }
@@ -126,7 +126,7 @@ fn points_asked<W: Sink, C: Clock, K: Keeper, L: Ledger>(
     output: &mut W,
     clock: &mut C,
     keeper: &mut K,
-    steps: &mut Steps<L>,
+    steps: &mut ReadCount<L>,
 ) -> Result<ListOf<Told>, u8>
     requires fresh { host.old.stale ≡ false }
     ensures asked { Leads K.tells K.serves K.holds K.passes

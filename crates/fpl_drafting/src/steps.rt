@@ -4,18 +4,18 @@ ghost use Rattle.fpl_base.specs.Causes.{Rose};
 ghost use Rattle.season_book.specs.Hosts.{IsRequest};
 ghost use Rattle.season_book.specs.declared.request.Request.TheVariants as request_of;
 ghost use Rattle.season_book.specs.declared.request.View.TheVariants as view_of;
-ghost use Rattle.fpl_desk.specs.Kept.{Leads, kept_as};
+ghost use Rattle.request_handler.specs.Kept.{Leads, kept_as};
 ghost use Rattle.draft_league.specs.Leagues.{picked};
 ghost use Rattle.draft_league.specs.Rules.{IsJudged, pick_refusal, waive_refusal};
 ghost use Rattle.draft_sheet.specs.Rows.{AreRowsOf, IsRowOf};
-ghost use Rattle.fpl_drafting.specs.Steps.{Changes, IsDone, IsStep, StepsOn, StopsBy, Waives, asked_of, position_in, refusal_of};
+ghost use Rattle.fpl_drafting.specs.ReadCount.{Changes, IsDone, IsStep, StepsOn, StopsBy, Waives, asked_of, position_in, refusal_of};
 
 use crate::telling::refused;
 use draft_league::{Draft, DraftRefused};
 use draft_sheet::DraftRow;
-use fpl_asking::status::MEMORY;
-use fpl_asking::{ask, halted};
-use fpl_base::{Caller, Clock, Gw, Keeper, PlayerId, Position, Sink, Steps};
+use fpl_base::{Caller, Clock, Gw, Keeper, PlayerId, Position, ReadCount, Sink};
+use local_requests::status::MEMORY;
+use local_requests::{ask, halted};
 use season_book::{Answer, Request, Shown, View};
 use season_keeping::Host;
 use std::alloc::Global;
@@ -30,7 +30,7 @@ pub(crate) fn steps_done<W: Sink, C: Clock, K: Keeper, L: Ledger>(
     output: &mut W,
     clock: &mut C,
     keeper: &mut K,
-    steps: &mut Steps<L>,
+    steps: &mut ReadCount<L>,
 ) -> Result<Draft, u8>
     requires fresh { host.old.stale ≡ false }
     requires own { AreRowsOf draft.members rows.now }
@@ -76,7 +76,7 @@ fn step_done<W: Sink, C: Clock, K: Keeper, L: Ledger>(
     output: &mut W,
     clock: &mut C,
     keeper: &mut K,
-    steps: &mut Steps<L>,
+    steps: &mut ReadCount<L>,
 ) -> Result<Draft, u8>
     requires fresh { host.old.stale ≡ false }
     requires own { IsRowOf draft.members row.now }
@@ -112,7 +112,7 @@ fn step_asked<W: Sink, C: Clock, K: Keeper, L: Ledger>(
     output: &mut W,
     clock: &mut C,
     keeper: &mut K,
-    steps: &mut Steps<L>,
+    steps: &mut ReadCount<L>,
 ) -> Result<Draft, u8>
     requires fresh { host.old.stale ≡ false }
     requires own { IsRowOf draft.members row.now }

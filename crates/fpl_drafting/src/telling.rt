@@ -3,14 +3,14 @@ ghost use Rattle.std.specs.Prelude.{◌≡◌, ◌≤◌, ◌⊎◌, IfOk, strin
 ghost use Rattle.fpl_base.specs.Causes.{Rose};
 ghost use Rattle.draft_league.specs.RuleNumbers.{number_of};
 ghost use Rattle.draft_sheet.specs.Texts.{outcomes_text, picks_text};
-ghost use Rattle.fpl_asking.specs.Printing.{Prints, PrintsOne};
+ghost use Rattle.local_requests.specs.Printing.{Prints, PrintsOne};
 ghost use Rattle.fpl_drafting.specs.Telling.{TellsRowFault, refused_text, row_text};
 
 use draft_league::{DraftRule, Outcome};
 use draft_sheet::{RowFault, outcomes_text, picks_text};
-use fpl_asking::print;
-use fpl_asking::status::{DONE, MEMORY, REFUSED_ROW, WRITE_FAULT, WRONG_ROW};
 use fpl_base::{Memory, Sink};
+use local_requests::print;
+use local_requests::status::{DONE, MEMORY, REFUSED_ROW, WRITE_FAULT, WRONG_ROW};
 use std::alloc::{AllocError, Global};
 
 /// Tells why there are no rows, and answers the exit status.

@@ -6,9 +6,9 @@ use Rattle.season_book.specs.declared.answer.Answer.{Answer}
 use Rattle.season_book.specs.declared.request.Request.TheVariants as request
 use Rattle.season_book.specs.declared.request.View.TheVariants as view
 use Rattle.season_running.specs.Standing.{players_in}
-use Rattle.fpl_replies.specs.Replying.{Served}
-use Rattle.fpl_asking.specs.Asking.{IsHeard}
-use Rattle.fpl_asking.specs.Printing.{EndsBy, Prints, PrintsOne, unknown_text}
+use Rattle.reply_laws.specs.Replying.{Served}
+use Rattle.local_requests.specs.Asking.{IsHeard}
+use Rattle.local_requests.specs.Printing.{EndsBy, Prints, PrintsOne, unknown_text}
 use Rattle.dream_team.specs.Dreams.{HasNoEleven, IsDream}
 use Rattle.dream_team.specs.Elevens.{Row}
 use Rattle.dream_team.specs.declared.dream.Dream.{Dream}

@@ -4,8 +4,8 @@ ghost use Rattle.fpl_base.specs.Causes.{Rose};
 ghost use Rattle.rule_book.specs.FigureRange.{IsWithin};
 ghost use Rattle.rule_book.specs.Ranks.{AllDiffer};
 ghost use Rattle.season_running.specs.Standing.{players_in};
-ghost use Rattle.fpl_desk.specs.Kept.{Leads, kept_as};
-ghost use Rattle.fpl_asking.specs.Printing.{Prints, PrintsOne, unknown_text};
+ghost use Rattle.request_handler.specs.Kept.{Leads, kept_as};
+ghost use Rattle.local_requests.specs.Printing.{Prints, PrintsOne, unknown_text};
 ghost use Rattle.fpl_dreaming.specs.Dreaming.{AsksOn, IsDreamed, IsDreamedIn, TellsDream};
 ghost use Rattle.fpl_dreaming.specs.Rows.{with_row};
 ghost use Rattle.fpl_dreaming.specs.Texts.{dream_text};
@@ -13,9 +13,9 @@ ghost use Rattle.fpl_dreaming.specs.Texts.{dream_text};
 use crate::rows::{ask_row, locked_in};
 use crate::text::dream_text;
 use dream_team::{Dream, dream_team};
-use fpl_asking::status::{DECLINED, DONE, MEMORY};
-use fpl_asking::{ask, halted, print};
-use fpl_base::{Caller, Clock, Gw, Keeper, Memory, PlayerId, Position, Sink, Steps};
+use fpl_base::{Caller, Clock, Gw, Keeper, Memory, PlayerId, Position, ReadCount, Sink};
+use local_requests::status::{DECLINED, DONE, MEMORY};
+use local_requests::{ask, halted, print};
 use season_book::{Request, View};
 use season_keeping::Host;
 use std::alloc::Global;
@@ -35,7 +35,7 @@ pub fn dreamed<W: Sink, C: Clock, K: Keeper, L: Ledger>(
     output: &mut W,
     clock: &mut C,
     keeper: &mut K,
-    steps: &mut Steps<L>,
+    steps: &mut ReadCount<L>,
 ) -> u8
     requires fresh { host.old.stale ≡ false }
     ensures dreamed { Leads K.tells K.serves K.holds K.passes
@@ -85,7 +85,7 @@ fn dreamed_in<W: Sink, C: Clock, K: Keeper, L: Ledger>(
     output: &mut W,
     clock: &mut C,
     keeper: &mut K,
-    steps: &mut Steps<L>,
+    steps: &mut ReadCount<L>,
 ) -> u8
     requires fresh { host.old.stale ≡ false }
     ensures dreamed { Leads K.tells K.serves K.holds K.passes
@@ -130,7 +130,7 @@ fn asked_on<W: Sink, C: Clock, K: Keeper, L: Ledger>(
     output: &mut W,
     clock: &mut C,
     keeper: &mut K,
-    steps: &mut Steps<L>,
+    steps: &mut ReadCount<L>,
 ) -> u8
     requires fresh { host.old.stale ≡ false }
     requires rise { AllPairs (λ a b. a < b) players.now }

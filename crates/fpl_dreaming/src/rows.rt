@@ -6,11 +6,11 @@ ghost use Rattle.season_book.specs.Hosts.{IsRequest};
 ghost use Rattle.season_book.specs.declared.answer.Answer.TheVariants as answer_of;
 ghost use Rattle.season_book.specs.declared.request.Request.TheVariants as request_of;
 ghost use Rattle.season_book.specs.declared.request.View.TheVariants as view_of;
-ghost use Rattle.fpl_desk.specs.Kept.{Leads, kept_as};
+ghost use Rattle.request_handler.specs.Kept.{Leads, kept_as};
 ghost use Rattle.fpl_dreaming.specs.Rows.{ArePointsAsked, IsRowAsked, figures_in, locked_in, near, position_in, row_of};
 
-use fpl_asking::ask;
-use fpl_base::{Caller, Clock, Gw, Keeper, PlayerId, Position, Steps};
+use fpl_base::{Caller, Clock, Gw, Keeper, PlayerId, Position, ReadCount};
+use local_requests::ask;
 use rule_book::Figures;
 use season_book::{Answer, Request, Shown, View};
 use season_keeping::Host;
@@ -24,7 +24,7 @@ pub(crate) fn ask_row<C: Clock, K: Keeper, L: Ledger>(
     gameweek: Gw,
     clock: &mut C,
     keeper: &mut K,
-    steps: &mut Steps<L>,
+    steps: &mut ReadCount<L>,
 ) -> Result<Option<(PlayerId, Position, i32)>, Answer>
     requires fresh { host.old.stale ≡ false }
     ensures asked { Leads K.tells K.serves K.holds K.passes
@@ -54,7 +54,7 @@ fn ask_points<C: Clock, K: Keeper, L: Ledger>(
     gameweek: Gw,
     clock: &mut C,
     keeper: &mut K,
-    steps: &mut Steps<L>,
+    steps: &mut ReadCount<L>,
 ) -> Result<Option<(PlayerId, Position, i32)>, Answer>
     requires fresh { host.old.stale ≡ false }
     ensures asked { Leads K.tells K.serves K.holds K.passes

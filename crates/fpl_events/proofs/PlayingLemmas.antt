@@ -11,11 +11,11 @@ use Rattle.match_events.specs.declared.event.Event.{Event}
 use Rattle.match_events.specs.declared.refusal.EventRefused.{EventRefused}
 use Rattle.match_events.specs.declared.refusal.EventRefused.TheVariants as refused
 use Rattle.match_events.specs.declared.refusal.EventRule.{EventRule}
-use Rattle.fpl_replies.specs.Replying.{Served}
-use Rattle.fpl_desk.specs.Kept.{Kept, Leads}
-use Rattle.fpl_desk.proofs.KeptLemmas.{leads_same}
-use Rattle.fpl_asking.proofs.AskingLemmas.{leads_then}
-use Rattle.fpl_asking.specs.Printing.{PrintsOne}
+use Rattle.reply_laws.specs.Replying.{Served}
+use Rattle.request_handler.specs.Kept.{Kept, Leads}
+use Rattle.request_handler.proofs.KeptLemmas.{leads_same}
+use Rattle.local_requests.proofs.AskingLemmas.{leads_then}
+use Rattle.local_requests.specs.Printing.{PrintsOne}
 use Rattle.fpl_events.specs.Playing.{DoesRow, Edits, EndsBy, IsPlayed, PlaysOn, bare_sheet}
 use Rattle.fpl_events.specs.Sending.{SendsChanged}
 use Rattle.fpl_events.specs.Telling.{sent_text}

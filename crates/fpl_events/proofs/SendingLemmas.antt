@@ -12,12 +12,12 @@ use Rattle.season_book.specs.declared.answer.Answer.TheVariants as answer
 use Rattle.season_book.specs.declared.command.Command.{Command}
 use Rattle.season_book.specs.declared.request.Request.TheVariants as request
 use Rattle.season_running.specs.Standing.{HostRows, StandsIn, number_at}
-use Rattle.fpl_replies.specs.Replying.{Served}
-use Rattle.fpl_desk.specs.Kept.{Kept, Leads}
-use Rattle.fpl_desk.proofs.KeptLemmas.{leads_same}
-use Rattle.fpl_asking.proofs.AskingLemmas.{leads_then}
-use Rattle.fpl_asking.specs.Asking.{IsHeard}
-use Rattle.fpl_asking.specs.Printing.{EndsBy}
+use Rattle.reply_laws.specs.Replying.{Served}
+use Rattle.request_handler.specs.Kept.{Kept, Leads}
+use Rattle.request_handler.proofs.KeptLemmas.{leads_same}
+use Rattle.local_requests.proofs.AskingLemmas.{leads_then}
+use Rattle.local_requests.specs.Asking.{IsHeard}
+use Rattle.local_requests.specs.Printing.{EndsBy}
 use Rattle.fpl_events.specs.Sending.{IsSent, SendsAll, SendsChanged, SendsOn, is_done, line_command, next_number, sent_of}
 
 -- a count that rose later rose since

@@ -10,9 +10,9 @@ use Rattle.season_book.specs.declared.answer.Answer.TheVariants as answer
 use Rattle.season_book.specs.declared.command.Command.{Command}
 use Rattle.season_book.specs.declared.command.Command.TheVariants as command
 use Rattle.season_book.specs.declared.request.Request.TheVariants as request
-use Rattle.fpl_replies.specs.Replying.{Served}
-use Rattle.fpl_asking.specs.Asking.{IsHeard}
-use Rattle.fpl_asking.specs.Printing.{EndsBy}
+use Rattle.reply_laws.specs.Replying.{Served}
+use Rattle.local_requests.specs.Asking.{IsHeard}
+use Rattle.local_requests.specs.Printing.{EndsBy}
 
 -- Each part goes on with something, `Ok`, and then nothing was written; or it ends the run with an exit status, `Err`, and
 -- nothing is asked behind it.

@@ -3,7 +3,7 @@ use Rattle.std.specs.Prelude.{◌≡◌, ℕ, List, [], ◌∷◌, ◌++◌, Opt
 use Rattle.std.specs.Fmt.{decimal}
 use Rattle.event_sheet.specs.declared.rows.RowFault.{RowFault}
 use Rattle.event_sheet.specs.declared.rows.RowFault.TheVariants as fault
-use Rattle.fpl_asking.specs.Printing.{PrintsOne}
+use Rattle.local_requests.specs.Printing.{PrintsOne}
 
 -- the line that says how many commands were sent
 abbrev pub sent_text : ℕ → List ℕ

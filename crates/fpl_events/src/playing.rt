@@ -2,13 +2,13 @@
 ghost use Rattle.std.specs.Prelude.{◌≡◌, ◌≤◌, ◌<◌, ◌^◌, ◌⊎◌, false, length};
 ghost use Rattle.fpl_base.specs.Causes.{Rose};
 ghost use Rattle.event_sheet.specs.Rows.{AreDoable};
-ghost use Rattle.fpl_desk.specs.Kept.{Leads, kept_as};
+ghost use Rattle.request_handler.specs.Kept.{Leads, kept_as};
 ghost use Rattle.fpl_events.specs.Playing.{IsPlayed};
 
 use crate::rows::row_done;
 use crate::telling::tell;
 use event_sheet::EventRow;
-use fpl_base::{Clock, Keeper, Sink, Steps};
+use fpl_base::{Clock, Keeper, ReadCount, Sink};
 use match_events::MatchEvents;
 use season_keeping::Host;
 use std::alloc::Global;
@@ -27,7 +27,7 @@ pub fn played<W: Sink, C: Clock, K: Keeper, L: Ledger>(
     output: &mut W,
     clock: &mut C,
     keeper: &mut K,
-    steps: &mut Steps<L>,
+    steps: &mut ReadCount<L>,
 ) -> u8
     requires fresh { host.old.stale ≡ false }
     requires doable { AreDoable minutes 0 rows.now }

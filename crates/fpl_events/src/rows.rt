@@ -2,7 +2,7 @@
 ghost use Rattle.std.specs.Prelude.{◌≡◌, ◌≤◌, ◌+◌, ◌-◌, ◌⊎◌, Err, IfErr, IfOk, OnOk, false, length, true};
 ghost use Rattle.fpl_base.specs.Causes.{Rose};
 ghost use Rattle.event_sheet.specs.Rows.{IsDoable, events_after};
-ghost use Rattle.fpl_desk.specs.Kept.{Leads, kept_as};
+ghost use Rattle.request_handler.specs.Kept.{Leads, kept_as};
 ghost use Rattle.match_events.specs.Events.{is_event};
 ghost use Rattle.match_events.specs.Sheets.{insert_refusal, remove_refusal, with_event, without_event};
 ghost use Rattle.fpl_events.specs.Playing.{DoesRow, Edits, EndsBy};
@@ -10,8 +10,8 @@ ghost use Rattle.fpl_events.specs.Playing.{DoesRow, Edits, EndsBy};
 use crate::sending::send_changed;
 use crate::telling::refused;
 use event_sheet::EventRow;
-use fpl_asking::status::MEMORY;
-use fpl_base::{Clock, Keeper, Sink, Steps};
+use fpl_base::{Clock, Keeper, ReadCount, Sink};
+use local_requests::status::MEMORY;
 use match_events::{Event, EventRefused, MatchEvents};
 use season_keeping::Host;
 use std::alloc::Global;
@@ -28,7 +28,7 @@ pub(crate) fn row_done<W: Sink, C: Clock, K: Keeper, L: Ledger>(
     output: &mut W,
     clock: &mut C,
     keeper: &mut K,
-    steps: &mut Steps<L>,
+    steps: &mut ReadCount<L>,
 ) -> Result<u64, u8>
     requires fresh { host.old.stale ≡ false }
     requires doable { IsDoable events.old.minutes (length events.old.events) row.now }

@@ -7,13 +7,13 @@ ghost use Rattle.season_book.specs.Commands.{IsCommand};
 ghost use Rattle.season_book.specs.declared.answer.Answer.TheVariants as answer_of;
 ghost use Rattle.season_book.specs.declared.request.Request.TheVariants as request_of;
 ghost use Rattle.season_keeping.specs.Answering.{IsCaused};
-ghost use Rattle.fpl_desk.specs.Kept.{Leads, kept_as};
-ghost use Rattle.fpl_asking.specs.Asking.{IsHeard};
+ghost use Rattle.request_handler.specs.Kept.{Leads, kept_as};
+ghost use Rattle.local_requests.specs.Asking.{IsHeard};
 ghost use Rattle.fpl_events.specs.Sending.{IsSent, SendsAll, SendsChanged, SendsOn, is_done, line_command, next_number};
 
-use fpl_asking::status::MEMORY;
-use fpl_asking::{ask, halted};
-use fpl_base::{Caller, Clock, Keeper, Memory, PlayerId, Sink, Steps};
+use fpl_base::{Caller, Clock, Keeper, Memory, PlayerId, ReadCount, Sink};
+use local_requests::status::MEMORY;
+use local_requests::{ask, halted};
 use match_events::MatchEvents;
 use season_book::{Answer, Command, Request};
 use season_keeping::Host;
@@ -32,7 +32,7 @@ pub(crate) fn send_changed<W: Sink, C: Clock, K: Keeper, L: Ledger>(
     output: &mut W,
     clock: &mut C,
     keeper: &mut K,
-    steps: &mut Steps<L>,
+    steps: &mut ReadCount<L>,
 ) -> Result<u64, u8>
     requires fresh { host.old.stale ≡ false }
     ensures sent { Leads K.tells K.serves K.holds K.passes
@@ -76,7 +76,7 @@ fn send_all<W: Sink, C: Clock, K: Keeper, L: Ledger>(
     output: &mut W,
     clock: &mut C,
     keeper: &mut K,
-    steps: &mut Steps<L>,
+    steps: &mut ReadCount<L>,
 ) -> Result<u64, u8>
     requires fresh { host.old.stale ≡ false }
     requires few { length players.now ≤ 400 }
@@ -112,7 +112,7 @@ fn send_lines<W: Sink, C: Clock, K: Keeper, L: Ledger>(
     output: &mut W,
     clock: &mut C,
     keeper: &mut K,
-    steps: &mut Steps<L>,
+    steps: &mut ReadCount<L>,
 ) -> Result<(), u8>
     requires fresh { host.old.stale ≡ false }
     ensures sent { Leads K.tells K.serves K.holds K.passes
@@ -157,7 +157,7 @@ fn send_line<W: Sink, C: Clock, K: Keeper, L: Ledger>(
     output: &mut W,
     clock: &mut C,
     keeper: &mut K,
-    steps: &mut Steps<L>,
+    steps: &mut ReadCount<L>,
 ) -> Result<(), u8>
     requires fresh { host.old.stale ≡ false }
     ensures sent { Leads K.tells K.serves K.holds K.passes
@@ -186,7 +186,7 @@ fn ask_next<C: Clock, K: Keeper, L: Ledger>(
     command: Command,
     clock: &mut C,
     keeper: &mut K,
-    steps: &mut Steps<L>,
+    steps: &mut ReadCount<L>,
 ) -> Answer
     requires fresh { host.old.stale ≡ false }
     requires lawful { IsCommand command }

@@ -2,13 +2,13 @@
 ghost use Rattle.std.specs.Prelude.{◌≡◌, ◌⊎◌, IfOk, string_bytes};
 ghost use Rattle.fpl_base.specs.Causes.{Rose};
 ghost use Rattle.match_events.specs.Refusals.{rule_number};
-ghost use Rattle.fpl_asking.specs.Printing.{PrintsOne};
+ghost use Rattle.local_requests.specs.Printing.{PrintsOne};
 ghost use Rattle.fpl_events.specs.Telling.{TellsRowFault, refused_text, row_text, sent_text};
 
 use event_sheet::RowFault;
-use fpl_asking::print;
-use fpl_asking::status::{DONE, MEMORY, REFUSED_ROW, WRONG_ROW};
 use fpl_base::Sink;
+use local_requests::print;
+use local_requests::status::{DONE, MEMORY, REFUSED_ROW, WRONG_ROW};
 use match_events::EventRule;
 use std::alloc::{AllocError, Global};
 

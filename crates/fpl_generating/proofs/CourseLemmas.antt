@@ -9,10 +9,10 @@ use Rattle.season_book.specs.declared.request.Request.TheVariants as request
 use Rattle.season_book.specs.declared.request.View.TheVariants as view
 use Rattle.season_generator.specs.Made.{step_of}
 use Rattle.season_generator.specs.declared.made.Step.{Step}
-use Rattle.fpl_asking.specs.Asking.{IsHeardAt}
-use Rattle.fpl_asking.specs.Printing.{EndsBy, PrintsOne}
-use Rattle.fpl_desk.specs.Kept.{Kept, Leads}
-use Rattle.fpl_replies.specs.Replying.{Served}
+use Rattle.local_requests.specs.Asking.{IsHeardAt}
+use Rattle.local_requests.specs.Printing.{EndsBy, PrintsOne}
+use Rattle.request_handler.specs.Kept.{Kept, Leads}
+use Rattle.reply_laws.specs.Replying.{Served}
 use Rattle.fpl_generating.specs.Generating.{IsCorrected, IsGenerated, IsPlayed, IsTabled, PlaysOn, TabledBehind, is_done}
 use Rattle.fpl_generating.specs.Summaries.{summary_text, table_of}
 use Rattle.fpl_generating.specs.declared.table.Table.{Table}

@@ -2,16 +2,16 @@
 ghost use Rattle.std.specs.Prelude.{◌≡◌, ◌≤◌, ◌-◌, ◌⊎◌, Err, IfErr, IfOk, OnOk, Option, false, string_bytes};
 ghost use Rattle.fpl_base.specs.Causes.{Rose};
 ghost use Rattle.fpl_base.specs.Moments.{Moments};
-ghost use Rattle.fpl_asking.specs.Printing.{PrintsOne};
-ghost use Rattle.fpl_desk.specs.Kept.{Leads, kept_as};
+ghost use Rattle.local_requests.specs.Printing.{PrintsOne};
+ghost use Rattle.request_handler.specs.Kept.{Leads, kept_as};
 ghost use Rattle.fpl_generating.specs.Generating.{IsCorrected, IsGenerated, TabledBehind};
 ghost use Rattle.fpl_generating.specs.Summaries.{summary_text};
 
 use crate::playing::play;
 use crate::table::{Table, tabled};
-use fpl_asking::print;
-use fpl_asking::status::{DONE, MEMORY};
-use fpl_base::{Keeper, Sink, Steps};
+use fpl_base::{Keeper, ReadCount, Sink};
+use local_requests::print;
+use local_requests::status::{DONE, MEMORY};
 use season_generator::{MadeUpSeason, STEPS};
 use season_keeping::Host;
 use std::alloc::{AllocError, Global};
@@ -27,7 +27,7 @@ pub fn generated<W: Sink, K: Keeper, L: Ledger>(
     seed: u64,
     output: &mut W,
     keeper: &mut K,
-    steps: &mut Steps<L>,
+    steps: &mut ReadCount<L>,
 ) -> u8
     requires fresh { host.old.stale ≡ false }
     ensures generated { (moments : Option Moments) → Leads K.tells K.serves K.holds K.passes
@@ -54,7 +54,7 @@ fn corrected<W: Sink, K: Keeper, L: Ledger>(
     first: &Table,
     output: &mut W,
     keeper: &mut K,
-    steps: &mut Steps<L>,
+    steps: &mut ReadCount<L>,
 ) -> u8
     requires fresh { host.old.stale ≡ false }
     ensures corrected { (moments : Option Moments) → Leads K.tells K.serves K.holds K.passes
@@ -81,7 +81,7 @@ fn tabled_behind<W: Sink, K: Keeper, L: Ledger>(
     to: u32,
     output: &mut W,
     keeper: &mut K,
-    steps: &mut Steps<L>,
+    steps: &mut ReadCount<L>,
 ) -> Result<Table, u8>
     requires fresh { host.old.stale ≡ false }
     requires order { from ≤ to }

@@ -1,15 +1,15 @@
-// Steps of a made-up season, asked one after another.
+// ReadCount of a made-up season, asked one after another.
 ghost use Rattle.std.specs.Prelude.{◌≡◌, ◌≤◌, ◌<◌, ◌-◌, ◌^◌, ◌⊎◌, Err, IfErr, IfOk, OnOk, Option, Some, false};
 ghost use Rattle.fpl_base.specs.Causes.{Rose};
 ghost use Rattle.fpl_base.specs.Moments.{Moments};
 ghost use Rattle.season_book.specs.Commands.{IsCommand};
 ghost use Rattle.season_generator.specs.Made.{step_of};
-ghost use Rattle.fpl_desk.specs.Kept.{Leads, kept_as};
+ghost use Rattle.request_handler.specs.Kept.{Leads, kept_as};
 ghost use Rattle.fpl_generating.specs.Generating.{IsPlayed, PlaysOn, is_done};
 
-use fpl_asking::status::MEMORY;
-use fpl_asking::{ask_at, halted};
-use fpl_base::{Keeper, Memory, Sink, Steps};
+use fpl_base::{Keeper, Memory, ReadCount, Sink};
+use local_requests::status::MEMORY;
+use local_requests::{ask_at, halted};
 use season_book::{Answer, Request};
 use season_generator::{MadeUpSeason, Step};
 use season_keeping::Host;
@@ -25,7 +25,7 @@ pub(crate) fn play<W: Sink, K: Keeper, L: Ledger>(
     to: u32,
     output: &mut W,
     keeper: &mut K,
-    steps: &mut Steps<L>,
+    steps: &mut ReadCount<L>,
 ) -> Result<(), u8>
     requires fresh { host.old.stale ≡ false }
     requires order { from ≤ to }
@@ -57,7 +57,7 @@ fn play_one<W: Sink, K: Keeper, L: Ledger>(
     number: u32,
     output: &mut W,
     keeper: &mut K,
-    steps: &mut Steps<L>,
+    steps: &mut ReadCount<L>,
 ) -> Result<(), u8>
     requires fresh { host.old.stale ≡ false }
     requires within { number < 2122 }

@@ -2,12 +2,12 @@
 ghost use Rattle.std.specs.Prelude.{◌≡◌, ◌≤◌, ◌⊎◌, Err, IfErr, OnOk, Option, false};
 ghost use Rattle.fpl_base.specs.Causes.{Rose};
 ghost use Rattle.fpl_base.specs.Moments.{Moments};
-ghost use Rattle.fpl_desk.specs.Kept.{Leads, kept_as};
+ghost use Rattle.request_handler.specs.Kept.{Leads, kept_as};
 ghost use Rattle.fpl_generating.specs.Generating.{IsTabled};
 ghost use Rattle.fpl_generating.specs.Summaries.{sum_of, table_in, table_of};
 
-use fpl_asking::{ask_at, halted};
-use fpl_base::{Caller, EntryId, Keeper, Moment, Sink, Steps};
+use fpl_base::{Caller, EntryId, Keeper, Moment, ReadCount, Sink};
+use local_requests::{ask_at, halted};
 use season_book::{Answer, Request, Shown, ShownRanked, View};
 use season_keeping::Host;
 use std::alloc::Global;
@@ -29,7 +29,7 @@ pub(crate) fn tabled<W: Sink, K: Keeper, L: Ledger>(
     host: &mut Host,
     output: &mut W,
     keeper: &mut K,
-    steps: &mut Steps<L>,
+    steps: &mut ReadCount<L>,
 ) -> Result<Table, u8>
     requires fresh { host.old.stale ≡ false }
     ensures tabled { (moments : Option Moments) → Leads K.tells K.serves K.holds K.passes

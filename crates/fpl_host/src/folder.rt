@@ -1,9 +1,9 @@
 // The pages of a folder of this machine.
 use crate::causes;
 use crate::files::{Unread, front_of};
-use fpl_asking::status::{MEMORY, SHELF};
 use fpl_base::{Bytes, Text};
 use fpl_pages::{Pages, Unfit};
+use local_requests::status::{MEMORY, SHELF};
 use std::alloc::Global;
 use std::fs::read_dir;
 use std::io;

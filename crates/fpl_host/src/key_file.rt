@@ -1,8 +1,8 @@
 // The operator's key from a file: a key among the words stands in the list of processes.
 use crate::causes;
 use crate::files::{Unread, front_of};
-use fpl_asking::status::{MEMORY, SHELF};
 use fpl_base::{Memory, Text};
+use local_requests::status::{MEMORY, SHELF};
 use std::alloc::Global;
 use std::str;
 

@@ -12,11 +12,11 @@ use Rattle.season_book.specs.declared.request.Request.TheVariants as request
 use Rattle.season_book.specs.Verdict.{Failures}
 use Rattle.season_keeping.specs.Answering.{IsCaused}
 use Rattle.season_running.specs.Standing.{StandsIn, number_at}
-use Rattle.fpl_replies.specs.Replying.{Served}
-use Rattle.fpl_desk.specs.Kept.{Kept, Leads}
-use Rattle.fpl_desk.proofs.KeptLemmas.{leads_on, leads_same}
-use Rattle.fpl_asking.proofs.AskingLemmas.{leads_then, rose_behind}
-use Rattle.fpl_asking.specs.Asking.{IsHeard}
+use Rattle.reply_laws.specs.Replying.{Served}
+use Rattle.request_handler.specs.Kept.{Kept, Leads}
+use Rattle.request_handler.proofs.KeptLemmas.{leads_on, leads_same}
+use Rattle.local_requests.proofs.AskingLemmas.{leads_then, rose_behind}
+use Rattle.local_requests.specs.Asking.{IsHeard}
 use Rattle.fpl_loading.proofs.LoadingLemmas.{last_stood}
 use Rattle.fpl_loading.specs.Loading.{IsLoad}
 use Rattle.fpl_loading.specs.More.{AddsOn, CountsRows, IsAdded, IsHeld, IsLoadOfMore, IsStep, LoadsBy, StopsBy, counted, found_lacking, found_there, is_done, nothing_added}

@@ -1,7 +1,7 @@
 -- What is told of a folder that gives no commands.
 use Rattle.std.specs.Prelude.{◌≡◌, ◌++◌, ◌∷◌, [], ℕ, List, Option, codes}
 use Rattle.std.specs.Fmt.{decimal}
-use Rattle.fpl_asking.specs.Printing.{PrintsOne}
+use Rattle.local_requests.specs.Printing.{PrintsOne}
 use Rattle.fpl_loading.specs.Files.{file_name}
 use Rattle.fpl_loading.specs.declared.files.LoadFault.{LoadFault}
 use Rattle.fpl_loading.specs.declared.files.LoadFault.TheVariants as fault

@@ -9,9 +9,9 @@ use Rattle.season_book.specs.declared.answer.Answer.{Answer}
 use Rattle.season_book.specs.declared.answer.Answer.TheVariants as answer
 use Rattle.season_book.specs.declared.command.Command.{Command}
 use Rattle.season_book.specs.declared.request.Request.TheVariants as request
-use Rattle.fpl_replies.specs.Replying.{Served}
-use Rattle.fpl_asking.specs.Asking.{IsHeard}
-use Rattle.fpl_asking.specs.Printing.{EndsBy, PrintsOne}
+use Rattle.reply_laws.specs.Replying.{Served}
+use Rattle.local_requests.specs.Asking.{IsHeard}
+use Rattle.local_requests.specs.Printing.{EndsBy, PrintsOne}
 use Rattle.fpl_loading.specs.Notes.{cause_of, no_place, note_passed, place_behind}
 use Rattle.fpl_loading.specs.declared.notes.Note.{Note}
 use Rattle.fpl_loading.specs.declared.notes.Place.{Place}

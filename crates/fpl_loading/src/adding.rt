@@ -5,15 +5,15 @@ ghost use Rattle.season_book.specs.Commands.{IsCommand};
 ghost use Rattle.season_book.specs.Hosts.{IsRequest};
 ghost use Rattle.season_book.specs.declared.answer.Answer.TheVariants as answer_of;
 ghost use Rattle.season_book.specs.declared.request.Request.TheVariants as request_of;
-ghost use Rattle.fpl_desk.specs.Kept.{Leads, kept_as};
+ghost use Rattle.request_handler.specs.Kept.{Leads, kept_as};
 ghost use Rattle.fpl_loading.specs.declared.adding.Stop.TheVariants as stop_of;
 ghost use Rattle.fpl_loading.specs.More.{IsAdded, IsHeld, IsStep, counted, found_there, is_done, with_row};
 ghost use Rattle.fpl_loading.specs.Standing.{next_row, view_of};
 
 use crate::notes::Place;
 use crate::standing::{lacks, rows_in, rows_same, view_of};
-use fpl_asking::ask;
-use fpl_base::{Caller, Clock, Keeper, ListOf, Memory, Steps};
+use fpl_base::{Caller, Clock, Keeper, ListOf, Memory, ReadCount};
+use local_requests::ask;
 use season_book::{Answer, Command, Request};
 use season_keeping::Host;
 use std::alloc::Global;
@@ -91,7 +91,7 @@ pub(crate) fn step<C: Clock, K: Keeper, L: Ledger>(
     command: Command,
     clock: &mut C,
     keeper: &mut K,
-    steps: &mut Steps<L>,
+    steps: &mut ReadCount<L>,
 ) -> Result<Added, Stop>
     requires fresh { host.old.stale ≡ false }
     requires lawful { IsCommand command }
@@ -128,7 +128,7 @@ fn add<C: Clock, K: Keeper, L: Ledger>(
     command: Command,
     clock: &mut C,
     keeper: &mut K,
-    steps: &mut Steps<L>,
+    steps: &mut ReadCount<L>,
 ) -> Result<Added, Stop>
     requires fresh { host.old.stale ≡ false }
     requires lawful { IsCommand command }

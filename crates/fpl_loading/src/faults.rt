@@ -5,9 +5,9 @@ ghost use Rattle.fpl_loading.specs.Faults.{TellsLoadFault, row_text};
 ghost use Rattle.fpl_loading.specs.Files.{IsShelfFault};
 
 use crate::files::{LoadFault, file_name};
-use fpl_asking::print;
-use fpl_asking::status::{MEMORY, SHELF, TOO_LONG, WRONG_ROW};
 use fpl_base::Sink;
+use local_requests::print;
+use local_requests::status::{MEMORY, SHELF, TOO_LONG, WRONG_ROW};
 use std::alloc::{AllocError, Global};
 
 /// Tells why a folder gives no commands, and answers the exit status.

@@ -5,8 +5,8 @@ ghost use Rattle.fpl_loading.specs.Files.{AreFiles, AreOrdered, ExplainsFile, Ex
 
 use fpl_base::{Bytes, Profile, ShelfFault, Text};
 use fpl_reports::{FileFault, season_files};
-use fpl_shelves::AskedShelf;
 use season_book::Command;
+use season_folder::AskedShelf;
 use std::alloc::{AllocError, Global};
 
 const CLUBS: &str = "clubs.csv";

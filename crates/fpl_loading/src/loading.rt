@@ -7,15 +7,15 @@ ghost use Rattle.season_book.specs.Hosts.{IsRequest};
 ghost use Rattle.season_book.specs.declared.answer.Answer.TheVariants as answer_of;
 ghost use Rattle.season_book.specs.declared.request.Request.TheVariants as request_of;
 ghost use Rattle.season_keeping.specs.Answering.{IsCaused};
-ghost use Rattle.fpl_desk.specs.Kept.{Leads, kept_as};
-ghost use Rattle.fpl_asking.specs.Asking.{IsHeard};
-ghost use Rattle.fpl_asking.specs.Printing.{PrintsOne};
+ghost use Rattle.request_handler.specs.Kept.{Leads, kept_as};
+ghost use Rattle.local_requests.specs.Asking.{IsHeard};
+ghost use Rattle.local_requests.specs.Printing.{PrintsOne};
 ghost use Rattle.fpl_loading.specs.Loading.{IsLoad, counts_of, is_number_old, loaded_text};
 
 use crate::notes::{LoadEnd, Place, cause_of, note_passed, place_behind};
-use fpl_asking::status::{DONE, MEMORY};
-use fpl_asking::{ask, halted, print};
-use fpl_base::{Caller, Clock, Keeper, Rule, Sink, Steps};
+use fpl_base::{Caller, Clock, Keeper, ReadCount, Rule, Sink};
+use local_requests::status::{DONE, MEMORY};
+use local_requests::{ask, halted, print};
 use season_book::{Answer, Command, Request};
 use season_keeping::Host;
 use std::alloc::{AllocError, Global};
@@ -31,7 +31,7 @@ pub fn loaded<W: Sink, C: Clock, K: Keeper, L: Ledger>(
     output: &mut W,
     clock: &mut C,
     keeper: &mut K,
-    steps: &mut Steps<L>,
+    steps: &mut ReadCount<L>,
 ) -> LoadEnd
     requires fresh { host.old.stale ≡ false }
     requires lawful { All IsCommand commands.items }
@@ -80,7 +80,7 @@ fn ask_command<C: Clock, K: Keeper, L: Ledger>(
     command: Command,
     clock: &mut C,
     keeper: &mut K,
-    steps: &mut Steps<L>,
+    steps: &mut ReadCount<L>,
 ) -> Answer
     requires fresh { host.old.stale ≡ false }
     requires asked { IsRequest (request_of.Command number command) }

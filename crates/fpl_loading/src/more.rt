@@ -3,7 +3,7 @@ ghost use Rattle.std.specs.Prelude.{◌≡◌, ◌≤◌, ◌⊎◌, All, Err, I
 ghost use Rattle.fpl_base.specs.Causes.{Rose};
 ghost use Rattle.season_book.specs.Commands.{IsCommand};
 ghost use Rattle.season_book.specs.declared.answer.Answer.TheVariants as answer_of;
-ghost use Rattle.fpl_desk.specs.Kept.{Leads, kept_as};
+ghost use Rattle.request_handler.specs.Kept.{Leads, kept_as};
 ghost use Rattle.fpl_loading.specs.declared.adding.Stop.TheVariants as stop_of;
 ghost use Rattle.fpl_loading.specs.More.{CountsRows, IsLoadOfMore, IsNamed, LoadsBy, StopsBy, differs_text, more_text};
 
@@ -11,9 +11,9 @@ use crate::adding::{Stop, Tally, step};
 use crate::faults::row_line;
 use crate::loading::loaded;
 use crate::notes::{LoadEnd, Place, cause_of, place_behind};
-use fpl_asking::status::{DONE, MEMORY, WRITE_FAULT};
-use fpl_asking::{halted, print};
-use fpl_base::{Caller, Clock, Keeper, ListOf, Memory, Sink, Steps};
+use fpl_base::{Caller, Clock, Keeper, ListOf, Memory, ReadCount, Sink};
+use local_requests::status::{DONE, MEMORY, WRITE_FAULT};
+use local_requests::{halted, print};
 use season_book::{Answer, Command};
 use season_keeping::Host;
 use std::alloc::{AllocError, Global};
@@ -28,7 +28,7 @@ pub fn loaded_by<W: Sink, C: Clock, K: Keeper, L: Ledger>(
     output: &mut W,
     clock: &mut C,
     keeper: &mut K,
-    steps: &mut Steps<L>,
+    steps: &mut ReadCount<L>,
 ) -> LoadEnd
     requires fresh { host.old.stale ≡ false }
     requires lawful { All IsCommand commands.items }
@@ -61,7 +61,7 @@ pub fn loaded_more<W: Sink, C: Clock, K: Keeper, L: Ledger>(
     output: &mut W,
     clock: &mut C,
     keeper: &mut K,
-    steps: &mut Steps<L>,
+    steps: &mut ReadCount<L>,
 ) -> LoadEnd
     requires fresh { host.old.stale ≡ false }
     requires lawful { All IsCommand commands.items }

@@ -3,8 +3,8 @@ use Rattle.std.proofs.Common.{◌≡◌, ◌∙◌, ℕ, List, Option, Some, Non
 use Rattle.std.specs.Prelude.{false}
 use Rattle.fpl_base.specs.Keeping.{Map}
 use Rattle.season_keeping.specs.Opening.{Opens}
-use Rattle.fpl_desk.specs.Kept.{IsStoodByRows, IsStoodByStops, Kept, Leads, LeadsAll}
-use Rattle.fpl_replies.specs.Replying.{Served}
+use Rattle.request_handler.specs.Kept.{IsStoodByRows, IsStoodByStops, Kept, Leads, LeadsAll}
+use Rattle.reply_laws.specs.Replying.{Served}
 use Rattle.fpl_serving.specs.Keeping.{Runs}
 use Rattle.fpl_requests.specs.Requests.{Through}
 use Rattle.fpl_serving.proofs.CourseLemmas.{runs_of}

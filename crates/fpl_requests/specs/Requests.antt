@@ -2,12 +2,12 @@
 use Rattle.std.specs.Prelude.{◌≡◌, ◌⊎◌, ℕ, List, Option, Some, None, codes, ⊤}
 use Rattle.fpl_base.specs.Keeping.{Map}
 use Rattle.fpl_base.specs.Moments.{Moments}
-use Rattle.fpl_words.specs.declared.words.What.{What}
-use Rattle.fpl_words.specs.declared.words.What.TheVariants as what
+use Rattle.command_line.specs.declared.words.What.{What}
+use Rattle.command_line.specs.declared.words.What.TheVariants as what
 use Rattle.season_book.specs.declared.request.View.{View}
 use Rattle.season_book.specs.declared.request.View.TheVariants as view
-use Rattle.fpl_replies.specs.Replying.{Served}
-use Rattle.fpl_asking.specs.Printing.{IsReported}
+use Rattle.reply_laws.specs.Replying.{Served}
+use Rattle.local_requests.specs.Printing.{IsReported}
 use Rattle.fpl_generating.specs.Generating.{IsGenerated}
 use Rattle.fpl_dreaming.specs.Dreaming.{IsDreamed}
 use Rattle.event_sheet.specs.Rows.{ExplainsRows, HasEventRows}

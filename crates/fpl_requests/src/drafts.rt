@@ -6,7 +6,7 @@ ghost use Rattle.fpl_drafting.specs.Drafting.{IsDrafted};
 ghost use Rattle.fpl_requests.specs.Requests.{Drafts, RunsThrough};
 
 use draft_sheet::{DraftRow, draft_rows};
-use fpl_base::{Clock, Keeper, Key, Sink, Steps};
+use fpl_base::{Clock, Keeper, Key, ReadCount, Sink};
 use fpl_drafting::{drafted, undrafted};
 use fpl_serving::unopened;
 use season_keeping::Host;
@@ -23,7 +23,7 @@ pub fn draft<W: Sink, C: Clock, K: Keeper, L: Ledger>(
     output: &mut W,
     clock: &mut C,
     keeper: &mut K,
-    steps: &mut Steps<L>,
+    steps: &mut ReadCount<L>,
 ) -> u8
     requires few { (2 ≤ members) × (members ≤ 8) }
     ensures drafts { Drafts K.tells K.serves K.holds K.passes K.faults keeper.old keeper.new key.now
@@ -58,7 +58,7 @@ fn draft_all<W: Sink, C: Clock, K: Keeper, L: Ledger>(
     output: &mut W,
     clock: &mut C,
     keeper: &mut K,
-    steps: &mut Steps<L>,
+    steps: &mut ReadCount<L>,
 ) -> u8
     requires few { (2 ≤ members) × (members ≤ 8) }
     requires own { AreRowsOf members rows.now }

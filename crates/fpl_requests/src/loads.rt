@@ -4,11 +4,11 @@ ghost use Rattle.fpl_base.specs.Causes.{Rose};
 ghost use Rattle.season_book.specs.Commands.{IsCommand};
 ghost use Rattle.fpl_requests.specs.Loads.{Loads, LoadsAll};
 
-use fpl_base::{Clock, Keeper, Key, Profile, Sink, Steps, Text};
+use fpl_base::{Clock, Keeper, Key, Profile, ReadCount, Sink, Text};
 use fpl_loading::{LoadEnd, loaded_by, ordered_by, unloaded};
 use fpl_serving::unopened;
-use fpl_shelves::AskedShelf;
 use season_book::Command;
+use season_folder::AskedShelf;
 use season_keeping::Host;
 use std::alloc::Global;
 use std::sync::ledger::Ledger;
@@ -26,7 +26,7 @@ pub fn load<W: Sink, C: Clock, K: Keeper, F: AskedShelf, L: Ledger>(
     clock: &mut C,
     keeper: &mut K,
     shelf: &mut F,
-    steps: &mut Steps<L>,
+    steps: &mut ReadCount<L>,
 ) -> LoadEnd
     ensures loads { Loads K.tells K.serves K.holds K.passes K.faults F.one_read keeper.old keeper.new
         key.now (F.files shelf.old) folder.now split profile more shelf.old shelf.new
@@ -57,7 +57,7 @@ fn load_all<W: Sink, C: Clock, K: Keeper, L: Ledger>(
     output: &mut W,
     clock: &mut C,
     keeper: &mut K,
-    steps: &mut Steps<L>,
+    steps: &mut ReadCount<L>,
 ) -> LoadEnd
     requires { All IsCommand commands.items }
     ensures loads { LoadsAll K.tells K.serves K.holds K.passes K.faults keeper.old keeper.new

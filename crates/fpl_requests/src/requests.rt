@@ -7,15 +7,15 @@ ghost use Rattle.fpl_events.specs.Playing.{IsPlayed};
 ghost use Rattle.fpl_generating.specs.Generating.{IsGenerated};
 ghost use Rattle.fpl_requests.specs.Requests.{Dreams, Generates, Plays, Reports, RunsThrough, made_up_key, view_of};
 
+use command_line::What;
 use event_sheet::{EventRow, event_rows};
-use fpl_asking::reported;
-use fpl_asking::status::MEMORY;
-use fpl_base::{Clock, Gw, Keeper, Key, Memory, Sink, Steps};
+use fpl_base::{Clock, Gw, Keeper, Key, Memory, ReadCount, Sink};
 use fpl_dreaming::dreamed;
 use fpl_events::{played, unplayed};
 use fpl_generating::generated;
 use fpl_serving::unopened;
-use fpl_words::What;
+use local_requests::reported;
+use local_requests::status::MEMORY;
 use season_book::View;
 use season_keeping::Host;
 use std::alloc::Global;
@@ -32,7 +32,7 @@ pub fn report<W: Sink, C: Clock, K: Keeper, L: Ledger>(
     output: &mut W,
     clock: &mut C,
     keeper: &mut K,
-    steps: &mut Steps<L>,
+    steps: &mut ReadCount<L>,
 ) -> u8
     ensures reports { Reports K.tells K.serves K.holds K.passes K.faults keeper.old keeper.new
         key.now what (C.left clock.old) (C.left clock.new) (W.taken output.old)
@@ -80,7 +80,7 @@ pub fn dream<W: Sink, C: Clock, K: Keeper, L: Ledger>(
     output: &mut W,
     clock: &mut C,
     keeper: &mut K,
-    steps: &mut Steps<L>,
+    steps: &mut ReadCount<L>,
 ) -> u8
     ensures dreams { Dreams K.tells K.serves K.holds K.passes K.faults keeper.old keeper.new key.now
         gameweek (C.left clock.old) (C.left clock.new) (W.taken output.old) (W.taken output.new)
@@ -107,7 +107,7 @@ pub fn play<W: Sink, C: Clock, K: Keeper, L: Ledger>(
     output: &mut W,
     clock: &mut C,
     keeper: &mut K,
-    steps: &mut Steps<L>,
+    steps: &mut ReadCount<L>,
 ) -> u8
     ensures plays { Plays K.tells K.serves K.holds K.passes K.faults keeper.old keeper.new key.now
         fixture minutes bytes.now (C.left clock.old) (C.left clock.new) (W.taken output.old)
@@ -143,7 +143,7 @@ fn play_all<W: Sink, C: Clock, K: Keeper, L: Ledger>(
     output: &mut W,
     clock: &mut C,
     keeper: &mut K,
-    steps: &mut Steps<L>,
+    steps: &mut ReadCount<L>,
 ) -> u8
     requires doable { AreDoable minutes 0 rows.now }
     requires few { length rows.now < 2 ^ 32 }
@@ -170,7 +170,7 @@ pub fn generate<W: Sink, K: Keeper, L: Ledger>(
     seed: u64,
     output: &mut W,
     keeper: &mut K,
-    steps: &mut Steps<L>,
+    steps: &mut ReadCount<L>,
 ) -> u8
     ensures generates { (moments : Option Moments)
         → Generates K.tells K.serves K.holds K.passes K.faults keeper.old keeper.new seed moments
@@ -193,7 +193,7 @@ fn generate_as<W: Sink, K: Keeper, L: Ledger>(
     seed: u64,
     output: &mut W,
     keeper: &mut K,
-    steps: &mut Steps<L>,
+    steps: &mut ReadCount<L>,
 ) -> u8
     ensures generates { (moments : Option Moments)
         → RunsThrough K.tells K.serves K.holds K.passes K.faults keeper.old keeper.new key.now

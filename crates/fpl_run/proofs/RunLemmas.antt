@@ -1,13 +1,13 @@
 -- How a run ends, from how its one write ended; and that what is due is one thing.
 use Rattle.std.proofs.Common.{◌≡◌, ◌∙◌, ℕ, List, Option, Some, None, Result, IfSome, ap, subst, sym, arith, inl, inr, ◌⊎◌, refl}
-use Rattle.fpl_asking.specs.Printing.{Prints}
+use Rattle.local_requests.specs.Printing.{Prints}
 use Rattle.fpl_base.specs.declared.kinds.Profile.{Profile}
 use Rattle.score_sheet.specs.Laws.{OneText, TextOrWrongRow, OneWrongRow}
 use Rattle.std.specs.Io.KnownBytes.{Keeps}
 use Rattle.fpl_base.specs.Keeping.{Map}
 use Rattle.fpl_base.specs.declared.outside.ShelfFault.{ShelfFault}
-use Rattle.fpl_words.specs.declared.words.Words.{Words}
-use Rattle.fpl_words.specs.declared.words.Words.TheVariants as order
+use Rattle.command_line.specs.declared.words.Words.{Words}
+use Rattle.command_line.specs.declared.words.Words.TheVariants as order
 use Rattle.season_opening.specs.declared.loading.OpenFault.TheVariants as fault
 use Rattle.fpl_loading.specs.declared.files.LoadFault.TheVariants as load_fault
 use Rattle.fpl_serving.proofs.PipeLemmas.{holds_still}

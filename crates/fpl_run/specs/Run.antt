@@ -7,8 +7,8 @@ use Rattle.fpl_base.specs.declared.kinds.Profile.{Profile}
 use Rattle.fpl_base.specs.declared.outside.ShelfFault.{ShelfFault}
 use Rattle.fpl_base.specs.Keeping.{Map}
 use Rattle.fpl_base.specs.Moments.{Moments}
-use Rattle.fpl_words.specs.declared.words.Words.{Words}
-use Rattle.fpl_words.specs.declared.words.Words.TheVariants as order
+use Rattle.command_line.specs.declared.words.Words.{Words}
+use Rattle.command_line.specs.declared.words.Words.TheVariants as order
 use Rattle.score_sheet.specs.Sheets.{Scores, HasWrongRow}
 use Rattle.fpl_run.specs.Input.{TakesAtMost}
 use Rattle.fpl_serving.specs.Pipe.{Pipes}

@@ -4,8 +4,8 @@ ghost use Rattle.fpl_base.specs.Causes.{Rose};
 ghost use Rattle.fpl_run.specs.Drafts.{Drafted};
 
 use crate::input::{InputFault, read_all};
-use fpl_asking::status::{MEMORY, READ_FAULT, TOO_LONG};
-use fpl_base::{Clock, Keeper, Key, Sink, Source, Steps};
+use fpl_base::{Clock, Keeper, Key, ReadCount, Sink, Source};
+use local_requests::status::{MEMORY, READ_FAULT, TOO_LONG};
 use std::alloc::Global;
 use std::sync::ledger::Ledger;
 
@@ -19,7 +19,7 @@ pub(crate) fn draft<S: Source, W: Sink, C: Clock, K: Keeper, L: Ledger>(
     output: &mut W,
     clock: &mut C,
     keeper: &mut K,
-    steps: &mut Steps<L>,
+    steps: &mut ReadCount<L>,
 ) -> u8
     requires few { (2 ≤ members) × (members ≤ 8) }
     ensures drafted { Drafted K.tells K.serves K.holds K.passes K.faults keeper.old keeper.new

@@ -4,9 +4,9 @@ ghost use Rattle.fpl_base.specs.Causes.{Rose};
 ghost use Rattle.fpl_run.specs.Events.{Recorded};
 
 use crate::input::{InputFault, read_all};
-use fpl_asking::status::{MEMORY, READ_FAULT, TOO_LONG};
-use fpl_base::{Clock, Keeper, Key, Sink, Source, Steps};
+use fpl_base::{Clock, Keeper, Key, ReadCount, Sink, Source};
 use fpl_requests::play;
+use local_requests::status::{MEMORY, READ_FAULT, TOO_LONG};
 use std::alloc::Global;
 use std::sync::ledger::Ledger;
 
@@ -21,7 +21,7 @@ pub(crate) fn events<S: Source, W: Sink, C: Clock, K: Keeper, L: Ledger>(
     output: &mut W,
     clock: &mut C,
     keeper: &mut K,
-    steps: &mut Steps<L>,
+    steps: &mut ReadCount<L>,
 ) -> u8
     ensures recorded { Recorded K.tells K.serves K.holds K.passes K.faults keeper.old keeper.new
         key.now fixture minutes (S.left input.old) (S.left input.new) (C.left clock.old)

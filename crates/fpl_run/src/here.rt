@@ -2,9 +2,9 @@
 ghost use Rattle.std.specs.Prelude.{◌≡◌, ◌<◌, None};
 
 use crate::run::run;
-use fpl_base::{Doors, Keeper, Reading, Steps, SystemClock, Text, Writing};
+use fpl_base::{Doors, Keeper, ReadCount, Reading, SystemClock, Text, Writing};
 use fpl_loading::Note;
-use fpl_shelves::AskedShelf;
+use season_folder::AskedShelf;
 use std::alloc::Global;
 use std::io;
 use std::marker::Brand;
@@ -41,7 +41,7 @@ fn counted<K: Keeper, D: Doors, F: AskedShelf, L: Ledger>(
     requires parts { blank.parts ≡ L.parts }
     requires some { 0 < blank.parts }
 {
-    let mut steps: Steps<L> = Steps::open(blank);
+    let mut steps: ReadCount<L> = ReadCount::open(blank);
     let mut input = Reading::new(rt.reader());
     let mut output = Writing::new(io::writer(rt));
     run(

@@ -4,9 +4,9 @@ ghost use Rattle.fpl_base.specs.Causes.{Rose};
 ghost use Rattle.fpl_loading.specs.Notes.{noted_behind};
 ghost use Rattle.fpl_run.specs.Loads.{Loaded};
 
-use fpl_base::{Clock, Keeper, Key, Profile, Sink, Steps, Text};
+use fpl_base::{Clock, Keeper, Key, Profile, ReadCount, Sink, Text};
 use fpl_loading::Note;
-use fpl_shelves::AskedShelf;
+use season_folder::AskedShelf;
 use std::alloc::Global;
 use std::sync::ledger::Ledger;
 
@@ -24,7 +24,7 @@ pub(crate) fn load<W: Sink, C: Clock, K: Keeper, F: AskedShelf, L: Ledger>(
     keeper: &mut K,
     shelf: &mut F,
     note: &mut Option<Note>,
-    steps: &mut Steps<L>,
+    steps: &mut ReadCount<L>,
 ) -> u8
     ensures loaded { Loaded K.tells K.serves K.holds K.passes K.faults F.one_read keeper.old
         keeper.new key.now folder.now split profile more

@@ -2,7 +2,7 @@
 ghost use Rattle.std.specs.Prelude.{◌≡◌, ◌≤◌, ◌⊎◌, IfSome, MatchOption, None, length};
 ghost use Rattle.std.specs.Io.KnownBytes.{IsAtEnd, Keeps};
 ghost use Rattle.fpl_base.specs.Causes.{Rose};
-ghost use Rattle.fpl_words.specs.Orders.{ordered};
+ghost use Rattle.command_line.specs.Orders.{ordered};
 ghost use Rattle.fpl_serving.specs.Serve.{doors_as};
 ghost use Rattle.fpl_run.specs.Input.{TakesAtMost};
 ghost use Rattle.fpl_run.specs.Run.{Ends, IsScoreDue, RunsAs, connections_in};
@@ -11,15 +11,15 @@ use crate::drafts::draft;
 use crate::events::events;
 use crate::loads::load;
 use crate::score::{Halt, score_due};
-use fpl_asking::print;
-use fpl_asking::status::{MEMORY, READ_FAULT, WORDS};
-use fpl_base::{Clock, Doors, Keeper, Profile, Sink, Source, Steps, Text};
+use command_line::{WordFault, Words, words_of};
+use fpl_base::{Clock, Doors, Keeper, Profile, ReadCount, Sink, Source, Text};
 use fpl_loading::Note;
 use fpl_requests::{dream, generate, report};
 use fpl_serving::pipe::pipe;
 use fpl_serving::serve::serve;
-use fpl_shelves::AskedShelf;
-use fpl_words::{WordFault, Words, words_of};
+use local_requests::print;
+use local_requests::status::{MEMORY, READ_FAULT, WORDS};
+use season_folder::AskedShelf;
 use std::alloc::Global;
 use std::sync::ledger::Ledger;
 
@@ -36,7 +36,7 @@ pub fn run<S: Source, W: Sink, C: Clock, K: Keeper, D: Doors, F: AskedShelf, L: 
     doors: &mut D,
     shelf: &mut F,
     note: &mut Option<Note>,
-    steps: &mut Steps<L>,
+    steps: &mut ReadCount<L>,
 ) -> u8
     // Doors that tell their connections have as many as the words ask for, and doors that tell none never will.
     requires { MatchOption (D.coming doors.old) ((d : D) → D.coming d ≡ None)

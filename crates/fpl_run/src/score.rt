@@ -6,8 +6,8 @@ ghost use Rattle.fpl_run.specs.Input.{TakesAtMost};
 ghost use Rattle.fpl_run.specs.Run.{IsScoreDue, row_text};
 
 use crate::input::{InputFault, read_all};
-use fpl_asking::status::{DONE, TOO_LONG, WRONG_ROW};
 use fpl_base::{Memory, Profile, Source};
+use local_requests::status::{DONE, TOO_LONG, WRONG_ROW};
 use score_sheet::{SheetFault, score_sheet};
 use std::alloc::{AllocError, Global};
 

@@ -11,11 +11,11 @@ use Rattle.fpl_session.specs.declared.ending.Ending.{Ending}
 use Rattle.season_book.specs.Book.{Book, empty_book}
 use Rattle.season_running.specs.Standing.{StandsIn}
 use Rattle.season_keeping.specs.Opening.{Opens}
-use Rattle.fpl_desk.specs.Kept.{Agrees, IsStoodByRows, IsStoodByStops, Kept, LeadsAll, StandsByRecords, StandsByRows, StandsByStops}
-use Rattle.fpl_desk.specs.Answered.{SessionsAnswer}
-use Rattle.fpl_desk.specs.Looks.{Counted, CountsLooks, RunsReadFew, SessionReadsFew}
-use Rattle.fpl_replies.specs.Replying.{IsLeftAt, IsReplyUntil, Served}
-use Rattle.fpl_replies.specs.Whole.{IsKeptReply}
+use Rattle.request_handler.specs.Kept.{Agrees, IsStoodByRows, IsStoodByStops, Kept, LeadsAll, StandsByRecords, StandsByRows, StandsByStops}
+use Rattle.request_handler.specs.Answered.{SessionsAnswer}
+use Rattle.request_handler.specs.Looks.{Counted, CountsLooks, RunsReadFew, SessionReadsFew}
+use Rattle.reply_laws.specs.Replying.{IsLeftAt, IsReplyUntil, Served}
+use Rattle.reply_laws.specs.Whole.{IsKeptReply}
 use Rattle.fpl_serving.specs.Keeping.{IsBehind, Runs, opened}
 use Rattle.fpl_serving.specs.Pipe.{IsSession}
 
@@ -70,7 +70,7 @@ module _ (K : Type 0) (tells serves : K → Type 0) (holds passes : K → Map �
     served = leads.served;
   }
 
-  -- ---- a session of the desk
+  -- ---- a session of the handler
 
   abbrev Rows : Counted K → Request → ℕ × List ℕ → Counted K → Type 0
   Rows = LiftsWhile (λ (_ : Counted K). ⊤) (λ (now : Counted K). IsStoodByRows now.kept) IsReplyUntil

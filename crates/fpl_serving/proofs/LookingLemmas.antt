@@ -15,11 +15,11 @@ use Rattle.season_book.specs.declared.request.Request.{Request}
 use Rattle.season_book.specs.declared.request.Request.TheVariants as request
 use Rattle.season_host.specs.Accepted.{locks_more}
 use Rattle.season_running.specs.Standing.{HostRows, StandsIn, passed}
-use Rattle.fpl_replies.specs.Replying.{Asking, Served, asked_by}
-use Rattle.fpl_desk.specs.Kept.{IsStoodByRows, IsStoodByStops, LeadsAll, StandsByRows, asked_in}
-use Rattle.fpl_desk.specs.Looks.{AllOrderNone, AreLooks, AsksNoCommand, Counted, IsLook, LockNone, MayRead, OrdersNone, ReadFew, passed_on}
-use Rattle.fpl_desk.proofs.KeptLemmas.{caller_stood}
-use Rattle.fpl_desk.proofs.LookLemmas.{facts_stay}
+use Rattle.reply_laws.specs.Replying.{Asking, Served, asked_by}
+use Rattle.request_handler.specs.Kept.{IsStoodByRows, IsStoodByStops, LeadsAll, StandsByRows, asked_in}
+use Rattle.request_handler.specs.Looks.{AllOrderNone, AreLooks, AsksNoCommand, Counted, IsLook, LockNone, MayRead, OrdersNone, ReadFew, passed_on}
+use Rattle.request_handler.proofs.KeptLemmas.{caller_stood}
+use Rattle.request_handler.proofs.LookLemmas.{facts_stay}
 use Rattle.fpl_serving.specs.Looking.{LooksReadFew}
 
 -- ---- how many gameweeks are locked

@@ -7,10 +7,10 @@ use Rattle.fpl_session.specs.Runs.{Run}
 use Rattle.fpl_session.specs.declared.ending.Ending.{Ending}
 use Rattle.fpl_session.specs.declared.ending.Ending.TheVariants.{Memory}
 use Rattle.fpl_session.proofs.RunLemmas.{run_then}
-use Rattle.fpl_desk.specs.Answered.{SessionsAnswer}
-use Rattle.fpl_replies.specs.Once.{MessagesActOnce}
-use Rattle.fpl_replies.specs.Replying.{IsReply, IsReplyUntil, Served}
-use Rattle.fpl_replies.specs.Whole.{IsKeptReply}
+use Rattle.request_handler.specs.Answered.{SessionsAnswer}
+use Rattle.reply_laws.specs.Once.{MessagesActOnce}
+use Rattle.reply_laws.specs.Replying.{IsReply, IsReplyUntil, Served}
+use Rattle.reply_laws.specs.Whole.{IsKeptReply}
 use Rattle.fpl_serving.specs.Once.{ServesActOnce, SessionsActOnce}
 use Rattle.fpl_serving.specs.Pipe.{AreHeard, IsSession}
 use Rattle.fpl_serving.specs.Serve.{DoorState, HearOn, Hears, IsVisit, ServesOn, in_turn}

@@ -10,8 +10,8 @@ use Rattle.fpl_session.specs.declared.ending.Ending.{Ending}
 use Rattle.fpl_session.proofs.RunLemmas.{run_then}
 use Rattle.season_keeping.specs.Opening.{Opens as OpensHost}
 use Rattle.season_running.specs.Standing.{HostRows}
-use Rattle.fpl_desk.specs.Answered.{SessionsAnswer}
-use Rattle.fpl_desk.specs.Looks.{Counted, CountsLooks, ReadFew, RunsReadFew}
+use Rattle.request_handler.specs.Answered.{SessionsAnswer}
+use Rattle.request_handler.specs.Looks.{Counted, CountsLooks, ReadFew, RunsReadFew}
 use Rattle.fpl_serving.specs.Reading.{CountFew, CountOn, CountOne, CountsFrom}
 use Rattle.fpl_serving.specs.Serve.{DoorState, HearOn, in_turn}
 

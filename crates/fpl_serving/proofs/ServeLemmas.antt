@@ -8,9 +8,9 @@ use Rattle.fpl_http.specs.Stream.{Request}
 use Rattle.fpl_session.specs.Sessions.{EndsAs}
 use Rattle.fpl_session.specs.declared.ending.Ending.{Ending}
 use Rattle.fpl_session.specs.declared.ending.Ending.TheVariants as ends
-use Rattle.fpl_desk.specs.Kept.{Kept, LeadsAll}
-use Rattle.fpl_replies.specs.Replying.{IsReplyUntil, Served}
-use Rattle.fpl_replies.specs.Whole.{IsKeptReply}
+use Rattle.request_handler.specs.Kept.{Kept, LeadsAll}
+use Rattle.reply_laws.specs.Replying.{IsReplyUntil, Served}
+use Rattle.reply_laws.specs.Whole.{IsKeptReply}
 use Rattle.fpl_serving.specs.Pipe.{IsSession}
 use Rattle.fpl_serving.specs.Serve.{DoorState, Fails, IsAskedOnce, IsVisit, OneFewer, ServesOn}
 use Rattle.fpl_serving.proofs.CourseLemmas.{leads_all_on, leads_all_same, leads_all_then}

@@ -11,8 +11,8 @@ use Rattle.season_opening.specs.declared.loading.OpenFault.TheVariants as fault
 use Rattle.season_records.specs.Records.{records}
 use Rattle.season_keeping.specs.Opening.{Withholds}
 use Rattle.fpl_session.specs.declared.ending.Ending.{Ending}
-use Rattle.fpl_replies.specs.Replying.{Served}
-use Rattle.fpl_replies.specs.Whole.{IsKeptReply, IsWhole, IsWholeReply, SessionsAreWhole}
+use Rattle.reply_laws.specs.Replying.{Served}
+use Rattle.reply_laws.specs.Whole.{IsKeptReply, IsWhole, IsWholeReply, SessionsAreWhole}
 use Rattle.fpl_serving.specs.Keeping.{IsUnopened, Runs, TellsFault, opened}
 use Rattle.fpl_serving.specs.Pipe.{IsSession}
 use Rattle.fpl_serving.specs.Serve.{DoorState, IsVisit, ServesOn}

@@ -11,8 +11,8 @@ use Rattle.season_opening.specs.declared.loading.OpenFault.TheVariants as fault
 use Rattle.season_records.specs.Records.{records}
 use Rattle.season_running.specs.Standing.{HostRows, StandsIn}
 use Rattle.season_keeping.specs.Opening.{HoldsOn, Withholds}
-use Rattle.fpl_asking.specs.Printing.{PrintsOne}
-use Rattle.fpl_replies.specs.Replying.{IsLeftAt, Served}
+use Rattle.local_requests.specs.Printing.{PrintsOne}
+use Rattle.reply_laws.specs.Replying.{IsLeftAt, Served}
 
 -- where a run begins: a host of this operator with this book, all the moments of the clock, and how often the keeper has
 -- failed

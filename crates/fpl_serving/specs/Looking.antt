@@ -1,8 +1,8 @@
 -- Runs whose messages ask nothing but views, where no deadline passes.
 use Rattle.std.specs.Prelude.{◌≡◌, ◌≤◌, ◌+◌, ℕ, List, Option, Some, None, sum, ⊤}
 use Rattle.fpl_http.specs.Stream.{Request as Message}
-use Rattle.fpl_desk.specs.Looks.{AreLooks}
-use Rattle.fpl_replies.specs.Replying.{Served}
+use Rattle.request_handler.specs.Looks.{AreLooks}
+use Rattle.reply_laws.specs.Replying.{Served}
 
 -- from one state to another, in which neither host is stale: where the messages ask nothing but views, and the book behind them
 -- has locked no gameweek that the one before had not, no more reads were counted than the views allow in all

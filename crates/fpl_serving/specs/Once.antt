@@ -7,8 +7,8 @@ use Rattle.season_book.specs.Runs.{Asked}
 use Rattle.season_book.specs.declared.answer.Answer.{Answer}
 use Rattle.fpl_http.specs.Stream.{Request as Message}
 use Rattle.fpl_session.specs.declared.ending.Ending.{Ending}
-use Rattle.fpl_replies.specs.Once.{AreJudged}
-use Rattle.fpl_replies.specs.Replying.{Served}
+use Rattle.reply_laws.specs.Once.{AreJudged}
+use Rattle.reply_laws.specs.Replying.{Served}
 use Rattle.fpl_serving.specs.Pipe.{AreHeard, IsSession}
 use Rattle.fpl_serving.specs.Serve.{DoorState, HearOn, ServesOn, in_turn}
 

@@ -9,8 +9,8 @@ use Rattle.fpl_session.specs.Sessions.{EndsAs, SessionOf, SessionOver}
 use Rattle.fpl_session.specs.Stops.{Leads}
 use Rattle.fpl_session.specs.declared.ending.Ending.{Ending}
 use Rattle.fpl_session.specs.declared.ending.Ending.TheVariants.{Done, Closed, Cut, Refused, Read, Write, Long, Memory}
-use Rattle.fpl_replies.specs.Replying.{IsReplyUntil}
-use Rattle.fpl_replies.specs.Whole.{IsKeptReply}
+use Rattle.reply_laws.specs.Replying.{IsReplyUntil}
+use Rattle.reply_laws.specs.Whole.{IsKeptReply}
 use Rattle.fpl_serving.specs.Keeping.{IsUnopened, Runs}
 use Rattle.fpl_serving.specs.Looking.{LooksReadFew}
 

@@ -11,7 +11,7 @@ use Rattle.fpl_http.specs.Stream.{Request as Message}
 use Rattle.fpl_session.specs.Replies.{Speaks}
 use Rattle.fpl_session.specs.Runs.{Run}
 use Rattle.fpl_session.specs.declared.ending.Ending.{Ending}
-use Rattle.fpl_desk.specs.Looks.{AreLooks, Counted, CountsLooks, LockNone, TellsOn}
+use Rattle.request_handler.specs.Looks.{AreLooks, Counted, CountsLooks, LockNone, TellsOn}
 use Rattle.fpl_serving.specs.Pipe.{AreHeard}
 use Rattle.fpl_serving.specs.Serve.{DoorState, HearOn, Hears, in_turn}
 

@@ -9,8 +9,8 @@ use Rattle.fpl_http.specs.Stream.{Request}
 use Rattle.fpl_session.specs.Sessions.{EndsAs}
 use Rattle.fpl_session.specs.declared.ending.Ending.{Ending}
 use Rattle.fpl_session.specs.declared.ending.Ending.TheVariants.{Read, Write, Memory}
-use Rattle.fpl_replies.specs.Replying.{IsReplyUntil}
-use Rattle.fpl_replies.specs.Whole.{IsKeptReply}
+use Rattle.reply_laws.specs.Replying.{IsReplyUntil}
+use Rattle.reply_laws.specs.Whole.{IsKeptReply}
 use Rattle.fpl_serving.specs.Keeping.{IsUnopened, Runs}
 use Rattle.fpl_serving.specs.Looking.{LooksReadFew}
 use Rattle.fpl_serving.specs.Pipe.{AreHeard, IsSession}

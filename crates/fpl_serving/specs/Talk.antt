@@ -7,10 +7,10 @@ use Rattle.fpl_session.specs.Replies.{Speaks}
 use Rattle.fpl_session.specs.Sessions.{SessionOf}
 use Rattle.fpl_session.specs.Splits.{Both}
 use Rattle.fpl_session.specs.declared.ending.Ending.{Ending}
-use Rattle.fpl_desk.specs.Kept.{IsStoodByRows, IsStoodByStops, LeadsAll, StandsByRecords}
-use Rattle.fpl_desk.specs.Looks.{Counted, CountsLooks, SessionReadsFew}
-use Rattle.fpl_replies.specs.Replying.{IsReplyUntil}
-use Rattle.fpl_replies.specs.Whole.{IsKeptReply}
+use Rattle.request_handler.specs.Kept.{IsStoodByRows, IsStoodByStops, LeadsAll, StandsByRecords}
+use Rattle.request_handler.specs.Looks.{Counted, CountsLooks, SessionReadsFew}
+use Rattle.reply_laws.specs.Replying.{IsReplyUntil}
+use Rattle.reply_laws.specs.Whole.{IsKeptReply}
 use Rattle.fpl_serving.specs.Pipe.{IsSession}
 
 -- what is said of each message

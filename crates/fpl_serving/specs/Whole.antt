@@ -7,8 +7,8 @@ use Rattle.season_lawful.specs.Books.{IsLawful}
 use Rattle.season_opening.specs.Opening.{IsKeepable}
 use Rattle.season_records.specs.Records.{records}
 use Rattle.fpl_session.specs.declared.ending.Ending.{Ending}
-use Rattle.fpl_replies.specs.Replying.{Served}
-use Rattle.fpl_replies.specs.Whole.{IsWhole, IsWholeReply}
+use Rattle.reply_laws.specs.Replying.{Served}
+use Rattle.reply_laws.specs.Whole.{IsWhole, IsWholeReply}
 use Rattle.fpl_serving.specs.Keeping.{IsBehind, opened}
 use Rattle.fpl_serving.specs.Pipe.{IsSession, Pipes, status_of}
 use Rattle.fpl_serving.specs.Serve.{DoorState, Serves, ServesOn}

@@ -1,14 +1,14 @@
 // Laws on the definitions.
 ghost use Rattle.std.specs.Prelude.{Option, Some};
-ghost use Rattle.fpl_replies.specs.Replying.{IsReplyUntil, Served};
-ghost use Rattle.fpl_replies.specs.Whole.{IsKeptReply};
+ghost use Rattle.reply_laws.specs.Replying.{IsReplyUntil, Served};
+ghost use Rattle.reply_laws.specs.Whole.{IsKeptReply};
 ghost use Rattle.fpl_serving.specs.Once.{ServesActOnce, SessionsActOnce};
 ghost use Rattle.fpl_serving.specs.Whole.{PipesAreWhole, ServesAreWhole};
 
 use fpl_base::Keeper;
-use fpl_desk::sessions_answer;
-use fpl_replies::{messages_act_once, replies_are_whole};
 use fpl_session::Answering;
+use reply_laws::{messages_act_once, replies_are_whole};
+use request_handler::sessions_answer;
 use season_lawful::lawful_books_are_whole;
 
 /// Over a keeper that tells, and serves to the end, a run of `pipe` or `serve` from a lawful book has no reply of status

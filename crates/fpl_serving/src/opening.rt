@@ -4,9 +4,9 @@ ghost use Rattle.fpl_base.specs.Causes.{Rose};
 ghost use Rattle.season_opening.specs.declared.loading.OpenFault.TheVariants as fault_of;
 ghost use Rattle.fpl_serving.specs.Keeping.{TellsFault, damaged_text};
 
-use fpl_asking::print;
-use fpl_asking::status::{DAMAGED, KEEPER, MEMORY};
 use fpl_base::{RecordKey, Sink};
+use local_requests::print;
+use local_requests::status::{DAMAGED, KEEPER, MEMORY};
 use season_opening::OpenFault;
 use std::alloc::{AllocError, Global};
 

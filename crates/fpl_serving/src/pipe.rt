@@ -6,10 +6,10 @@ ghost use Rattle.fpl_serving.specs.Reading.{PipeCounts};
 
 use crate::opening::unopened;
 use crate::talk::talk;
-use fpl_asking::status::{CUT, DONE, MEMORY, READ_FAULT, REFUSED, TOO_LONG, WRITE_FAULT};
-use fpl_base::{Clock, Keeper, Key, Sink, Source, Steps};
-use fpl_desk::opened;
+use fpl_base::{Clock, Keeper, Key, ReadCount, Sink, Source};
 use fpl_session::{Buffers, Ending};
+use local_requests::status::{CUT, DONE, MEMORY, READ_FAULT, REFUSED, TOO_LONG, WRITE_FAULT};
+use request_handler::opened;
 use std::alloc::Global;
 use std::sync::ledger::Ledger;
 
@@ -22,7 +22,7 @@ pub fn pipe<S: Source, W: Sink, C: Clock, K: Keeper, L: Ledger>(
     output: &mut W,
     clock: &mut C,
     keeper: &mut K,
-    steps: &mut Steps<L>,
+    steps: &mut ReadCount<L>,
 ) -> u8
     ensures session { Pipes K.tells K.serves K.holds K.passes K.faults keeper.old keeper.new key.now
         (S.left input.old) (S.left input.new) (C.left clock.old) (C.left clock.new)
@@ -37,10 +37,10 @@ pub fn pipe<S: Source, W: Sink, C: Clock, K: Keeper, L: Ledger>(
     ensures no_shelf { result ≡ 9 → ⊥ }
 {
     match opened(alloc, key, keeper) {
-        Ok((desk, mut host)) => ended(talk(
+        Ok((handler, mut host)) => ended(talk(
             alloc,
             &mut Buffers::new(),
-            &desk,
+            &handler,
             &mut host,
             keeper,
             input,

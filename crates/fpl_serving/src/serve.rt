@@ -1,19 +1,21 @@
 // The command that serves connections, one after another.
 ghost use Rattle.std.specs.Prelude.{◌≡◌, ◌≤◌, ◌<◌, ◌⊎◌, IfSome, MatchOption, None, OnErr, OnOk, length};
 ghost use Rattle.fpl_base.specs.Causes.{Rose};
-ghost use Rattle.fpl_desk.specs.Kept.{LeadsAll, kept_as};
-ghost use Rattle.fpl_desk.specs.Looks.{counted_as};
-ghost use Rattle.fpl_replies.specs.Replying.{IsReplyUntil};
-ghost use Rattle.fpl_replies.specs.Whole.{IsKeptReply};
+ghost use Rattle.request_handler.specs.Kept.{LeadsAll, kept_as};
+ghost use Rattle.request_handler.specs.Looks.{counted_as};
+ghost use Rattle.reply_laws.specs.Replying.{IsReplyUntil};
+ghost use Rattle.reply_laws.specs.Whole.{IsKeptReply};
 ghost use Rattle.fpl_serving.specs.Reading.{CountOn, CountOne, ServeCounts};
 ghost use Rattle.fpl_serving.specs.Serve.{IsAskedOnce, OneFewer, Serves, ServesOn, doors_as};
 
 use crate::opening::unopened;
 use crate::talk::talk;
-use fpl_asking::status::{DONE, DOORS, MEMORY};
-use fpl_base::{Clock, Doors, Failed, Keeper, Key, Sink, Steps};
-use fpl_desk::{Desk, HostWithScratch, ReadsFirst, looks_read_few, opened, sessions_answer};
+use fpl_base::{Clock, Doors, Failed, Keeper, Key, ReadCount, Sink};
 use fpl_session::{Buffers, Ending};
+use local_requests::status::{DONE, DOORS, MEMORY};
+use request_handler::{
+    HostWithScratch, ReadsFirst, RequestHandler, looks_read_few, opened, sessions_answer,
+};
 use std::alloc::Global;
 use std::sync::ledger::Ledger;
 
@@ -28,7 +30,7 @@ pub fn serve<W: Sink, C: Clock, K: Keeper, D: Doors, L: Ledger>(
     clock: &mut C,
     keeper: &mut K,
     doors: &mut D,
-    steps: &mut Steps<L>,
+    steps: &mut ReadCount<L>,
 ) -> u8
     requires { MatchOption (D.coming doors.old) ((d : D) → D.coming d ≡ None)
         (λ all. connections ≤ length all) }
@@ -51,9 +53,9 @@ pub fn serve<W: Sink, C: Clock, K: Keeper, D: Doors, L: Ledger>(
     // The law on what looks count, for the prover.
     looks_read_few::<K>();
     match opened(alloc, key, keeper) {
-        Ok((desk, mut host)) => serve_all(
+        Ok((handler, mut host)) => serve_all(
             alloc,
-            &desk,
+            &handler,
             &mut host,
             connections,
             clock,
@@ -68,13 +70,13 @@ pub fn serve<W: Sink, C: Clock, K: Keeper, D: Doors, L: Ledger>(
 // Serves so many connections, one after another.
 fn serve_all<C: Clock, K: Keeper, D: Doors, L: Ledger>(
     alloc: Global,
-    desk: &Desk,
+    handler: &RequestHandler,
     host: &mut HostWithScratch,
     connections: u64,
     clock: &mut C,
     keeper: &mut K,
     doors: &mut D,
-    steps: &mut Steps<L>,
+    steps: &mut ReadCount<L>,
 ) -> u8
     requires { MatchOption (D.coming doors.old) ((d : D) → D.coming d ≡ None)
         (λ all. connections ≤ length all) }
@@ -99,7 +101,16 @@ fn serve_all<C: Clock, K: Keeper, D: Doors, L: Ledger>(
 {
     let mut buffers = Buffers::new();
     for _ in 0..connections {
-        match serve_one(alloc, &mut buffers, desk, host, clock, keeper, doors, steps) {
+        match serve_one(
+            alloc,
+            &mut buffers,
+            handler,
+            host,
+            clock,
+            keeper,
+            doors,
+            steps,
+        ) {
             Ok(ending) => {
                 if ending == Ending::Memory {
                     return MEMORY;
@@ -115,12 +126,12 @@ fn serve_all<C: Clock, K: Keeper, D: Doors, L: Ledger>(
 fn serve_one<C: Clock, K: Keeper, D: Doors, L: Ledger>(
     alloc: Global,
     buffers: &mut Buffers,
-    desk: &Desk,
+    handler: &RequestHandler,
     host: &mut HostWithScratch,
     clock: &mut C,
     keeper: &mut K,
     doors: &mut D,
-    steps: &mut Steps<L>,
+    steps: &mut ReadCount<L>,
 ) -> Result<Ending, Failed>
     requires { IfSome (D.coming doors.old) (λ all. 0 < length all) }
     ensures served { LeadsAll K.tells K.serves K.holds K.passes
@@ -149,7 +160,7 @@ fn serve_one<C: Clock, K: Keeper, D: Doors, L: Ledger>(
     let ending = talk(
         alloc,
         buffers,
-        desk,
+        handler,
         host,
         keeper,
         &mut source,

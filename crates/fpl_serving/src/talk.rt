@@ -3,19 +3,19 @@ ghost use Rattle.std.specs.Prelude.{◌≡◌, IfSome};
 ghost use Rattle.fpl_base.specs.Causes.{Rose};
 ghost use Rattle.fpl_session.specs.Replies.{Speaks};
 ghost use Rattle.fpl_session.specs.Sessions.{EndsAs, SessionOf};
-ghost use Rattle.fpl_desk.specs.Kept.{LeadsAll, kept_as};
-ghost use Rattle.fpl_desk.specs.Looks.{CountsLooks, SessionReadsFew, counted_as};
-ghost use Rattle.fpl_replies.specs.Replying.{IsReplyUntil};
-ghost use Rattle.fpl_replies.specs.Whole.{IsKeptReply};
+ghost use Rattle.request_handler.specs.Kept.{LeadsAll, kept_as};
+ghost use Rattle.request_handler.specs.Looks.{CountsLooks, SessionReadsFew, counted_as};
+ghost use Rattle.reply_laws.specs.Replying.{IsReplyUntil};
+ghost use Rattle.reply_laws.specs.Whole.{IsKeptReply};
 ghost use Rattle.fpl_serving.specs.Pipe.{IsSession};
 ghost use Rattle.fpl_serving.specs.Talk.{TalksCount, TalksLead};
 
-use fpl_base::{Clock, Keeper, Sink, Source, Steps};
-use fpl_desk::{
-    ByRecords, ByRows, ByStops, Desk, HostWithScratch, ReadsFirst, RowsFirst, StopsFirst,
+use fpl_base::{Clock, Keeper, ReadCount, Sink, Source};
+use fpl_session::{Buffers, Ending, session, sessions_lift, sessions_split};
+use request_handler::{
+    ByRecords, ByRows, ByStops, HostWithScratch, ReadsFirst, RequestHandler, RowsFirst, StopsFirst,
     looks_read_few, sessions_answer,
 };
-use fpl_session::{Buffers, Ending, session, sessions_lift, sessions_split};
 use std::alloc::Global;
 use std::sync::ledger::Ledger;
 
@@ -24,13 +24,13 @@ use std::sync::ledger::Ledger;
 pub fn talk<S: Source, W: Sink, C: Clock, K: Keeper, L: Ledger>(
     alloc: Global,
     buffers: &mut Buffers,
-    desk: &Desk,
+    handler: &RequestHandler,
     host: &mut HostWithScratch,
     keeper: &mut K,
     source: &mut S,
     sink: &mut W,
     clock: &mut C,
-    steps: &mut Steps<L>,
+    steps: &mut ReadCount<L>,
 ) -> Ending
     ensures leads { LeadsAll K.tells K.serves K.holds K.passes
         (kept_as host.old.host (C.left clock.old) (K.faults keeper.old) keeper.old)
@@ -60,7 +60,7 @@ pub fn talk<S: Source, W: Sink, C: Clock, K: Keeper, L: Ledger>(
     talks_lead::<K>();
     talks_count::<K>();
     session(
-        alloc, buffers, desk, host, keeper, source, sink, clock, steps,
+        alloc, buffers, handler, host, keeper, source, sink, clock, steps,
     )
 }
 

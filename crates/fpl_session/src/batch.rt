@@ -7,7 +7,7 @@ ghost use Rattle.fpl_session.specs.Turns.{Batched, Turned};
 use crate::places::Places;
 use crate::service::Service;
 use crate::turn::{Turn, take_turn};
-use fpl_base::{Clock, Failed, Keeper, Sink, Steps};
+use fpl_base::{Clock, Failed, Keeper, ReadCount, Sink};
 use std::alloc::Global;
 use std::sync::ledger::Ledger;
 
@@ -19,7 +19,7 @@ fn take_turns<R: Service<H, K, C, L>, H, K: Keeper, C: Clock, L: Ledger>(
     host: &mut H,
     keeper: &mut K,
     clock: &mut C,
-    steps: &mut Steps<L>,
+    steps: &mut ReadCount<L>,
 ) -> Turn
     requires empty { places.old.outbox ≡ [] }
     requires ready { R.ready service.now (host.old, keeper.old, clock.old, steps.old) }
@@ -51,7 +51,7 @@ pub fn take_batch<R: Service<H, K, C, L>, H, K: Keeper, C: Clock, L: Ledger, W: 
     host: &mut H,
     keeper: &mut K,
     clock: &mut C,
-    steps: &mut Steps<L>,
+    steps: &mut ReadCount<L>,
     out: &mut W,
 ) -> Result<Turn, Failed>
     requires empty { places.old.outbox ≡ [] }

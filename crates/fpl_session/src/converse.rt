@@ -9,7 +9,7 @@ use crate::ending::Ending;
 use crate::exchange::exchange;
 use crate::places::Places;
 use crate::service::Service;
-use fpl_base::{Clock, Keeper, Sink, Source, Steps};
+use fpl_base::{Clock, Keeper, ReadCount, Sink, Source};
 use std::alloc::Global;
 use std::sync::ledger::Ledger;
 
@@ -27,7 +27,7 @@ pub fn converse<R: Service<H, K, C, L>, H, K: Keeper, S: Source, W: Sink, C: Clo
     src: &mut S,
     out: &mut W,
     clock: &mut C,
-    steps: &mut Steps<L>,
+    steps: &mut ReadCount<L>,
 ) -> Ending
     requires room { length buffer.old ≡ 65536 }
     requires empty { places.old.outbox ≡ [] }

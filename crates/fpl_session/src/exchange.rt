@@ -10,7 +10,7 @@ use crate::ending::Ending;
 use crate::piece::serve_piece;
 use crate::places::Places;
 use crate::service::Service;
-use fpl_base::{Clock, Failed, Keeper, Sink, Source, Steps};
+use fpl_base::{Clock, Failed, Keeper, ReadCount, Sink, Source};
 use fpl_http::Decoder;
 use std::alloc::Global;
 use std::sync::ledger::Ledger;
@@ -56,7 +56,7 @@ pub fn exchange<R: Service<H, K, C, L>, H, K: Keeper, S: Source, W: Sink, C: Clo
     src: &mut S,
     out: &mut W,
     clock: &mut C,
-    steps: &mut Steps<L>,
+    steps: &mut ReadCount<L>,
     most: u64,
 ) -> Result<u64, Ending>
     requires most { 0 < most }

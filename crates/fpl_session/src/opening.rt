@@ -8,7 +8,7 @@ use crate::converse::converse;
 use crate::ending::Ending;
 use crate::places::Buffers;
 use crate::service::Service;
-use fpl_base::{Clock, Keeper, Memory, Sink, Source, Steps};
+use fpl_base::{Clock, Keeper, Memory, ReadCount, Sink, Source};
 use fpl_http::two_readings_are_one;
 use std::alloc::Global;
 use std::sync::ledger::Ledger;
@@ -27,7 +27,7 @@ pub fn session<R: Service<H, K, C, L>, H, K: Keeper, S: Source, W: Sink, C: Cloc
     src: &mut S,
     out: &mut W,
     clock: &mut C,
-    steps: &mut Steps<L>,
+    steps: &mut ReadCount<L>,
 ) -> Ending
     requires { R.ready service.now (host.old, keeper.old, clock.old, steps.old) }
     ensures ready { R.ready service.now (host.new, keeper.new, clock.new, steps.new) }
@@ -70,7 +70,7 @@ fn open_session<R: Service<H, K, C, L>, H, K: Keeper, S: Source, W: Sink, C: Clo
     src: &mut S,
     out: &mut W,
     clock: &mut C,
-    steps: &mut Steps<L>,
+    steps: &mut ReadCount<L>,
 ) -> Ending
     requires { R.ready service.now (host.old, keeper.old, clock.old, steps.old) }
     ensures ready { R.ready service.now (host.new, keeper.new, clock.new, steps.new) }

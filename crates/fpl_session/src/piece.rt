@@ -10,7 +10,7 @@ use crate::ending::Ending;
 use crate::places::Places;
 use crate::service::Service;
 use crate::turn::Turn;
-use fpl_base::{Clock, Keeper, Sink, Steps};
+use fpl_base::{Clock, Keeper, ReadCount, Sink};
 use std::alloc::Global;
 use std::sync::ledger::Ledger;
 
@@ -22,7 +22,7 @@ fn answer_all<R: Service<H, K, C, L>, H, K: Keeper, C: Clock, L: Ledger, W: Sink
     host: &mut H,
     keeper: &mut K,
     clock: &mut C,
-    steps: &mut Steps<L>,
+    steps: &mut ReadCount<L>,
     out: &mut W,
 ) -> Option<Ending>
     requires empty { places.old.outbox ≡ [] }
@@ -56,7 +56,7 @@ pub fn serve_piece<R: Service<H, K, C, L>, H, K: Keeper, C: Clock, L: Ledger, W:
     host: &mut H,
     keeper: &mut K,
     clock: &mut C,
-    steps: &mut Steps<L>,
+    steps: &mut ReadCount<L>,
     out: &mut W,
     piece: &[u8],
 ) -> Option<Ending>

@@ -5,7 +5,7 @@ ghost use Rattle.fpl_http.specs.Seen.{request_seen};
 ghost use Rattle.fpl_http.specs.Stream.{Request};
 ghost use Rattle.fpl_session.specs.Replies.{answer_in};
 
-use fpl_base::{Clock, Keeper, Memory, Steps};
+use fpl_base::{Clock, Keeper, Memory, ReadCount};
 use fpl_http::{Message, Reply};
 use std::alloc::Global;
 use std::sync::ledger::Ledger;
@@ -32,7 +32,7 @@ pub trait Service<H, K: Keeper, C: Clock, L: Ledger> {
         host: &mut H,
         keeper: &mut K,
         clock: &mut C,
-        steps: &mut Steps<L>,
+        steps: &mut ReadCount<L>,
         message: &Message<'_>,
     ) -> Result<Reply, Memory>
         requires { ready self.now (host.old, keeper.old, clock.old, steps.old) }

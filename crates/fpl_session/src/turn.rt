@@ -8,7 +8,7 @@ ghost use Rattle.fpl_session.specs.Turns.{Turned};
 use crate::outbox::Outbox;
 use crate::places::Places;
 use crate::service::Service;
-use fpl_base::{Clock, Keeper, Memory, Steps};
+use fpl_base::{Clock, Keeper, Memory, ReadCount};
 use fpl_http::{Decoder, Message, Next};
 use std::alloc::Global;
 use std::sync::ledger::Ledger;
@@ -35,7 +35,7 @@ fn answer_message<R: Service<H, K, C, L>, H, K: Keeper, C: Clock, L: Ledger>(
     host: &mut H,
     keeper: &mut K,
     clock: &mut C,
-    steps: &mut Steps<L>,
+    steps: &mut ReadCount<L>,
     outbox: &mut Outbox,
     message: &Message<'_>,
 )
@@ -61,7 +61,7 @@ fn answer_found<R: Service<H, K, C, L>, H, K: Keeper, C: Clock, L: Ledger>(
     host: &mut H,
     keeper: &mut K,
     clock: &mut C,
-    steps: &mut Steps<L>,
+    steps: &mut ReadCount<L>,
     outbox: &mut Outbox,
 ) -> bool
     requires found { IsSome decoder.now.found }
@@ -86,7 +86,7 @@ pub fn take_turn<R: Service<H, K, C, L>, H, K: Keeper, C: Clock, L: Ledger>(
     host: &mut H,
     keeper: &mut K,
     clock: &mut C,
-    steps: &mut Steps<L>,
+    steps: &mut ReadCount<L>,
 ) -> Turn
     requires room { length places.old.outbox ≤ 262144 }
     requires ready { R.ready service.now (host.old, keeper.old, clock.old, steps.old) }

@@ -1,7 +1,7 @@
 use fpl_base::{Doors, Sink, Source};
-use fpl_doors::{FaultyDoors, MemoryDoors};
-use outside_forms::Plan;
+use listener::{FaultyDoors, MemoryDoors};
 use std::alloc::Global;
+use test_doubles::Plan;
 
 // Opens the one connection of doors whose call of this number fails, answers what it sends and a mark, and gives it back: how
 // many bytes its sink, which has room for three, was given back with, or none where the doors failed.

@@ -1,14 +1,14 @@
 // A keeper that fails on the way. Of the store in a file, and of faults of the input, the output and the doors, `tests/` tells.
 ghost use Rattle.std.specs.Prelude.{◌≡◌, ◌<◌};
 
-use fpl_base::{Keeper, Key, Memory, Moment, Sink, Source, Steps};
-use fpl_desk::opened;
+use fpl_base::{Keeper, Key, Memory, Moment, ReadCount, Sink, Source};
 use fpl_session::{Buffers, Ending, session};
-use outside_forms::{FaultyKeeper, FaultySink, MemoryClock, MemoryKeeper, MemorySource, Plan};
+use request_handler::opened;
 use season_opening::OpenFault;
 use std::alloc::Global;
 use std::marker::Brand;
 use std::sync::ledger::{Blank, Ledger};
+use test_doubles::{FaultyKeeper, FaultySink, MemoryClock, MemoryKeeper, MemorySource, Plan};
 
 // How a session for the operator with this key ends.
 fn ran<S: Source, W: Sink, K: Keeper, L: Ledger>(
@@ -23,13 +23,13 @@ fn ran<S: Source, W: Sink, K: Keeper, L: Ledger>(
     requires parts { blank.parts ≡ L.parts }
     requires some { 0 < blank.parts }
 {
-    let mut steps: Steps<L> = Steps::open(blank);
+    let mut steps: ReadCount<L> = ReadCount::open(blank);
     let mut clock = MemoryClock::new(Moment::new(0).unwrap(), &[]);
     match opened(alloc, key, keeper) {
-        Ok((desk, mut host)) => Ok(session(
+        Ok((handler, mut host)) => Ok(session(
             alloc,
             &mut Buffers::new(),
-            &desk,
+            &handler,
             &mut host,
             keeper,
             input,

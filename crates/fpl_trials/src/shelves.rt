@@ -1,7 +1,7 @@
 use fpl_base::Shelf;
-use fpl_shelves::{FaultyShelf, MemoryShelf};
-use outside_forms::Plan;
+use season_folder::{FaultyShelf, MemoryShelf};
 use std::alloc::Global;
+use test_doubles::Plan;
 
 // How many bytes a shelf of two files gives of a name: none at a fault.
 fn known(alloc: Global, name: &str) -> Option<usize> {

@@ -19,7 +19,7 @@ use crate::ranks::race;
 use crate::rows::{played, row_of};
 use crate::shapes::Race;
 use crate::writing::{write_chip_row, write_empty, write_row};
-use fpl_base::{EntryId, Gw, Memory, Steps};
+use fpl_base::{EntryId, Gw, Memory, ReadCount};
 use json::Writer;
 use json_members::{write_count, write_no_list};
 use season_entries::entries_are_issued;
@@ -34,7 +34,7 @@ pub fn write_history<L: Ledger>(
     seen: &Seen<L>,
     cells: &SeenCells<L>,
     entry: u32,
-    steps: &mut Steps<L>,
+    steps: &mut ReadCount<L>,
 ) -> Result<bool, Memory>
     requires kept { IsKept seen.now cells.now }
     ensures value { ShowsEach seen.now (λ entries. history_window seen.now.facts entries entry) result out.old out.new }
@@ -54,7 +54,7 @@ fn write_issued<L: Ledger>(
     seen: &Seen<L>,
     cells: &SeenCells<L>,
     entry: EntryId,
-    steps: &mut Steps<L>,
+    steps: &mut ReadCount<L>,
 ) -> Result<bool, Memory>
     requires kept { IsKept seen.now cells.now }
     ensures value { OfEachSeen seen.now
@@ -78,7 +78,7 @@ fn write_registered<L: Ledger>(
     cells: &SeenCells<L>,
     entry: EntryId,
     first: Gw,
-    steps: &mut Steps<L>,
+    steps: &mut ReadCount<L>,
 ) -> Result<bool, Memory>
     requires kept { IsKept seen.now cells.now }
     ensures value { OfEachSeen seen.now
@@ -99,7 +99,7 @@ fn write_gameweeks<L: Ledger>(
     cells: &SeenCells<L>,
     entry: EntryId,
     first: Gw,
-    steps: &mut Steps<L>,
+    steps: &mut ReadCount<L>,
 ) -> Result<(), AllocError>
     requires kept { IsKept seen.now cells.now }
     ensures value { OfEachSeen seen.now
@@ -126,7 +126,7 @@ fn write_chips<L: Ledger>(
     seen: &Seen<L>,
     entry: EntryId,
     first: Gw,
-    steps: &mut Steps<L>,
+    steps: &mut ReadCount<L>,
 ) -> Result<(), AllocError>
     ensures value { OfEachHistory seen.now.facts seen.now.managers entry
         (λ h. start_of h ≡ Some first
@@ -146,7 +146,7 @@ fn write_if_played<L: Ledger>(
     seen: &Seen<L>,
     entry: EntryId,
     gameweek: Gw,
-    steps: &mut Steps<L>,
+    steps: &mut ReadCount<L>,
 ) -> Result<(), AllocError>
     ensures value { OfEachHistory seen.now.facts seen.now.managers entry
         (λ h. is_begun h gameweek ≡ true → Appends result out.old out.new
@@ -166,7 +166,7 @@ fn write_current<L: Ledger>(
     cells: &SeenCells<L>,
     entry: EntryId,
     first: Gw,
-    steps: &mut Steps<L>,
+    steps: &mut ReadCount<L>,
 ) -> Result<(), AllocError>
     requires kept { IsKept seen.now cells.now }
     ensures value { OfEachSeen seen.now
@@ -192,7 +192,7 @@ fn write_rows<L: Ledger>(
     entry: EntryId,
     first: Gw,
     last: Gw,
-    steps: &mut Steps<L>,
+    steps: &mut ReadCount<L>,
 ) -> Result<(), AllocError>
     requires kept { IsKept seen.now cells.now }
     requires last { last ≡ seen.now.facts.calendar.locked }
@@ -229,7 +229,7 @@ fn write_row_at<L: Ledger>(
     entry: EntryId,
     gameweek: Gw,
     race: &Race,
-    steps: &mut Steps<L>,
+    steps: &mut ReadCount<L>,
 ) -> Result<(), AllocError>
     requires kept { IsKept seen.now cells.now }
     requires locked { gameweek ≤ seen.now.facts.calendar.locked }

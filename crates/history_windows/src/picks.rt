@@ -11,7 +11,7 @@ use crate::ranks::race;
 use crate::rows::{played, row_of};
 use crate::shapes::Played;
 use crate::writing::write_gameweek;
-use fpl_base::{EntryId, Gw, Memory, Steps};
+use fpl_base::{EntryId, Gw, Memory, ReadCount};
 use json::Writer;
 use season_entries::entries_are_issued;
 use season_views::{Seen, SeenCells, issued, locked_gameweek};
@@ -26,7 +26,7 @@ pub fn write_picks<L: Ledger>(
     cells: &SeenCells<L>,
     entry: u32,
     gameweek: u32,
-    steps: &mut Steps<L>,
+    steps: &mut ReadCount<L>,
 ) -> Result<bool, Memory>
     requires kept { IsKept seen.now cells.now }
     ensures value { ShowsEach seen.now
@@ -49,7 +49,7 @@ fn write_issued<L: Ledger>(
     cells: &SeenCells<L>,
     entry: EntryId,
     gameweek: u32,
-    steps: &mut Steps<L>,
+    steps: &mut ReadCount<L>,
 ) -> Result<bool, Memory>
     requires kept { IsKept seen.now cells.now }
     ensures value { OfEachSeen seen.now
@@ -71,7 +71,7 @@ fn write_locked<L: Ledger>(
     cells: &SeenCells<L>,
     entry: EntryId,
     gameweek: Gw,
-    steps: &mut Steps<L>,
+    steps: &mut ReadCount<L>,
 ) -> Result<bool, Memory>
     requires kept { IsKept seen.now cells.now }
     requires locked { gameweek ≤ seen.now.facts.calendar.locked }
@@ -97,7 +97,7 @@ fn write_played<L: Ledger>(
     entry: EntryId,
     gameweek: Gw,
     played: &Played,
-    steps: &mut Steps<L>,
+    steps: &mut ReadCount<L>,
 ) -> Result<bool, Memory>
     requires kept { IsKept seen.now cells.now }
     requires locked { gameweek ≤ seen.now.facts.calendar.locked }

@@ -13,7 +13,7 @@ ghost use Rattle.season_book.specs.EntryTotals.{total_through};
 ghost use Rattle.history_windows.specs.Races.{AreRanks, IsRace};
 
 use crate::shapes::{Course, Race};
-use fpl_base::{EntryId, Gw, Steps};
+use fpl_base::{EntryId, Gw, ReadCount};
 use season_ledger::rows_tell;
 use season_views::{Seen, SeenCells, score_held};
 use std::sync::ledger::Ledger;
@@ -25,7 +25,7 @@ pub fn race<L: Ledger>(
     cells: &SeenCells<L>,
     entry: EntryId,
     through: Gw,
-    steps: &mut Steps<L>,
+    steps: &mut ReadCount<L>,
 ) -> Race
     requires kept { IsKept seen.now cells.now }
     requires locked { through ≤ seen.now.facts.calendar.locked }
@@ -48,7 +48,7 @@ fn course<L: Ledger>(
     cells: &SeenCells<L>,
     entry: EntryId,
     through: Gw,
-    steps: &mut Steps<L>,
+    steps: &mut ReadCount<L>,
 ) -> Course
     requires kept { IsKept seen.now cells.now }
     requires locked { through ≤ seen.now.facts.calendar.locked }
@@ -76,7 +76,7 @@ fn ranks<L: Ledger>(
     cells: &SeenCells<L>,
     course: &Course,
     through: Gw,
-    steps: &mut Steps<L>,
+    steps: &mut ReadCount<L>,
 ) -> [u64; 38]
     requires kept { IsKept seen.now cells.now }
     requires locked { through ≤ seen.now.facts.calendar.locked }
@@ -103,7 +103,7 @@ fn add_ahead<L: Ledger>(
     other: EntryId,
     course: &Course,
     through: Gw,
-    steps: &mut Steps<L>,
+    steps: &mut ReadCount<L>,
 )
     requires kept { IsKept seen.now cells.now }
     requires locked { through ≤ seen.now.facts.calendar.locked }
@@ -130,7 +130,7 @@ fn ahead<L: Ledger>(
     passed: u8,
     total: i32,
     course: &Course,
-    steps: &mut Steps<L>,
+    steps: &mut ReadCount<L>,
 ) -> u64
     requires { passed < 38 }
     ensures value { OfEachHistory seen.now.facts seen.now.managers other
@@ -157,7 +157,7 @@ fn is_better<L: Ledger>(
     passed: u8,
     total: i32,
     course: &Course,
-    steps: &mut Steps<L>,
+    steps: &mut ReadCount<L>,
 ) -> bool
     requires { passed < 38 }
     ensures value { OfEachHistory seen.now.facts seen.now.managers other
@@ -192,7 +192,7 @@ fn total_with<L: Ledger>(
     entry: EntryId,
     passed: u8,
     total: i32,
-    steps: &mut Steps<L>,
+    steps: &mut ReadCount<L>,
 ) -> i32
     requires kept { IsKept seen.now cells.now }
     requires locked { passed < seen.now.facts.calendar.locked }
@@ -213,7 +213,7 @@ fn net_in<L: Ledger>(
     cells: &SeenCells<L>,
     entry: EntryId,
     gameweek: Gw,
-    steps: &mut Steps<L>,
+    steps: &mut ReadCount<L>,
 ) -> i32
     requires kept { IsKept seen.now cells.now }
     requires locked { gameweek ≤ seen.now.facts.calendar.locked }

@@ -14,7 +14,7 @@ ghost use Rattle.history_windows.specs.Races.{IsRace};
 ghost use Rattle.history_windows.specs.Told.{figures_in, played_by, told_row};
 
 use crate::shapes::{GameweekRow, Played, Race, does_count};
-use fpl_base::{EntryId, Gw, Steps};
+use fpl_base::{EntryId, Gw, ReadCount};
 use season_ledger::rows_tell;
 use season_views::{Seen, SeenCells, gameweek_held, score_held};
 use std::sync::ledger::Ledger;
@@ -25,7 +25,7 @@ pub fn played<L: Ledger>(
     cells: &SeenCells<L>,
     entry: EntryId,
     gameweek: Gw,
-    steps: &mut Steps<L>,
+    steps: &mut ReadCount<L>,
 ) -> Option<Played>
     requires kept { IsKept seen.now cells.now }
     requires locked { gameweek ≤ seen.now.facts.calendar.locked }
@@ -49,7 +49,7 @@ pub fn row_of<L: Ledger>(
     gameweek: Gw,
     played: &Played,
     race: &Race,
-    steps: &mut Steps<L>,
+    steps: &mut ReadCount<L>,
 ) -> GameweekRow
     requires kept { IsKept seen.now cells.now }
     requires locked { gameweek ≤ seen.now.facts.calendar.locked }
@@ -81,7 +81,7 @@ fn transfers_in<L: Ledger>(
     seen: &Seen<L>,
     entry: EntryId,
     gameweek: Gw,
-    steps: &mut Steps<L>,
+    steps: &mut ReadCount<L>,
 ) -> u16
     ensures value { OfEachHistory seen.now.facts seen.now.managers entry
         (λ h. result ≡ transfers_in h gameweek) }
@@ -111,7 +111,7 @@ fn bench_points<L: Ledger>(
     cells: &SeenCells<L>,
     gameweek: Gw,
     played: &Played,
-    steps: &mut Steps<L>,
+    steps: &mut ReadCount<L>,
 ) -> i32
     requires kept { IsKept seen.now cells.now }
     requires locked { gameweek ≤ seen.now.facts.calendar.locked }
@@ -134,7 +134,7 @@ fn bench_at<L: Ledger>(
     gameweek: Gw,
     played: &Played,
     slot: u8,
-    steps: &mut Steps<L>,
+    steps: &mut ReadCount<L>,
 ) -> i32
     requires kept { IsKept seen.now cells.now }
     requires locked { gameweek ≤ seen.now.facts.calendar.locked }
@@ -159,7 +159,7 @@ fn slot_points<L: Ledger>(
     gameweek: Gw,
     played: &Played,
     slot: u8,
-    steps: &mut Steps<L>,
+    steps: &mut ReadCount<L>,
 ) -> i32
     requires kept { IsKept seen.now cells.now }
     requires locked { gameweek ≤ seen.now.facts.calendar.locked }

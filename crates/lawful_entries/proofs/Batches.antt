@@ -29,7 +29,7 @@ use Rattle.season_book.specs.Book.{Facts}
 use Rattle.season_book.specs.Commands.{has_player}
 use Rattle.season_ledger.proofs.Counts.{swaps_batch}
 use Rattle.season_ledger.proofs.Kept.{chip_here}
-use Rattle.season_books.proofs.EntriesJudged.{none_mapped}
+use Rattle.store_validation.proofs.EntriesJudged.{none_mapped}
 use Rattle.lawful_entries.specs.Histories.{IsLawfulDeed, IsLawfulHistory, IsLawfulSwap}
 use Rattle.lawful_entries.specs.Keeping.{AreLawfulPlayers}
 use Rattle.lawful_entries.proofs.Grows.{MayGoOn, may_go_on, starts_same}

@@ -13,7 +13,7 @@ use Rattle.rule_book.specs.Refusals.{unless}
 use Rattle.season_book.specs.Book.{Facts}
 use Rattle.season_ledger.proofs.Counts.{swaps_deed}
 use Rattle.season_ledger.proofs.Kept.{chip_here}
-use Rattle.season_books.proofs.EntriesJudged.{none_mapped}
+use Rattle.store_validation.proofs.EntriesJudged.{none_mapped}
 use Rattle.lawful_entries.specs.Histories.{IsLawfulHistory}
 use Rattle.lawful_entries.proofs.Grows.{MayGoOn, may_go_on, starts_same}
 use Rattle.lawful_entries.proofs.Unbroken.{holds, none_first}

@@ -22,7 +22,7 @@ use Rattle.rule_book.specs.Refusals.{unless}
 use Rattle.rule_book.specs.Repeats.{first_repeat}
 use Rattle.rule_book.specs.Squads.{has_squad_shape, players_of, positions_of, squad_refusal}
 use Rattle.season_book.specs.Book.{Facts}
-use Rattle.season_books.proofs.Numbered.{some_from}
+use Rattle.store_validation.proofs.Numbered.{some_from}
 use Rattle.season_ledger.proofs.Counts.{swaps_deed}
 use Rattle.season_ledger.proofs.Kept.{chip_here}
 use Rattle.lawful_entries.specs.Histories.{AreLinedUp, AreThere, IsLawfulFirst, positions}

@@ -31,7 +31,7 @@ use Rattle.season_ledger.proofs.Kept.{chip_here}
 use Rattle.season_ledger.proofs.Ledger.{times_without, without}
 use Rattle.season_ledger.proofs.Lists.{map_map}
 use Rattle.season_ledger.proofs.Pigeons.{pigeons}
-use Rattle.season_books.proofs.EntriesJudged.{none_mapped}
+use Rattle.store_validation.proofs.EntriesJudged.{none_mapped}
 use Rattle.lawful_entries.specs.Histories.{AreLinedUp, AreThere, IsLawfulHistory, positions}
 use Rattle.lawful_entries.specs.Keeping.{TeamsHaveShape}
 use Rattle.lawful_entries.proofs.Batches.{none_found}

@@ -19,7 +19,7 @@ use Rattle.rule_book.specs.Prices.{selling_price}
 use Rattle.rule_book.specs.Squads.{has_squad_shape}
 use Rattle.season_book.specs.Book.{Facts}
 use Rattle.season_book.specs.Commands.{has_player}
-use Rattle.season_books.proofs.Numbered.{some_from}
+use Rattle.store_validation.proofs.Numbered.{some_from}
 use Rattle.lawful_entries.specs.Keeping.{AreLawfulPlayers}
 
 pub all_of : {A : Type 0} (p : A → Bool) (xs : List A) → list_all p xs ≡ true → Each (λ x. p x ≡ true) xs

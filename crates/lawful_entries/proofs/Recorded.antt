@@ -24,8 +24,8 @@ use Rattle.season_records.specs.Records as records
 use Rattle.season_records.specs.Touched.{gameweek_of}
 use Rattle.stored_records.specs.EntryTold.{chip_in, chip_told, first_in, first_told, is_between_ends, is_first_of, is_in_time, team_in, team_told}
 use Rattle.stored_records.specs.Stored.{deadlines_in, is_there, locked_in, split_in, split_told, told}
-use Rattle.season_books.specs.EntryRules.{entry_breaks}
-use Rattle.season_books.specs.TeamRules.{is_playable, is_played_again, is_too_early}
+use Rattle.store_validation.specs.EntryRules.{entry_breaks}
+use Rattle.store_validation.specs.TeamRules.{is_playable, is_played_again, is_too_early}
 use Rattle.lawful_entries.specs.Recorded.{FirstTeamsAreTold, IsRecorded, TeamsAreInSeason}
 
 -- what is so of each event's gameweek is so of each one in which something was done

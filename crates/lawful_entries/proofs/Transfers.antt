@@ -18,7 +18,7 @@ use Rattle.record_fields.specs.Ranges.{is_between}
 use Rattle.season_records.specs.Records.{transfer_item}
 use Rattle.season_records.proofs.Finds.{at_number}
 use Rattle.stored_records.specs.EntryTold.{chip_told, is_first_of, sale_in, sale_told}
-use Rattle.season_books.specs.TransferRules.{is_lawful_sale, is_next_number, is_priced_sale}
+use Rattle.store_validation.specs.TransferRules.{is_lawful_sale, is_next_number, is_priced_sale}
 use Rattle.lawful_entries.specs.Histories.{IsLawfulDeed, IsLawfulSwap}
 use Rattle.lawful_entries.specs.Recorded.{IsRecorded, TransfersAreLawful}
 use Rattle.lawful_entries.proofs.Recorded.{chips, first_of, in_time, player_there, sale_row, team_there}

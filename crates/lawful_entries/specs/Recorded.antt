@@ -11,8 +11,8 @@ use Rattle.season_records.specs.Records as records
 use Rattle.season_records.specs.Touched.{gameweek_of}
 use Rattle.stored_records.specs.EntryTold.{first_told, is_in_time, sale_told}
 use Rattle.stored_records.specs.Stored as stored
-use Rattle.season_books.specs.EntryRules.{entry_breaks, transfer_breaks}
-use Rattle.season_books.specs.TeamRules.{is_playable}
+use Rattle.store_validation.specs.EntryRules.{entry_breaks, transfer_breaks}
+use Rattle.store_validation.specs.TeamRules.{is_playable}
 use Rattle.lawful_entries.specs.Histories.{IsLawfulHistory}
 
 -- records tell what a book tells, and in its season an entry of this number has a lawful history, of which nothing is

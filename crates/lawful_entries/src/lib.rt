@@ -1,4 +1,4 @@
-//! Lawful histories of entries: laws on the definitions of `season_book` and `season_books`. Whatever is done, the
+//! Lawful histories of entries: laws on the definitions of `season_book` and `store_validation`. Whatever is done, the
 //! history of each entry stays lawful, and records that tell it break no rule on first teams, transfers, time and chips.
 #![tactic(auto)]
 

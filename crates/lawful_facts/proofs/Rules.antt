@@ -29,7 +29,7 @@ use Rattle.season_records.specs.Records.{fixture_item, player_item, season_item,
 use Rattle.season_records.proofs.Determined.{found_id}
 use Rattle.stored_records.specs.SeasonRules.{calendar_told, is_crowded, is_full, misses, misses_place, place_in, place_told, standing_before, stands_in as row_stands}
 use Rattle.stored_records.specs.Stored.{Rows, deadlines_in, is_there, is_within, locked_in, split_in, told as told_of}
-use Rattle.season_books.specs.Lawful.{breaks, is_in_range, rules_broken}
+use Rattle.store_validation.specs.Lawful.{breaks, is_in_range, rules_broken}
 use Rattle.lawful_facts.specs.Facts.{IsPlace}
 use Rattle.lawful_facts.specs.Rules.{AreOfLawful, FactsBreakNoRule}
 use Rattle.lawful_facts.specs.Telling.{HaveKeys, IsFamily}

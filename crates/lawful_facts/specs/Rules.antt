@@ -8,7 +8,7 @@ use Rattle.record_codec.specs.declared.slot.Slot.TheVariants as slot
 use Rattle.season_records.specs.Records.{records, told}
 use Rattle.season_records.specs.Told.{TellsItems}
 use Rattle.stored_records.specs.Stored.{Rows}
-use Rattle.season_books.specs.Lawful.{breaks, is_in_range}
+use Rattle.store_validation.specs.Lawful.{breaks, is_in_range}
 use Rattle.lawful_facts.specs.Facts.{AreLawful}
 
 -- the slots that tell of the facts

@@ -1,5 +1,5 @@
 //! The facts of a season's book are lawful, and so are their records: laws on the definitions of `season_book` and
-//! `season_books`. What the records of a book tell is what the book tells, few of them stand before a limit, facts stay
+//! `store_validation`. What the records of a book tell is what the book tells, few of them stand before a limit, facts stay
 //! lawful behind each command and moment, and records of lawful facts break no rule.
 #![tactic(auto)]
 

@@ -20,7 +20,7 @@ use Rattle.season_records.specs.Told.{TellsItems}
 use Rattle.stored_records.specs.EntryTold.{first_in, first_told}
 use Rattle.stored_records.specs.SeasonRules.{is_full, misses}
 use Rattle.stored_records.specs.Stored.{Rows, deadlines_in, deadlines_told, has_gameweek, is_there, told as told_of}
-use Rattle.season_books.specs.LeagueRules.{has_gap, is_registered as is_told_registered, plays_from as plays_told}
+use Rattle.store_validation.specs.LeagueRules.{has_gap, is_registered as is_told_registered, plays_from as plays_told}
 use Rattle.lawful_facts.specs.Telling.{IsFamily}
 use Rattle.lawful_facts.proofs.Families.{none_is_full}
 use Rattle.lawful_facts.proofs.Telling.{records_are_there, records_are_told}

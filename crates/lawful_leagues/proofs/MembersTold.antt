@@ -24,7 +24,7 @@ use Rattle.season_records.proofs.Orders.{pairs_of}
 use Rattle.stored_records.specs.Stored.{Rows, is_member_of, is_there}
 use Rattle.stored_records.proofs.Found.{found_at}
 use Rattle.stored_records.proofs.Loops.{any_kept, any_mapped, any_same}
-use Rattle.season_books.specs.LeagueRules.{members_of}
+use Rattle.store_validation.specs.LeagueRules.{members_of}
 use Rattle.lawful_facts.proofs.Telling.{of_record, records_are_there}
 
 -- Members.

@@ -35,7 +35,7 @@ use Rattle.stored_records.specs.SeasonRules.{misses}
 use Rattle.stored_records.specs.Stored.{Rows, deadlines_told, has_gameweek, is_there, is_within}
 use Rattle.stored_records.proofs.Found.{found_at}
 use Rattle.stored_records.proofs.Loops.{count_up}
-use Rattle.season_books.specs.LeagueRules.{has_key, is_answer, is_drawn_wrong, is_league_full, is_registered as is_told_registered, plays_from as plays_told, kind_in, kind_told, leagues_before, members_of}
+use Rattle.store_validation.specs.LeagueRules.{has_key, is_answer, is_drawn_wrong, is_league_full, is_registered as is_told_registered, plays_from as plays_told, kind_in, kind_told, leagues_before, members_of}
 use Rattle.lawful_facts.proofs.Families.{cups_family, entries_family, leagues_family, members_family, none_is_full}
 use Rattle.lawful_facts.proofs.Telling.{of_record}
 use Rattle.lawful_leagues.specs.Leagues.{AreLawful, IsLawfulCup, IsLawfulLast, IsLawfulLeague, IsMade, gameweeks_of, plays_from}

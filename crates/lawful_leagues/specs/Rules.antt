@@ -10,9 +10,9 @@ use Rattle.season_records.specs.Records.{records, told}
 use Rattle.season_records.specs.Told.{IsInOrder, TellsItems}
 use Rattle.stored_records.specs.SeasonRules.{is_full}
 use Rattle.stored_records.specs.Stored.{Rows}
-use Rattle.season_books.specs.EntryRules.{entry_breaks}
-use Rattle.season_books.specs.Lawful.{breaks, is_in_range}
-use Rattle.season_books.specs.LeagueRules.{has_gap, has_other_key, issue_breaks}
+use Rattle.store_validation.specs.EntryRules.{entry_breaks}
+use Rattle.store_validation.specs.Lawful.{breaks, is_in_range}
+use Rattle.store_validation.specs.LeagueRules.{has_gap, has_other_key, issue_breaks}
 use Rattle.lawful_leagues.specs.Leagues.{AreLawful}
 
 -- an item is in range, and breaks no rule

@@ -1,4 +1,4 @@
-//! Laws on the definitions of `season_book` and `season_books`: every book of a run has entries of different keys, leagues,
+//! Laws on the definitions of `season_book` and `store_validation`: every book of a run has entries of different keys, leagues,
 //! cups and last commands that are lawful, and the records that tell of them break no rule.
 #![tactic(auto)]
 

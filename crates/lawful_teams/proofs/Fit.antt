@@ -12,7 +12,7 @@ use Rattle.rule_book.specs.PlayerFigures.{position_in}
 use Rattle.record_codec.specs.Commands.{differ}
 use Rattle.season_book.specs.Book.{Book, Facts}
 use Rattle.season_ledger.proofs.Lists.{map_map}
-use Rattle.season_books.specs.TeamRules.{has_players, is_distinct, is_fit, is_lined_up, is_priced, position_told, positions_told}
+use Rattle.store_validation.specs.TeamRules.{has_players, is_distinct, is_fit, is_lined_up, is_priced, position_told, positions_told}
 use Rattle.lawful_entries.specs.Histories.{AreThere, positions}
 use Rattle.lawful_teams.specs.Fifteens.{AreFit}
 use Rattle.lawful_teams.specs.TeamsTold.{Tells, TeamsToldAreFit}

@@ -25,8 +25,8 @@ use Rattle.season_records.specs.Records.{no_position, pick_told, player_item, te
 use Rattle.season_records.specs.Records as records
 use Rattle.stored_records.specs.EntryTold.{team_in, team_told}
 use Rattle.stored_records.specs.Stored.{is_there, told}
-use Rattle.season_books.specs.TeamRules.{position_told}
-use Rattle.season_books.specs.TeamRules as rules
+use Rattle.store_validation.specs.TeamRules.{position_told}
+use Rattle.store_validation.specs.TeamRules as rules
 use Rattle.lawful_teams.specs.TeamsTold.{RecordedTeam, Tells}
 
 -- the players of events in their order, each with the price at which he was bought

@@ -12,7 +12,7 @@ use Rattle.season_records.specs.Records.{told as told_of}
 use Rattle.stored_records.specs.EntryTold.{chip_in, team_told}
 use Rattle.stored_records.specs.Sequels.{goes_on}
 use Rattle.stored_records.specs.Stored.{told}
-use Rattle.season_books.specs.TeamRules.{is_fit}
+use Rattle.store_validation.specs.TeamRules.{is_fit}
 use Rattle.lawful_entries.specs.Histories.{IsLawfulHistory}
 
 -- A team as it is recorded. Its crate keeps the name of this type to itself, so it is named as that of which `chip_in`

@@ -1,4 +1,4 @@
-//! What the records of a lawful history's teams are: laws on the definitions of `rule_book` and `season_books`. Each
+//! What the records of a lawful history's teams are: laws on the definitions of `rule_book` and `store_validation`. Each
 //! recorded team is fit, and follows from the team before it.
 #![tactic(auto)]
 

@@ -16,9 +16,9 @@ use Rattle.rule_book.specs.LeagueCalls.{most_leagues}
 use Rattle.rule_book.specs.Leagues.{LeagueFacts}
 use Rattle.stored_records.specs.SeasonRules.{misses}
 use Rattle.stored_records.specs.Stored.{Rows, between, is_there, told}
-use Rattle.season_books.proofs.EntriesJudged.{and_then_some, nothing_broken}
-use Rattle.season_books.specs.Lawful.{judged}
-use Rattle.season_books.specs.LeagueRules.{member_breaks, members_of}
+use Rattle.store_validation.proofs.EntriesJudged.{and_then_some, nothing_broken}
+use Rattle.store_validation.specs.Lawful.{judged}
+use Rattle.store_validation.specs.LeagueRules.{member_breaks, members_of}
 use Rattle.season_competitions.specs.Leagues.{AreMembers}
 use Rattle.season_records.specs.Records.{league_item, member_told}
 use Rattle.leagues_restoring.specs.LeagueRestoring.{AreLeaguesRestored, GoesOn, IsLeagueRestored, LeaguesEnd}

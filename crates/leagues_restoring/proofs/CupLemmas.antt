@@ -27,8 +27,8 @@ use Rattle.rule_book.specs.Entries.{entry_in}
 use Rattle.rule_book.specs.declared.cup.Bracket.{Bracket}
 use Rattle.stored_records.specs.SeasonRules.{is_full}
 use Rattle.stored_records.specs.Stored.{Rows, between, deadlines_told, is_within, told}
-use Rattle.season_books.specs.Lawful.{judged, rules_broken}
-use Rattle.season_books.specs.LeagueRules.{cup_breaks, has_gap}
+use Rattle.store_validation.specs.Lawful.{judged, rules_broken}
+use Rattle.store_validation.specs.LeagueRules.{cup_breaks, has_gap}
 use Rattle.season_records.specs.Records.{cup_item}
 use Rattle.leagues_restoring.specs.CupRows.{IsCupRow, TellsCups}
 use Rattle.leagues_restoring.specs.Kinds.{is_of_kind}

@@ -9,7 +9,7 @@ use Rattle.record_codec.specs.Keys.{key_of}
 use Rattle.record_codec.specs.declared.slot.Slot.TheVariants as slot
 use Rattle.season_book.specs.Book.{Last}
 use Rattle.stored_records.specs.Stored.{Rows}
-use Rattle.season_books.specs.Lawful.{judged}
+use Rattle.store_validation.specs.Lawful.{judged}
 use Rattle.season_records.proofs.Orders.{none_sorted}
 use Rattle.leagues_restoring.specs.Kinds.{is_of_kind}
 use Rattle.leagues_restoring.specs.LastCommands.{AreLasts, IsLastRow}

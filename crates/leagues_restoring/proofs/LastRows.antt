@@ -22,8 +22,8 @@ use Rattle.season_book.specs.Book.{Last}
 use Rattle.season_book.specs.declared.command.Command.{Command}
 use Rattle.season_book.specs.declared.command.Command.TheVariants as command
 use Rattle.stored_records.specs.Stored.{Rows, is_there, told}
-use Rattle.season_books.specs.Lawful.{judged, rules_broken}
-use Rattle.season_books.specs.LeagueRules.{is_answer, last_breaks}
+use Rattle.store_validation.specs.Lawful.{judged, rules_broken}
+use Rattle.store_validation.specs.LeagueRules.{is_answer, last_breaks}
 use Rattle.season_records.proofs.Orders.{put_sorted}
 use Rattle.season_records.specs.Records.{last_item, made_id, status_of}
 use Rattle.season_records.specs.Told.{made_by}

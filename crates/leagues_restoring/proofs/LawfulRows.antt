@@ -17,7 +17,7 @@ use Rattle.record_codec.specs.declared.slot.Slot.{Slot}
 use Rattle.record_codec.specs.declared.slot.Slot.TheVariants as slot
 use Rattle.stored_records.specs.SeasonRules.{misses}
 use Rattle.stored_records.specs.Stored.{Rows, is_there}
-use Rattle.season_books.specs.Lawful.{breaks, first_not_spelled, first_wrong, is_in_range, is_spelled, is_wrong, judged, rules_broken}
+use Rattle.store_validation.specs.Lawful.{breaks, first_not_spelled, first_wrong, is_in_range, is_spelled, is_wrong, judged, rules_broken}
 
 -- Where none is found, none passes.
 

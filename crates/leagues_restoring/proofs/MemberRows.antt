@@ -18,8 +18,8 @@ use Rattle.record_codec.specs.declared.slot.Slot.{Slot}
 use Rattle.record_codec.specs.declared.slot.Slot.TheVariants as slot
 use Rattle.stored_records.specs.Stored.{Rows, is_member_of, is_there, told}
 use Rattle.stored_records.proofs.Loops.{any_mapped}
-use Rattle.season_books.specs.Lawful.{judged, rules_broken}
-use Rattle.season_books.specs.LeagueRules.{member_breaks, members_of}
+use Rattle.store_validation.specs.Lawful.{judged, rules_broken}
+use Rattle.store_validation.specs.LeagueRules.{member_breaks, members_of}
 use Rattle.leagues_restoring.proofs.KeptRows.{map_kept, rise_kept, row_found, row_kept}
 use Rattle.leagues_restoring.proofs.LawfulRows.{from_one, if_true, lawful_row, of_reader, some_there}
 use Rattle.leagues_restoring.proofs.Gapless.{place_in}

@@ -29,9 +29,9 @@ use Rattle.rule_book.specs.Ranks.{AllDiffer}
 use Rattle.rule_book.specs.declared.league.LeagueKind.{LeagueKind}
 use Rattle.stored_records.specs.SeasonRules.{is_full, misses}
 use Rattle.stored_records.specs.Stored.{Rows, between, is_there, is_within, told}
-use Rattle.season_books.proofs.EntriesJudged.{and_then_some, nothing_broken}
-use Rattle.season_books.specs.Lawful.{judged}
-use Rattle.season_books.specs.LeagueRules.{has_gap, is_drawn_wrong, is_league_full, kind_in, kind_told, league_breaks, members_of}
+use Rattle.store_validation.proofs.EntriesJudged.{and_then_some, nothing_broken}
+use Rattle.store_validation.specs.Lawful.{judged}
+use Rattle.store_validation.specs.LeagueRules.{has_gap, is_drawn_wrong, is_league_full, kind_in, kind_told, league_breaks, members_of}
 use Rattle.leagues_restoring.specs.LeagueRestoring.{IsLeagueRestored, IsMadeOf}
 use Rattle.leagues_restoring.proofs.LawfulRows.{if_true, lawful_row, of_reader, some_there}
 use Rattle.leagues_restoring.proofs.Gapless.{stand_before}

@@ -7,7 +7,7 @@ use Rattle.record_codec.specs.declared.slot.Slot.TheVariants as slot
 use Rattle.rule_book.specs.Entries.{entry_in}
 use Rattle.rule_book.specs.Leagues.{LeagueFacts}
 use Rattle.stored_records.specs.Stored.{Rows, is_there, told}
-use Rattle.season_books.specs.LeagueRules.{members_of}
+use Rattle.store_validation.specs.LeagueRules.{members_of}
 use Rattle.season_records.specs.Records.{league_item}
 
 -- a league is what its record tells, and its members are those that have a record

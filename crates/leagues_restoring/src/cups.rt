@@ -8,7 +8,7 @@ ghost use Rattle.record_codec.specs.declared.slot.Slot.TheVariants as slot;
 ghost use Rattle.rule_book.specs.CupCalls.{most_cups};
 ghost use Rattle.rule_book.specs.Entries.{entry_in};
 ghost use Rattle.stored_records.specs.Stored.{told};
-ghost use Rattle.season_books.specs.Lawful.{judged};
+ghost use Rattle.store_validation.specs.Lawful.{judged};
 ghost use Rattle.season_records.specs.Records.{cup_item};
 ghost use Rattle.leagues_restoring.specs.CupRows.{IsCupRow, TellsCups};
 

@@ -8,7 +8,7 @@ ghost use Rattle.rule_book.specs.ById.{AreSorted, at_id};
 ghost use Rattle.season_book.specs.Book.{Last, caller_number};
 ghost use Rattle.season_book.specs.Commands.{IsCommand};
 ghost use Rattle.stored_records.specs.Stored.{told};
-ghost use Rattle.season_books.specs.Lawful.{judged};
+ghost use Rattle.store_validation.specs.Lawful.{judged};
 ghost use Rattle.season_records.specs.Records.{last_item, made_id};
 ghost use Rattle.season_records.specs.Told.{made_by};
 ghost use Rattle.leagues_restoring.specs.LastCommands.{AreLasts, CanMake, IsLastRow};

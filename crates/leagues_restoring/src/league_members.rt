@@ -1,7 +1,7 @@
 // The members of a league.
 ghost use Rattle.std.specs.Prelude.{◌≡◌, ◌≤◌, IfOk, None};
-ghost use Rattle.season_books.specs.Lawful.{judged};
-ghost use Rattle.season_books.specs.LeagueRules.{members_of};
+ghost use Rattle.store_validation.specs.Lawful.{judged};
+ghost use Rattle.store_validation.specs.LeagueRules.{members_of};
 ghost use Rattle.fpl_base.specs.Keeping.{KeysRise};
 
 use classic_leagues::Ids;

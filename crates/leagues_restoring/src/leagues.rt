@@ -7,7 +7,7 @@ ghost use Rattle.record_codec.specs.declared.slot.Slot.TheVariants as slot;
 ghost use Rattle.rule_book.specs.Entries.{entry_in};
 ghost use Rattle.rule_book.specs.Leagues.{LeagueFacts};
 ghost use Rattle.stored_records.specs.Stored.{told};
-ghost use Rattle.season_books.specs.Lawful.{judged};
+ghost use Rattle.store_validation.specs.Lawful.{judged};
 ghost use Rattle.season_competitions.specs.Leagues.{AreMembers};
 ghost use Rattle.season_records.specs.Records.{league_item, member_told};
 ghost use Rattle.leagues_restoring.specs.LeagueRestoring.{AreLeaguesRestored, GoesOn, IsLeagueRestored, IsMadeOf, LeaguesEnd};

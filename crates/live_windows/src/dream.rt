@@ -8,7 +8,7 @@ ghost use Rattle.season_views.specs.DreamTeamWindowReads.{dream_team_reads};
 
 use crate::rows::{has_gameweek, rows_of};
 use crate::team::{team_of, write_dream};
-use fpl_base::{Memory, PlayerId, Position, Steps};
+use fpl_base::{Memory, PlayerId, Position, ReadCount};
 use json::Writer;
 use season_views::{Seen, SeenCells, locked_gameweek};
 use std::alloc::Global;
@@ -22,7 +22,7 @@ pub fn write_dream_team<L: Ledger>(
     seen: &Seen<L>,
     cells: &SeenCells<L>,
     gameweek: u32,
-    steps: &mut Steps<L>,
+    steps: &mut ReadCount<L>,
 ) -> Result<bool, Memory>
     requires kept { IsKept seen.now cells.now }
     ensures value { ShowsEach seen.now (λ entries. dream_team_window seen.now.facts gameweek) result
@@ -42,7 +42,7 @@ fn write_there<L: Ledger>(
     seen: &Seen<L>,
     cells: &SeenCells<L>,
     gameweek: u32,
-    steps: &mut Steps<L>,
+    steps: &mut ReadCount<L>,
 ) -> Result<bool, Memory>
     requires kept { IsKept seen.now cells.now }
     requires from_1 { 1 ≤ gameweek }
@@ -62,7 +62,7 @@ fn who_played<L: Ledger>(
     seen: &Seen<L>,
     cells: &SeenCells<L>,
     number: u32,
-    steps: &mut Steps<L>,
+    steps: &mut ReadCount<L>,
 ) -> Result<Vec<(PlayerId, Position, i32)>, Memory>
     requires kept { IsKept seen.now cells.now }
     requires from_1 { 1 ≤ number }

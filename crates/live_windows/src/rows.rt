@@ -10,7 +10,7 @@ ghost use Rattle.season_views.specs.Seen.{IsKept};
 ghost use Rattle.season_book.specs.DreamTeamWindow.{has_gameweek, rows_of_gameweek};
 ghost use Rattle.live_windows.specs.Kept.{with_row};
 
-use fpl_base::{Gw, Memory, PlayerId, Position, Steps};
+use fpl_base::{Gw, Memory, PlayerId, Position, ReadCount};
 use rule_book::Player;
 use season_views::{Seen, SeenCells, gameweek_held};
 use std::alloc::Global;
@@ -29,7 +29,7 @@ pub fn rows_of<L: Ledger>(
     seen: &Seen<L>,
     cells: &SeenCells<L>,
     gameweek: Gw,
-    steps: &mut Steps<L>,
+    steps: &mut ReadCount<L>,
 ) -> Result<Vec<(PlayerId, Position, i32)>, Memory>
     requires kept { IsKept seen.now cells.now }
     requires from_1 { 1 ≤ gameweek }
@@ -55,7 +55,7 @@ fn row_of<L: Ledger>(
     cells: &SeenCells<L>,
     player: &Player,
     gameweek: Gw,
-    steps: &mut Steps<L>,
+    steps: &mut ReadCount<L>,
 ) -> Option<(PlayerId, Position, i32)>
     ensures value { (b : SeasonFacts) → AreEvaluated b cells.now
         → is_live b (Node.PlayerGw player.now.id gameweek) ≡ true

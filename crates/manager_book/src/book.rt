@@ -26,7 +26,7 @@ use crate::entry_sales::EntrySales;
 use crate::lineup::line_up;
 use crate::manager::Manager;
 use crate::register::register;
-use fpl_base::{Chip, EntryId, Gw, Key, Memory, Name, PlayerId, Profile, Refused, Rule, Steps};
+use fpl_base::{Chip, EntryId, Gw, Key, Memory, Name, PlayerId, Profile, ReadCount, Refused, Rule};
 use player_prices::Players;
 use rule_book::{Sale, Swap, Team};
 use season_ledger::Entry;
@@ -255,7 +255,7 @@ impl ManagerBook {
 
     /// An entry's team in a gameweek; None where it is not registered and before its first gameweek. It is a counted
     /// read.
-    pub fn team_at<L: Ledger>(&self, e: EntryId, g: Gw, steps: &mut Steps<L>) -> Option<Team>
+    pub fn team_at<L: Ledger>(&self, e: EntryId, g: Gw, steps: &mut ReadCount<L>) -> Option<Team>
         ensures counted { steps.new ≡ steps.old + 1 }
         ensures rows { result ≡ team_at (season_of self.now e) g }
         ensures history { (position : ℕ → Position) (h : List Event)
@@ -269,7 +269,7 @@ impl ManagerBook {
 
     /// An entry's free transfers in a gameweek; None where it is not registered and up to its first gameweek. It is a
     /// counted read.
-    pub fn free<L: Ledger>(&self, e: EntryId, g: Gw, steps: &mut Steps<L>) -> Option<u8>
+    pub fn free<L: Ledger>(&self, e: EntryId, g: Gw, steps: &mut ReadCount<L>) -> Option<u8>
         ensures counted { steps.new ≡ steps.old + 1 }
         ensures rows { result ≡ free_in self.now.profile (season_of self.now e) g }
         ensures history { (position : ℕ → Position) (h : List Event)
@@ -281,7 +281,7 @@ impl ManagerBook {
 
     /// The points that an entry's transfers of a gameweek cost: 0 where it is not registered and up to its first
     /// gameweek. It is a counted read.
-    pub fn cost<L: Ledger>(&self, e: EntryId, g: Gw, steps: &mut Steps<L>) -> u32
+    pub fn cost<L: Ledger>(&self, e: EntryId, g: Gw, steps: &mut ReadCount<L>) -> u32
         ensures counted { steps.new ≡ steps.old + 1 }
         ensures rows { result ≡ cost_by self.now.profile (season_of self.now e) g }
         ensures most { result ≤ 4000 }
@@ -294,7 +294,12 @@ impl ManagerBook {
 
     /// An entry's transfers of gameweeks 1 to `through`, without those of its first gameweek and those under a wildcard
     /// or a free hit. It is a counted read.
-    pub fn counted_transfers<L: Ledger>(&self, e: EntryId, through: u8, steps: &mut Steps<L>) -> u32
+    pub fn counted_transfers<L: Ledger>(
+        &self,
+        e: EntryId,
+        through: u8,
+        steps: &mut ReadCount<L>,
+    ) -> u32
         ensures counted { steps.new ≡ steps.old + 1 }
         ensures rows { result ≡ counted_by (season_of self.now e) through }
         ensures history { (position : ℕ → Position) (h : List Event)

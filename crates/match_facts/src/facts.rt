@@ -13,7 +13,7 @@ use crate::reads::count_reads;
 use crate::sheet::Sheet;
 use crate::sheets::{drop_line_in, put_line_in, put_sheet_in, set_finished_in};
 use crate::table::Table;
-use fpl_base::{FixtureId, PlayerId, Refused, Rule, Steps};
+use fpl_base::{FixtureId, PlayerId, ReadCount, Refused, Rule};
 use rule_book::Line;
 use std::alloc::Global;
 use std::marker::Model;
@@ -142,7 +142,7 @@ impl MatchFacts {
         &self,
         fixture: FixtureId,
         player: PlayerId,
-        steps: &mut Steps<L>,
+        steps: &mut ReadCount<L>,
     ) -> Option<&Line>
         ensures line { option_copied result ≡ line_of self.now fixture player }
         ensures counted { steps.new ≡ steps.old + 1 }
@@ -169,7 +169,7 @@ impl MatchFacts {
     pub fn rows<L: Ledger>(
         &self,
         fixture: FixtureId,
-        steps: &mut Steps<L>,
+        steps: &mut ReadCount<L>,
     ) -> (&[PlayerId], &[Line])
         ensures rows { zip result.0.now result.1.now ≡ lines_of self.now fixture }
         ensures paired { length result.1.now ≡ length result.0.now }

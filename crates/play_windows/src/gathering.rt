@@ -13,7 +13,7 @@ ghost use Rattle.season_views.specs.Seen.{IsKept};
 ghost use Rattle.play_windows.specs.Gathered.{gathered, line_with, sheet_lines, sheet_reads};
 
 use crate::sums::LiveLine;
-use fpl_base::{FixtureId, Gw, PlayerId, Steps};
+use fpl_base::{FixtureId, Gw, PlayerId, ReadCount};
 use rule_book::Line;
 use season_graph::lines_are_told;
 use season_rules::bonus_among;
@@ -27,7 +27,7 @@ pub(crate) fn gather<L: Ledger>(
     seen: &Seen<L>,
     cells: &SeenCells<L>,
     gameweek: Gw,
-    steps: &mut Steps<L>,
+    steps: &mut ReadCount<L>,
 ) -> Result<Vec<LiveLine>, AllocError>
     requires kept { IsKept seen.now cells.now }
     ensures value { IfOk result (λ lines. lines.items ≡ gathered seen.now.facts gameweek) }
@@ -49,7 +49,7 @@ fn add_fixture<L: Ledger>(
     seen: &Seen<L>,
     cells: &SeenCells<L>,
     fixture: FixtureId,
-    steps: &mut Steps<L>,
+    steps: &mut ReadCount<L>,
 ) -> Result<(), AllocError>
     requires kept { IsKept seen.now cells.now }
     requires ranges { All (λ own. IsLine own.line) lines.old.items }

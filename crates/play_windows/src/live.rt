@@ -9,7 +9,7 @@ ghost use Rattle.play_windows.specs.LiveLaws.{PointsAreExplained, PointsAreHis};
 
 use crate::gathering::gather;
 use crate::players::write_players;
-use fpl_base::{Gw, Memory, Steps};
+use fpl_base::{Gw, Memory, ReadCount};
 use json::Writer;
 use live_windows::{has_gameweek, rows_of, team_of};
 use season_views::{Seen, SeenCells, locked_gameweek};
@@ -24,7 +24,7 @@ pub fn write_live<L: Ledger>(
     seen: &Seen<L>,
     cells: &SeenCells<L>,
     gameweek: u32,
-    steps: &mut Steps<L>,
+    steps: &mut ReadCount<L>,
 ) -> Result<bool, Memory>
     requires kept { IsKept seen.now cells.now }
     ensures value { ShowsEach seen.now (λ entries. live_window seen.now.facts gameweek) result out.old
@@ -44,7 +44,7 @@ fn write_there<L: Ledger>(
     seen: &Seen<L>,
     cells: &SeenCells<L>,
     number: u32,
-    steps: &mut Steps<L>,
+    steps: &mut ReadCount<L>,
 ) -> Result<bool, Memory>
     requires kept { IsKept seen.now cells.now }
     requires from_1 { 1 ≤ number }
@@ -77,7 +77,7 @@ fn write_locked<L: Ledger>(
     seen: &Seen<L>,
     cells: &SeenCells<L>,
     gameweek: Gw,
-    steps: &mut Steps<L>,
+    steps: &mut ReadCount<L>,
 ) -> Result<bool, Memory>
     requires kept { IsKept seen.now cells.now }
     requires from_1 { 1 ≤ gameweek }

@@ -3,7 +3,7 @@ ghost use Rattle.std.specs.Option.{option_copied, option_map};
 ghost use Rattle.std.specs.Map.{keys_of};
 ghost use Rattle.rescore_graph.specs.States.{look, values_in, is_dirty, Puts, planted, raise, stored};
 
-use fpl_base::{Memory, Steps};
+use fpl_base::{Memory, ReadCount};
 use std::alloc::Global;
 use std::collections::HashMap;
 use std::hash::Hash;
@@ -118,7 +118,7 @@ impl<N: Copy + Ord + Hash, V: Drop> Cells<N, V> {
 
     /// The value of a node, by a counted read; `None` where it is not live or was not evaluated yet.
     #[inline(always)]
-    pub fn get<L: Ledger>(&self, n: N, steps: &mut Steps<L>) -> Option<&V>
+    pub fn get<L: Ledger>(&self, n: N, steps: &mut ReadCount<L>) -> Option<&V>
         ensures value { option_copied result ≡ values_in (look N.cmp self.now) n }
         ensures cost { steps.new ≡ steps.old + 1 }
     {

@@ -4,7 +4,7 @@ ghost use Rattle.rescore_graph.specs.Graph.{Graph, IsGraph, IsDependents, AreAff
 ghost use Rattle.rescore_graph.specs.States.{look, values_in};
 
 use crate::cells::Cells;
-use fpl_base::{Memory, Steps};
+use fpl_base::{Memory, ReadCount};
 use std::alloc::Global;
 use std::hash::Hash;
 use std::sync::ledger::Ledger;
@@ -54,7 +54,7 @@ pub trait Rules {
         alloc: Global,
         n: Self::Node,
         cells: &Cells<Self::Node, Self::Value>,
-        steps: &mut Steps<L>,
+        steps: &mut ReadCount<L>,
     ) -> Result<Self::Value, Memory>
         requires order { in_order self.now }
         requires live { (graph self.now).live n }

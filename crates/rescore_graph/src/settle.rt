@@ -10,7 +10,7 @@ use crate::cells::{Cells, slot_of};
 use crate::levels::{LEVELS, level_from};
 use crate::nodes::Nodes;
 use crate::rules::Rules;
-use fpl_base::{Memory, Steps};
+use fpl_base::{Memory, ReadCount};
 use std::hash::Hash;
 use std::sync::ledger::Ledger;
 
@@ -27,7 +27,7 @@ impl<N: Copy + Ord + Hash, V: Drop> Cells<N, V> {
     pub fn settle<R: Rules<Node = N, Value = V>, L: Ledger>(
         &mut self,
         rules: &R,
-        steps: &mut Steps<L>,
+        steps: &mut ReadCount<L>,
     ) -> Result<Report<N>, Memory>
         requires order { R.in_order rules.now }
         requires sound { Sound (R.graph rules.now) (look N.cmp self.old) }
@@ -58,7 +58,7 @@ impl<N: Copy + Ord + Hash, V: Drop> Cells<N, V> {
         level: u16,
         work: &mut Nodes<N>,
         evaluated: &mut Nodes<N>,
-        steps: &mut Steps<L>,
+        steps: &mut ReadCount<L>,
     ) -> Result<(), Memory>
         requires order { R.in_order rules.now }
         requires sound { Sound (R.graph rules.now) (look N.cmp self.old) }
@@ -93,7 +93,7 @@ impl<N: Copy + Ord + Hash, V: Drop> Cells<N, V> {
         n: N,
         work: &mut Nodes<N>,
         evaluated: &mut Nodes<N>,
-        steps: &mut Steps<L>,
+        steps: &mut ReadCount<L>,
     ) -> Result<(), Memory>
         requires order { R.in_order rules.now }
         requires sound { Sound (R.graph rules.now) (look N.cmp self.old) }
@@ -129,7 +129,7 @@ impl<N: Copy + Ord + Hash, V: Drop> Cells<N, V> {
         rules: &R,
         n: N,
         work: &mut Nodes<N>,
-        steps: &mut Steps<L>,
+        steps: &mut ReadCount<L>,
     ) -> Result<(), Memory>
         requires order { R.in_order rules.now }
         requires sound { Sound (R.graph rules.now) (look N.cmp self.old) }

@@ -14,7 +14,7 @@ ghost use Rattle.season_cells.specs.Leading.{DifferAs, LeadsTo};
 use crate::plan::Plan;
 use classic_leagues::Leagues;
 use cup_rounds::Cups;
-use fpl_base::{Memory, Steps};
+use fpl_base::{Memory, ReadCount};
 use manager_book::ManagerBook;
 use match_facts::MatchFacts;
 use season_facts::Season;
@@ -82,7 +82,7 @@ impl KeptCells {
         managers: &ManagerBook,
         leagues: &Leagues,
         cups: &Cups,
-        steps: &mut Steps<L>,
+        steps: &mut ReadCount<L>,
     ) -> Result<Self, Memory>
         ensures { IfOk result
             (λ kept. AreCellsOf (books_seen season.now managers.now leagues.now cups.now) kept) }
@@ -112,7 +112,7 @@ impl KeptCells {
         managers: &ManagerBook,
         leagues: &Leagues,
         cups: &Cups,
-        steps: &mut Steps<L>,
+        steps: &mut ReadCount<L>,
     ) -> Result<(), Memory>
         ghost before: { SeasonFacts }
         requires cells { AreCellsOf before self.old }
@@ -147,7 +147,7 @@ impl KeptCells {
         managers: &ManagerBook,
         leagues: &Leagues,
         cups: &Cups,
-        steps: &mut Steps<L>,
+        steps: &mut ReadCount<L>,
     ) -> Result<(), Memory>
         ghost before: { SeasonFacts }
         requires cells { AreCellsOf before self.old }

@@ -9,7 +9,7 @@ ghost use Rattle.season_cells.specs.Plans.{IsLeagued, IsLined, IsMarked, IsPlace
 
 use crate::sheets::sheet_plan;
 use classic_leagues::Leagues;
-use fpl_base::{FixtureId, Gw, LeagueId, Memory, PlayerId, Steps};
+use fpl_base::{FixtureId, Gw, LeagueId, Memory, PlayerId, ReadCount};
 use rule_book::Line;
 use season_book::Command;
 use season_facts::Season;
@@ -53,7 +53,7 @@ pub fn planned<L: Ledger>(
     season: &Season,
     leagues: &Leagues,
     command: &Command,
-    steps: &mut Steps<L>,
+    steps: &mut ReadCount<L>,
 ) -> Result<Plan, Memory>
     requires there { part_of command.now ≡ part.Facts → are_there season.now command.now ≡ true }
     ensures plan { IfOk result (λ plan. IsPlanOf season.now leagues.now command.now plan) }
@@ -172,7 +172,7 @@ fn lined<L: Ledger>(
     number: u32,
     player: PlayerId,
     line: &Option<Line>,
-    steps: &mut Steps<L>,
+    steps: &mut ReadCount<L>,
 ) -> Plan
     requires { has_fixture season.now number ≡ true }
     ensures lined { IsLined number player
@@ -197,7 +197,7 @@ pub(crate) fn has_line<L: Ledger>(
     fixture: FixtureId,
     player: PlayerId,
     line: &Option<Line>,
-    steps: &mut Steps<L>,
+    steps: &mut ReadCount<L>,
 ) -> bool
     ensures same { IsTrue result ↔ (line_of season.now.matches fixture player ≡ line.now) }
     ensures counted { steps.new ≡ steps.old + 1 }

@@ -4,7 +4,7 @@ ghost use Rattle.rule_book.specs.MatchFacts.{is_finished, line_in, lines_of};
 ghost use Rattle.season_cells.specs.Plans.{AreOthersIn, IsSheet};
 
 use crate::plan::{Plan, has_line};
-use fpl_base::{FixtureId, Memory, PlayerId, Steps};
+use fpl_base::{FixtureId, Memory, PlayerId, ReadCount};
 use rule_book::Line;
 use season_facts::Season;
 use std::alloc::Global;
@@ -17,7 +17,7 @@ pub(crate) fn sheet_plan<L: Ledger>(
     fixture: FixtureId,
     lines: &[(PlayerId, Line)],
     finished: bool,
-    steps: &mut Steps<L>,
+    steps: &mut ReadCount<L>,
 ) -> Result<Plan, Memory>
     ensures plan { IfOk result
         (λ plan. IsSheet fixture (lines_of season.now.matches fixture)
@@ -38,7 +38,7 @@ fn others<L: Ledger>(
     season: &Season,
     fixture: FixtureId,
     lines: &[(PlayerId, Line)],
-    steps: &mut Steps<L>,
+    steps: &mut ReadCount<L>,
 ) -> Result<Vec<PlayerId>, Memory>
     ensures others { IfOk result
         (λ players. AreOthersIn (lines_of season.now.matches fixture) lines.now players.items) }

@@ -6,7 +6,7 @@ ghost use Rattle.season_book.specs.declared.command.Command.TheVariants as comma
 ghost use Rattle.season_facts.specs.Judged.{CountsJudged};
 
 use crate::Season;
-use fpl_base::{ClubId, Gw, Moment, PlayerId, Rule, Steps, Tenths};
+use fpl_base::{ClubId, Gw, Moment, PlayerId, ReadCount, Rule, Tenths};
 use match_facts::{judge_lock, judge_sheet};
 use player_prices::judge_price;
 use rule_book::{Fixture, Line};
@@ -20,7 +20,7 @@ impl Season {
         &self,
         now: Moment,
         command: &Command,
-        steps: &mut Steps<L>,
+        steps: &mut ReadCount<L>,
     ) -> Result<(), Answer>
         ensures weighed { IsWeighed self.now now command.now result }
         ensures counted { steps.new ≤ steps.old + 1 }
@@ -270,7 +270,7 @@ impl Season {
         now: Moment,
         number: u32,
         player: PlayerId,
-        steps: &mut Steps<L>,
+        steps: &mut ReadCount<L>,
     ) -> Result<(), Answer>
         ensures weighed { IsWeighed self.now now (command.Drop number player) result }
         ensures counted { steps.new ≤ steps.old + 1 }

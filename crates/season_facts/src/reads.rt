@@ -8,7 +8,7 @@ ghost use Rattle.rule_book.specs.Players.{player_of};
 ghost use Rattle.rule_book.specs.Uses.{has_lines};
 
 use crate::Season;
-use fpl_base::{FixtureId, Memory, PlayerId, Profile, Steps};
+use fpl_base::{FixtureId, Memory, PlayerId, Profile, ReadCount};
 use match_facts::MatchFacts;
 use player_prices::Players;
 use rule_book::{Fixture, Line, Player};
@@ -95,7 +95,7 @@ impl Season {
         &self,
         fixture: FixtureId,
         player: PlayerId,
-        steps: &mut Steps<L>,
+        steps: &mut ReadCount<L>,
     ) -> Option<&Line>
         ensures line { option_copied result ≡ line_of self.now.matches fixture player }
         ensures in_range { IfSome result (λ line. IsLine line.now) }
@@ -109,7 +109,7 @@ impl Season {
     pub fn rows<L: Ledger>(
         &self,
         fixture: FixtureId,
-        steps: &mut Steps<L>,
+        steps: &mut ReadCount<L>,
     ) -> (&[PlayerId], &[Line])
         ensures rows { zip result.0.now result.1.now ≡ lines_of self.now.matches fixture }
         ensures paired { length result.1.now ≡ length result.0.now }

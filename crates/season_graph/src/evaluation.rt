@@ -13,7 +13,7 @@ use crate::laws::replay_is_told;
 use crate::locks::refresh_scores;
 use crate::refreshing::{refresh_bonus, refresh_line};
 use crate::rounds::refresh_heads;
-use fpl_base::{FixtureId, Memory, Steps};
+use fpl_base::{FixtureId, Memory, ReadCount};
 use rescore_graph::{Cells, Report};
 use season_nodes::{Books, Index, Node};
 use season_rules::{SeasonCells, SeasonRules};
@@ -25,7 +25,7 @@ use std::sync::ledger::Ledger;
 pub fn settle_season<L: Ledger>(
     cells: &mut SeasonCells,
     rules: &SeasonRules,
-    steps: &mut Steps<L>,
+    steps: &mut ReadCount<L>,
 ) -> Result<Report<Node>, Memory>
     requires season { IsSeason (facts_of rules.now.books) }
     requires index { IsIndex (facts_of rules.now.books) (holders_in rules.now.index.now) }
@@ -46,7 +46,7 @@ pub fn settle_season<L: Ledger>(
 pub fn evaluate_all<L: Ledger>(
     alloc: Global,
     books: &Books,
-    steps: &mut Steps<L>,
+    steps: &mut ReadCount<L>,
 ) -> Result<(SeasonCells, Index), Memory>
     requires { IsSeason (facts_of books.now) }
     ensures cells { IfOk result (λ made. AreEvaluated (facts_of books.now) made.0) }
@@ -71,7 +71,7 @@ fn cells_of<L: Ledger>(
     alloc: Global,
     books: &Books,
     index: &Index,
-    steps: &mut Steps<L>,
+    steps: &mut ReadCount<L>,
 ) -> Result<SeasonCells, Memory>
     requires season { IsSeason (facts_of books.now) }
     requires index { IsIndex (facts_of books.now) (holders_in index.now) }

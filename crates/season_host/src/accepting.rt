@@ -12,9 +12,9 @@ ghost use Rattle.season_host.specs.Accepted.{IsBegunAndKept, made_in, made_of};
 ghost use Rattle.season_host.specs.Cells.{IsChangeOf, LeadsFrom};
 
 use crate::change::Change;
-use fpl_base::{Caller, Key, Memory, Moment, Steps};
+use fpl_base::{Caller, Key, Memory, Moment, ReadCount};
+use record_changes::{touched, touched_first};
 use record_codec::Slot;
-use season_batches::{touched, touched_first};
 use season_book::{Answer, Command, Made};
 use season_cells::{Plan, planned, plans_lead};
 use season_running::{Lasts, RunningSeason, begun, change, keep};
@@ -47,7 +47,7 @@ pub fn accept<L: Ledger>(
     now: Moment,
     number: u64,
     command: &Command,
-    steps: &mut Steps<L>,
+    steps: &mut ReadCount<L>,
 ) -> Result<Done, Answer>
     requires { IsCommand command.now }
     ensures taken { IsTaken operator.now caller.now now number command.now running.old running.new
@@ -87,7 +87,7 @@ fn change_as<L: Ledger>(
     now: Moment,
     number: u64,
     command: &Command,
-    steps: &mut Steps<L>,
+    steps: &mut ReadCount<L>,
 ) -> Result<(Made, Plan), Memory>
     requires read { IsCommand command.now }
     requires granted { IsGrantedTo running.old caller.now now command.now }

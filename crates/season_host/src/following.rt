@@ -16,7 +16,7 @@ ghost use Rattle.season_host.specs.declared.change.Change.TheVariants as change_
 
 use crate::change::Change;
 use crate::house::House;
-use fpl_base::{Caller, Memory, Moment, Steps};
+use fpl_base::{Caller, Memory, Moment, ReadCount};
 use record_codec::Slot;
 use season_book::{Answer, Command};
 use season_cells::{KeptCells, Plan};
@@ -46,7 +46,7 @@ pub struct Passed {
 pub fn cells_of<L: Ledger>(
     alloc: Global,
     running: &Option<RunningSeason>,
-    steps: &mut Steps<L>,
+    steps: &mut ReadCount<L>,
 ) -> Result<Option<KeptCells>, Memory>
     ensures { IfOk result (AreCellsNow running.now) }
 {
@@ -60,7 +60,7 @@ pub fn cells_of<L: Ledger>(
 fn cells_in<L: Ledger>(
     alloc: Global,
     running: &RunningSeason,
-    steps: &mut Steps<L>,
+    steps: &mut ReadCount<L>,
 ) -> Result<KeptCells, Memory>
     ensures { IfOk result (AreCellsOf (running_seen running.now)) }
 {
@@ -84,7 +84,7 @@ pub fn answer_command<L: Ledger>(
     now: Moment,
     number: u64,
     command: &Command,
-    steps: &mut Steps<L>,
+    steps: &mut ReadCount<L>,
 ) -> Settled
     ghost before: { HostRows }
     requires before { house.old ≡ before }
@@ -125,7 +125,7 @@ fn follow<L: Ledger>(
     cells: &mut Option<KeptCells>,
     house: &House,
     change: &Change,
-    steps: &mut Steps<L>,
+    steps: &mut ReadCount<L>,
 ) -> Result<(), Memory>
     ghost before: { HostRows }
     requires cells { AreCellsOfHost before cells.old }
@@ -152,7 +152,7 @@ fn follow_plan<L: Ledger>(
     cells: &mut Option<KeptCells>,
     running: &Option<RunningSeason>,
     plan: &Plan,
-    steps: &mut Steps<L>,
+    steps: &mut ReadCount<L>,
 ) -> Result<(), Memory>
     ghost before: { Option Running }
     requires cells { AreCellsNow before cells.old }
@@ -174,7 +174,7 @@ fn follow_in<L: Ledger>(
     cells: &mut KeptCells,
     running: &RunningSeason,
     plan: &Plan,
-    steps: &mut Steps<L>,
+    steps: &mut ReadCount<L>,
 ) -> Result<(), Memory>
     ghost before: { SeasonFacts }
     requires cells { AreCellsOf before cells.old }
@@ -199,7 +199,7 @@ pub fn pass<L: Ledger>(
     house: &mut House,
     cells: &mut Option<KeptCells>,
     now: Moment,
-    steps: &mut Steps<L>,
+    steps: &mut ReadCount<L>,
 ) -> Passed
     ghost before: { HostRows }
     requires before { house.old ≡ before }
@@ -235,7 +235,7 @@ fn follow_locks<L: Ledger>(
     cells: &mut Option<KeptCells>,
     running: &Option<RunningSeason>,
     first: u8,
-    steps: &mut Steps<L>,
+    steps: &mut ReadCount<L>,
 ) -> Result<(), Memory>
     ghost before: { Option Running }
     requires cells { AreCellsNow before cells.old }
@@ -257,7 +257,7 @@ fn follow_locks_in<L: Ledger>(
     cells: &mut KeptCells,
     running: &RunningSeason,
     first: u8,
-    steps: &mut Steps<L>,
+    steps: &mut ReadCount<L>,
 ) -> Result<(), Memory>
     ghost before: { Running }
     requires cells { AreCellsOf (running_seen before) cells.old }

@@ -21,9 +21,9 @@ ghost use Rattle.season_host.specs.declared.change.Change.TheVariants as change_
 
 use crate::accepting::{Done, accept, begin};
 use crate::change::Change;
-use fpl_base::{Caller, Key, Memory, Moment, Op, PlayerId, Rule, Steps};
+use fpl_base::{Caller, Key, Memory, Moment, Op, PlayerId, ReadCount, Rule};
+use record_changes::batch_of;
 use record_codec::Slot;
-use season_batches::batch_of;
 use season_book::{Answer, Command, Made, Shown, View, Window};
 use season_cells::KeptCells;
 use season_running::{Lasts, RunningSeason};
@@ -197,7 +197,7 @@ impl House {
         cells: &Option<KeptCells>,
         caller: &Caller,
         view: View,
-        steps: &mut Steps<L>,
+        steps: &mut ReadCount<L>,
     ) -> Answer
         requires { AreCellsOfHost self.now cells.now }
         ensures shown { (book : Book) → StandsIn self.now book
@@ -243,7 +243,7 @@ impl House {
         now: Moment,
         number: u64,
         command: &Command,
-        steps: &mut Steps<L>,
+        steps: &mut ReadCount<L>,
     ) -> Answered
         requires numbered { 1 ≤ number }
         requires command { IsCommand command.now }
@@ -282,7 +282,7 @@ impl House {
         now: Moment,
         number: u64,
         command: &Command,
-        steps: &mut Steps<L>,
+        steps: &mut ReadCount<L>,
     ) -> Result<Done, Answer>
         requires { IsCommand command.now }
         ensures accepted { IsAccepted self.old self.new caller.now now number command.now

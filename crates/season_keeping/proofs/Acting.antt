@@ -14,7 +14,7 @@ use Rattle.season_book.specs.declared.command.Command.{Command}
 use Rattle.season_book.specs.declared.request.Request.{Request}
 use Rattle.season_book.specs.declared.request.Request.TheVariants as request
 use Rattle.season_host.specs.Accepted.{Changes, MayEndIn}
-use Rattle.season_items.specs.Staying.{ItemsStay, LooksTellItems, TellItems}
+use Rattle.record_ranges.specs.Staying.{ItemsStay, LooksTellItems, TellItems}
 use Rattle.season_opening.specs.Opening.{IsKeepable}
 use Rattle.season_records.specs.Commits.{HoldsLeft}
 use Rattle.season_records.specs.Keeping.{AreEarly, CommandsKeepRecords, Leads, VerdictsAreEarly}

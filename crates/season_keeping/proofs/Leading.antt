@@ -9,7 +9,7 @@ use Rattle.season_records.specs.Keeping.{Leads}
 use Rattle.season_records.specs.Records.{records, told}
 use Rattle.season_records.specs.Touched.{batch}
 use Rattle.season_host.specs.Accepted.{TellItemsBy}
-use Rattle.season_items.specs.Staying.{LooksTellItems, TellItems}
+use Rattle.record_ranges.specs.Staying.{LooksTellItems, TellItems}
 use Rattle.season_opening.specs.Opening.{IsKeepable}
 use Rattle.season_rows.specs.Laws.{TellAs}
 use Rattle.season_rows.specs.RowsTold.{told_by}

@@ -11,7 +11,7 @@ use Rattle.season_book.specs.Book.{Book, Facts}
 use Rattle.season_book.specs.Verdict.{locked_at, pass}
 use Rattle.season_cells.specs.Kept.{CellRows}
 use Rattle.season_host.specs.Accepted.{locks_more}
-use Rattle.season_items.specs.Staying.{LockedItemsStay, LooksTellItems}
+use Rattle.record_ranges.specs.Staying.{LockedItemsStay, LooksTellItems}
 use Rattle.season_opening.specs.Opening.{IsKeepable}
 use Rattle.season_records.specs.Keeping.{LocksKeepRecords, MomentsAreEarly, NoLockLeavesBook}
 use Rattle.season_records.specs.Records.{records}

@@ -19,13 +19,13 @@ ghost use Rattle.season_keeping.specs.Answering.{Answers, AreCorrectedBoth, Comm
 ghost use Rattle.season_keeping.specs.Housed.{Backs};
 ghost use Rattle.season_keeping.specs.Opening.{HoldsOn, Opens, Withholds};
 
-use fpl_base::{Caller, Keeper, KeeperFault, Key, Memory, Moment, PlayerId, Steps};
+use fpl_base::{Caller, Keeper, KeeperFault, Key, Memory, Moment, PlayerId, ReadCount};
 use record_codec::Slot;
+use record_ranges::{items_stay, slots_tell_items};
 use season_book::{Answer, Command, Request};
 use season_cells::KeptCells;
 use season_host::{House, answer_command, cells_of, pass};
 use season_isolation::answers_are_isolated;
-use season_items::{items_stay, slots_tell_items};
 use season_opening::{OpenFault, loaded, loaded_rows_stand};
 use season_records::{
     books_are_early, books_are_in_order, commands_keep_records, locks_keep_records,
@@ -68,7 +68,7 @@ impl Host {
         alloc: Global,
         keeper: &mut K,
         operator: &Key,
-        steps: &mut Steps<L>,
+        steps: &mut ReadCount<L>,
     ) -> Result<Host, OpenFault>
         ensures opened { MatchResult result (Opens K.tells K.holds K.passes keeper.old keeper.new)
             (Withholds K.tells K.holds K.passes K.faults keeper.old keeper.new) }
@@ -107,7 +107,7 @@ impl Host {
     pub fn ready<K: Keeper, L: Ledger>(
         &mut self,
         keeper: &mut K,
-        steps: &mut Steps<L>,
+        steps: &mut ReadCount<L>,
     ) -> Result<(), OpenFault>
         ensures fresh { self.old.stale ≡ false
             → IsOk result × (self.new ≡ self.old) × (keeper.new ≡ keeper.old) }
@@ -197,7 +197,7 @@ impl Host {
         caller: Caller,
         now: Moment,
         request: &Request,
-        steps: &mut Steps<L>,
+        steps: &mut ReadCount<L>,
     ) -> Answer
         requires fresh { self.old.stale ≡ false }
         requires asked { IsRequest request.now }
@@ -264,7 +264,7 @@ impl Host {
         &mut self,
         keeper: &mut K,
         now: Moment,
-        steps: &mut Steps<L>,
+        steps: &mut ReadCount<L>,
     ) -> Result<(), KeeperFault>
         requires fresh { self.old.stale ≡ false }
         ensures rows { self.new.rows ≡ passed now self.old.rows }
@@ -345,7 +345,7 @@ impl Host {
         caller: Caller,
         now: Moment,
         request: &Request,
-        steps: &mut Steps<L>,
+        steps: &mut ReadCount<L>,
     ) -> Answer
         requires fresh { self.old.stale ≡ false }
         requires asked { IsRequest request.now }
@@ -398,7 +398,7 @@ impl Host {
         now: Moment,
         number: u64,
         command: &Command,
-        steps: &mut Steps<L>,
+        steps: &mut ReadCount<L>,
     ) -> Answer
         requires fresh { self.old.stale ≡ false }
         requires numbered { 1 ≤ number }

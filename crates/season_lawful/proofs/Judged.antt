@@ -28,8 +28,8 @@ use Rattle.stored_records.specs.EntryTold.{first_in, first_told, sale_in, sale_t
 use Rattle.stored_records.specs.SeasonRules.{misses}
 use Rattle.stored_records.specs.Stored.{Rows}
 use Rattle.stored_records.proofs.Found.{found_at}
-use Rattle.season_books.specs.EntryRules.{entry_breaks}
-use Rattle.season_books.specs.Lawful.{breaks, first_wrong, is_in_range, is_spelled, is_wrong, judged}
+use Rattle.store_validation.specs.EntryRules.{entry_breaks}
+use Rattle.store_validation.specs.Lawful.{breaks, first_wrong, is_in_range, is_spelled, is_wrong, judged}
 use Rattle.season_opening.specs.Opening.{IsJudgedAs, IsKeepable}
 use Rattle.lawful_facts.specs.Rules.{IsOfFacts}
 use Rattle.lawful_facts.proofs.Rules.{facts_break_no_rule}

@@ -1,4 +1,4 @@
-//! Lawful books: laws on the definitions of `season_book` and `season_books`. Every book of a run is lawful, and of a
+//! Lawful books: laws on the definitions of `season_book` and `store_validation`. Every book of a run is lawful, and of a
 //! lawful book no record is one that a host, which is made anew of them, would find damaged.
 #![tactic(auto)]
 

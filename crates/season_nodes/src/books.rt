@@ -12,7 +12,7 @@ ghost use Rattle.season_nodes.specs.declared.nodes.Node.{Node};
 use crate::nodes::Node;
 use classic_leagues::{League, LeagueKind, Leagues};
 use cup_rounds::Cups;
-use fpl_base::{EntryId, FixtureId, Gw, LeagueId, PlayerId, Position, Profile, Steps};
+use fpl_base::{EntryId, FixtureId, Gw, LeagueId, PlayerId, Position, Profile, ReadCount};
 use manager_book::ManagerBook;
 use match_facts::MatchFacts;
 use player_prices::Players;
@@ -91,7 +91,7 @@ impl Books<'_> {
         &self,
         entry: EntryId,
         gameweek: Gw,
-        steps: &mut Steps<L>,
+        steps: &mut ReadCount<L>,
     ) -> Option<Team>
         ensures team { IfSome result (λ team. team ≡ (facts_of self.now).team entry gameweek) }
         ensures begun { is_some result ≡ has_begun (facts_of self.now) entry gameweek }

@@ -4,7 +4,7 @@ use Rattle.std.proofs.Common.{◌∙◌, ap, sym}
 use Rattle.fpl_base.specs.Keeping.{KeysRise, Map, map_of}
 use Rattle.fpl_base.specs.declared.records.RecordKey.{RecordKey}
 use Rattle.stored_records.specs.Stored.{Rows}
-use Rattle.season_books.specs.Lawful.{judged}
+use Rattle.store_validation.specs.Lawful.{judged}
 use Rattle.season_running.specs.Standing.{host_rows}
 use Rattle.season_restoring.specs.declared.books.Restored.{Restored}
 use Rattle.season_opening.specs.Opening.{AreLoaded, AreMadeOf, IsDamaged, IsLoaded}

@@ -5,7 +5,7 @@ use Rattle.fpl_base.specs.declared.records.RecordKey.{RecordKey}
 use Rattle.record_codec.specs.declared.slot.Slot.{Slot}
 use Rattle.season_book.specs.Book.{Book, empty_book}
 use Rattle.stored_records.specs.Stored.{Rows, told}
-use Rattle.season_books.specs.Lawful.{judged}
+use Rattle.store_validation.specs.Lawful.{judged}
 use Rattle.season_records.specs.Keeping.{AreEarly}
 use Rattle.season_records.specs.Records.{records}
 use Rattle.season_records.specs.Told.{IsInOrder, TellsItems}

@@ -1,6 +1,6 @@
 ghost use Rattle.season_opening.specs.Opening.{EmptyIsKeepable, LoadedRowsStand};
 
-use season_items::items_stay;
+use record_ranges::items_stay;
 use season_records::{books_are_early, books_are_in_order};
 use season_rows::rows_in_order_stand;
 

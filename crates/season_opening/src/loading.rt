@@ -3,15 +3,15 @@ ghost use Rattle.std.specs.Prelude.{◌≡◌, ◌≢◌, ◌≤◌, ℕ, Err, I
 ghost use Rattle.fpl_base.specs.Causes.{Rose};
 ghost use Rattle.fpl_base.specs.Keeping.{KeysRise, Map, map_of};
 ghost use Rattle.fpl_base.specs.declared.records.RecordKey.{RecordKey};
-ghost use Rattle.season_books.specs.Lawful.{judged};
+ghost use Rattle.store_validation.specs.Lawful.{judged};
 ghost use Rattle.season_running.specs.Standing.{host_rows};
 ghost use Rattle.season_opening.specs.Opening.{AreLoaded, AreMadeOf, IsDamaged};
 ghost use Rattle.season_opening.specs.declared.loading.OpenFault.TheVariants as fault;
 
 use fpl_base::{Bytes, Keeper, KeeperFault, Memory, RecordKey};
-use season_books::judge;
 use season_restoring::{Restored, books_of};
 use std::alloc::Global;
+use store_validation::judge;
 
 /// Why a host could not be opened or made ready.
 #[derive(Clone, Copy, Debug, PartialEq, Eq)]

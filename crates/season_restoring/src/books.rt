@@ -5,7 +5,7 @@ ghost use Rattle.fpl_base.specs.Keeping.{KeysRise, map_of};
 ghost use Rattle.record_codec.specs.declared.slot.Slot.{Slot};
 ghost use Rattle.season_records.specs.Told.{AreInOrder};
 ghost use Rattle.stored_records.specs.Stored.{told};
-ghost use Rattle.season_books.specs.Lawful.{judged};
+ghost use Rattle.store_validation.specs.Lawful.{judged};
 ghost use Rattle.season_running.specs.Standing.{host_rows};
 ghost use Rattle.season_rows.specs.Ordered.{AreRowsInOrder};
 ghost use Rattle.season_rows.specs.RowsTold.{told_by};

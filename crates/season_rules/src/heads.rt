@@ -11,7 +11,7 @@ ghost use Rattle.season_nodes.specs.declared.nodes.Node.{Node};
 
 use crate::rules::SeasonCells;
 use crate::totals::net_in;
-use fpl_base::{EntryId, Gw, LeagueId, Memory, Steps};
+use fpl_base::{EntryId, Gw, LeagueId, Memory, ReadCount};
 use head_to_head::{average, head_score};
 use rule_book::{HeadScore, Opponent};
 use season_nodes::{Books, MatchScores, Node, Value, met};
@@ -47,7 +47,7 @@ fn net_of<L: Ledger>(
     entry: EntryId,
     gameweek: Gw,
     cells: &SeasonCells,
-    steps: &mut Steps<L>,
+    steps: &mut ReadCount<L>,
 ) -> i32
     ensures value { result ≡ net_by (facts_of books.now) (held_values cells.now) entry gameweek }
     ensures near { IsWithin 18000000 result }
@@ -66,7 +66,7 @@ fn nets_of<L: Ledger>(
     order: &[EntryId],
     gameweek: Gw,
     cells: &SeasonCells,
-    steps: &mut Steps<L>,
+    steps: &mut ReadCount<L>,
 ) -> Result<Vec<i32>, Memory>
     ensures value { IfOk result
         (λ nets. nets.items
@@ -99,7 +99,7 @@ pub(crate) fn average_points<L: Ledger>(
     league: LeagueId,
     gameweek: Gw,
     cells: &SeasonCells,
-    steps: &mut Steps<L>,
+    steps: &mut ReadCount<L>,
 ) -> Result<i32, Memory>
     requires { 0 < length (order_in books.now.leagues.now league) }
     ensures value { IfOk result
@@ -119,7 +119,7 @@ fn points_of<L: Ledger>(
     gameweek: Gw,
     opponent: Opponent,
     cells: &SeasonCells,
-    steps: &mut Steps<L>,
+    steps: &mut ReadCount<L>,
 ) -> i32
     requires there { (j : ℕ) → opponent ≡ Opponent.Place j
         → j < length (order_in books.now.leagues.now league) }
@@ -143,7 +143,7 @@ pub(crate) fn match_scores<L: Ledger>(
     gameweek: Gw,
     place: usize,
     cells: &SeasonCells,
-    steps: &mut Steps<L>,
+    steps: &mut ReadCount<L>,
 ) -> MatchScores
     requires { place < length (order_in books.now.leagues.now league) }
     ensures value { result
@@ -173,7 +173,7 @@ fn seen<L: Ledger>(
     met: usize,
     gameweek: Gw,
     cells: &SeasonCells,
-    steps: &mut Steps<L>,
+    steps: &mut ReadCount<L>,
 ) -> (i32, i32)
     requires { place < 64 }
     ensures value { result
@@ -198,7 +198,7 @@ fn matches<L: Ledger>(
     league: LeagueId,
     place: usize,
     cells: &SeasonCells,
-    steps: &mut Steps<L>,
+    steps: &mut ReadCount<L>,
 ) -> Result<Vec<(i32, i32)>, Memory>
     requires { place < length (order_in books.now.leagues.now league) }
     ensures value { IfOk result
@@ -227,7 +227,7 @@ pub(crate) fn head_row<L: Ledger>(
     league: LeagueId,
     entry: EntryId,
     cells: &SeasonCells,
-    steps: &mut Steps<L>,
+    steps: &mut ReadCount<L>,
 ) -> Result<HeadScore, Memory>
     ensures value { IfOk result
         (λ score. score ≡ head_by (facts_of books.now) (held_values cells.now) league entry) }

@@ -15,7 +15,7 @@ use crate::ties::{cup_dependents, tie_dependents};
 use crate::totals::total;
 use crate::winners::tie_winner;
 use crate::worth::{bonus_in, bonuses, gameweek_figures, line_worth};
-use fpl_base::{CupId, EntryId, FixtureId, Gw, Memory, PlayerId, Steps};
+use fpl_base::{CupId, EntryId, FixtureId, Gw, Memory, PlayerId, ReadCount};
 use rescore_graph::{Cells, Rules};
 use season_nodes::{
     AveragePoints, Books, GameweekFigures, GameweekScore, Index, Node, Value, is_same,
@@ -278,7 +278,7 @@ impl Rules for SeasonRules<'_> {
         alloc: Global,
         n: Node,
         cells: &SeasonCells,
-        steps: &mut Steps<L>,
+        steps: &mut ReadCount<L>,
     ) -> Result<Value, Memory> {
         match n {
             Node::Line(fixture, player) => {

@@ -10,7 +10,7 @@ ghost use Rattle.season_nodes.specs.declared.nodes.Node.{Node};
 
 use crate::rules::SeasonCells;
 use crate::worth::{figures_in, no_figures};
-use fpl_base::{EntryId, Gw, PlayerId, Steps};
+use fpl_base::{EntryId, Gw, PlayerId, ReadCount};
 use rule_book::{Figures, Team, TeamScore};
 use season_nodes::{Books, Node};
 use std::sync::ledger::Ledger;
@@ -22,7 +22,7 @@ fn team_figures<L: Ledger>(
     team: &Team,
     gameweek: Gw,
     cells: &SeasonCells,
-    steps: &mut Steps<L>,
+    steps: &mut ReadCount<L>,
 ) -> [Figures; 15]
     ensures value { result
         ≡ figures_of_fifteen (facts_of books.now) (held_values cells.now) team.now gameweek }
@@ -44,7 +44,7 @@ fn player_figures<L: Ledger>(
     player: PlayerId,
     gameweek: Gw,
     cells: &SeasonCells,
-    steps: &mut Steps<L>,
+    steps: &mut ReadCount<L>,
 ) -> Figures
     ensures value { result
         ≡ (if is_there (facts_of books.now) player
@@ -65,7 +65,7 @@ fn score<L: Ledger>(
     cost: u32,
     gameweek: Gw,
     cells: &SeasonCells,
-    steps: &mut Steps<L>,
+    steps: &mut ReadCount<L>,
 ) -> TeamScore
     requires { cost ≤ 4000 }
     ensures value { result
@@ -85,7 +85,7 @@ pub(crate) fn team_gameweek<L: Ledger>(
     entry: EntryId,
     gameweek: Gw,
     cells: &SeasonCells,
-    steps: &mut Steps<L>,
+    steps: &mut ReadCount<L>,
 ) -> TeamScore
     requires { is_live (facts_of books.now) (Node.TeamGw entry gameweek) ≡ true }
     ensures value { result ≡ score_by (facts_of books.now) (held_values cells.now) entry gameweek }

@@ -8,7 +8,7 @@ ghost use Rattle.season_nodes.specs.Season.{has_begun, net_held, total_by};
 ghost use Rattle.season_nodes.specs.declared.nodes.Node.{Node};
 
 use crate::rules::SeasonCells;
-use fpl_base::{EntryId, Gw, Steps};
+use fpl_base::{EntryId, Gw, ReadCount};
 use season_nodes::{Books, Node, Value};
 use std::sync::ledger::Ledger;
 
@@ -51,7 +51,7 @@ fn net_at<L: Ledger>(
     entry: EntryId,
     gameweek: Option<Gw>,
     cells: &SeasonCells,
-    steps: &mut Steps<L>,
+    steps: &mut ReadCount<L>,
 ) -> i32
     ensures value { result
         ≡ option_map_or (λ g. net_held (held_values cells.now (Node.TeamGw entry g))) gameweek
@@ -71,7 +71,7 @@ pub(crate) fn total<L: Ledger>(
     entry: EntryId,
     start: Gw,
     cells: &SeasonCells,
-    steps: &mut Steps<L>,
+    steps: &mut ReadCount<L>,
 ) -> i32
     ensures value { result ≡ total_by (facts_of books.now) (held_values cells.now) entry start }
     ensures cost { steps.new ≤ steps.old + 39 }

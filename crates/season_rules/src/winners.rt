@@ -8,7 +8,7 @@ ghost use Rattle.season_nodes.specs.Season.{bracket_of, comer_by, is_played, sid
 
 use crate::rules::SeasonCells;
 use cup_rounds::tie;
-use fpl_base::{CupId, EntryId, Gw, Steps};
+use fpl_base::{CupId, EntryId, Gw, ReadCount};
 use rule_book::{Side, TeamScore};
 use season_nodes::{Books, Node, Value};
 use std::sync::ledger::Ledger;
@@ -61,7 +61,7 @@ fn side_at<L: Ledger>(
     entry: u32,
     gameweek: Gw,
     cells: &SeasonCells,
-    steps: &mut Steps<L>,
+    steps: &mut ReadCount<L>,
 ) -> Side
     ensures value { result ≡ side_by (facts_of books.now) (held_values cells.now) entry gameweek }
     ensures cost { steps.new ≤ steps.old + 1 }
@@ -83,7 +83,7 @@ fn side_among<L: Ledger>(
     place: u16,
     entry: u32,
     cells: &SeasonCells,
-    steps: &mut Steps<L>,
+    steps: &mut ReadCount<L>,
 ) -> Side
     requires tie { place < ties_after (bracket_of (facts_of books.now) cup) round }
     requires played { is_played (facts_of books.now) cup round ≡ true }
@@ -104,7 +104,7 @@ fn comer<L: Ledger>(
     round: u8,
     place: u16,
     cells: &SeasonCells,
-    steps: &mut Steps<L>,
+    steps: &mut ReadCount<L>,
 ) -> u32
     ensures value { result ≡ comer_by (facts_of books.now) (held_values cells.now) cup round place }
     ensures cost { steps.new ≤ steps.old + 1 }
@@ -133,7 +133,7 @@ fn first_goes_on<L: Ledger>(
     place: u16,
     pair: (u32, u32),
     cells: &SeasonCells,
-    steps: &mut Steps<L>,
+    steps: &mut ReadCount<L>,
 ) -> bool
     requires tie { place < ties_after (bracket_of (facts_of books.now) cup) round }
     requires played { is_played (facts_of books.now) cup round ≡ true }
@@ -158,7 +158,7 @@ pub(crate) fn tie_winner<L: Ledger>(
     round: u8,
     place: u16,
     cells: &SeasonCells,
-    steps: &mut Steps<L>,
+    steps: &mut ReadCount<L>,
 ) -> u32
     requires tie { place < ties_after (bracket_of (facts_of books.now) cup) round }
     requires played { is_played (facts_of books.now) cup round ≡ true }

@@ -9,7 +9,7 @@ ghost use Rattle.season_nodes.specs.Held.{held_values};
 ghost use Rattle.season_nodes.specs.Season.{AreModest, IsSeason, bonuses_by, bonuses_in, figures_by, figures_held, line_worth, no_figures, no_worth, took_part_by, with_bonus, with_fixture, with_worth, worth_in, worth_of};
 
 use crate::rules::SeasonCells;
-use fpl_base::{FixtureId, Gw, Memory, PlayerId, Position, Profile, Steps};
+use fpl_base::{FixtureId, Gw, Memory, PlayerId, Position, Profile, ReadCount};
 use line_scoring::{BonusLevels, bps, line_points};
 use rule_book::{Figures, Line};
 use season_nodes::{Bonuses, Books, LineWorth, Node, Value};
@@ -138,7 +138,7 @@ pub(crate) fn line_worth<L: Ledger>(
     books: &Books,
     fixture: FixtureId,
     player: PlayerId,
-    steps: &mut Steps<L>,
+    steps: &mut ReadCount<L>,
 ) -> LineWorth
     requires { IsSeason (facts_of books.now) }
     ensures value { result ≡ line_worth (facts_of books.now) fixture player }
@@ -157,7 +157,7 @@ fn took_part<L: Ledger>(
     alloc: Global,
     fixture: FixtureId,
     cells: &SeasonCells,
-    steps: &mut Steps<L>,
+    steps: &mut ReadCount<L>,
 ) -> Result<Vec<(PlayerId, i32)>, Memory>
     ensures table { IfOk result (λ table.
         table.items ≡ took_part_by (facts_of books.now) (held_values cells.now) fixture) }
@@ -180,7 +180,7 @@ pub(crate) fn bonuses<L: Ledger>(
     alloc: Global,
     fixture: FixtureId,
     cells: &SeasonCells,
-    steps: &mut Steps<L>,
+    steps: &mut ReadCount<L>,
 ) -> Result<Bonuses, Memory>
     ensures value { IfOk result
         (λ rows. rows ≡ bonuses_by (facts_of books.now) (held_values cells.now) fixture) }
@@ -200,7 +200,7 @@ fn with_fixture<L: Ledger>(
     fixture: FixtureId,
     figures: &Figures,
     cells: &SeasonCells,
-    steps: &mut Steps<L>,
+    steps: &mut ReadCount<L>,
 ) -> Figures
     requires modest { AreModest 19 figures.now }
     ensures value { result ≡
@@ -222,7 +222,7 @@ pub(crate) fn gameweek_figures<L: Ledger>(
     player: PlayerId,
     gameweek: Gw,
     cells: &SeasonCells,
-    steps: &mut Steps<L>,
+    steps: &mut ReadCount<L>,
 ) -> Figures
     ensures value { result ≡
         figures_by (facts_of books.now) (held_values cells.now) player gameweek }

@@ -29,7 +29,7 @@ ghost use Rattle.season_views.specs.Reads.{reads_allowed, window_reads};
 
 use classic_leagues::Leagues;
 use cup_rounds::Cups;
-use fpl_base::{Caller, CupId, EntryId, Key, LeagueId, Memory, Moment, Rule, Steps};
+use fpl_base::{Caller, CupId, EntryId, Key, LeagueId, Memory, Moment, ReadCount, Rule};
 use manager_book::ManagerBook;
 use season_book::{Answer, Command, Made, Page, Part, Shown, View, Window};
 use season_competitions::{do_cup, do_league, judge_cup, judge_league, members_stay};
@@ -187,7 +187,7 @@ impl RunningSeason {
         caller: &Caller,
         now: Moment,
         command: &Command,
-        steps: &mut Steps<L>,
+        steps: &mut ReadCount<L>,
     ) -> Result<(), Answer>
         requires { IsCommand command.now }
         ensures granted { OnOk result (IsGrantedTo self.now caller.now now command.now) }
@@ -494,7 +494,7 @@ impl RunningSeason {
         alloc: Global,
         cells: &SeasonCells,
         view: View,
-        steps: &mut Steps<L>,
+        steps: &mut ReadCount<L>,
     ) -> Answer
         requires { AreKeptBy self.now cells.now }
         ensures seen { IsShown (fact_shown (Some self.now.facts) view) result }
@@ -517,7 +517,7 @@ impl RunningSeason {
         cells: &SeasonCells,
         caller: &Caller,
         last: u64,
-        steps: &mut Steps<L>,
+        steps: &mut ReadCount<L>,
     ) -> Answer
         requires { AreKeptBy self.now cells.now }
         ensures seen { (book : Book) → Plays self.now book → last ≡ last_number book caller.now
@@ -555,7 +555,7 @@ impl RunningSeason {
         cells: &SeasonCells,
         entry: u32,
         gameweek: u32,
-        steps: &mut Steps<L>,
+        steps: &mut ReadCount<L>,
     ) -> Answer
         requires { AreKeptBy self.now cells.now }
         ensures seen { (caller : Caller) (book : Book) → Plays self.now book
@@ -577,7 +577,7 @@ impl RunningSeason {
         alloc: Global,
         cells: &SeasonCells,
         number: u32,
-        steps: &mut Steps<L>,
+        steps: &mut ReadCount<L>,
     ) -> Answer
         requires { AreKeptBy self.now cells.now }
         ensures seen { (caller : Caller) (book : Book) → Plays self.now book
@@ -604,7 +604,7 @@ impl RunningSeason {
         alloc: Global,
         cells: &SeasonCells,
         number: u32,
-        steps: &mut Steps<L>,
+        steps: &mut ReadCount<L>,
     ) -> Answer
         requires { AreKeptBy self.now cells.now }
         ensures seen { (caller : Caller) (book : Book) → Plays self.now book
@@ -636,7 +636,7 @@ impl RunningSeason {
         caller: &Caller,
         last: u64,
         asked: Window,
-        steps: &mut Steps<L>,
+        steps: &mut ReadCount<L>,
     ) -> Answer
         requires { AreKeptBy self.now cells.now }
         ensures seen { (book : Book) → Plays self.now book → last ≡ last_number book caller.now

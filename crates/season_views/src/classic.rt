@@ -12,7 +12,7 @@ use crate::names::name_of;
 use crate::reading::total_held;
 use crate::seen::{Seen, SeenCells};
 use classic_leagues::{League, table};
-use fpl_base::{EntryId, Gw, ListOf, Memory, Steps};
+use fpl_base::{EntryId, Gw, ListOf, Memory, ReadCount};
 use rule_book::{Ranked, tables_are_the_one};
 use season_book::{ShownClassic, ShownRanked};
 use season_ledger::rows_tell;
@@ -25,7 +25,7 @@ pub fn classic_row<L: Ledger>(
     cells: &SeenCells<L>,
     entry: EntryId,
     start: Gw,
-    steps: &mut Steps<L>,
+    steps: &mut ReadCount<L>,
 ) -> (EntryId, i32, u32)
     requires profile { seen.now.managers.profile ≡ seen.now.facts.profile }
     requires kept { AreKeptFrom seen.now.facts seen.now.managers entry start cells.now }
@@ -48,7 +48,7 @@ pub fn classic_rows<L: Ledger>(
     seen: &Seen<L>,
     cells: &SeenCells<L>,
     league: &League,
-    steps: &mut Steps<L>,
+    steps: &mut ReadCount<L>,
 ) -> Result<Vec<(EntryId, i32, u32)>, Memory>
     requires profile { seen.now.managers.profile ≡ seen.now.facts.profile }
     requires kept { AreKeptWith seen.now.facts seen.now.managers league.now cells.now }
@@ -116,7 +116,7 @@ pub fn classic<L: Ledger>(
     seen: &Seen<L>,
     cells: &SeenCells<L>,
     league: &League,
-    steps: &mut Steps<L>,
+    steps: &mut ReadCount<L>,
 ) -> Result<ShownClassic, Memory>
     requires profile { seen.now.managers.profile ≡ seen.now.facts.profile }
     requires kept { AreKeptWith seen.now.facts seen.now.managers league.now cells.now }

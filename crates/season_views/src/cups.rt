@@ -16,7 +16,7 @@ ghost use Rattle.season_views.specs.Reads.{reads_of, ties_of};
 use crate::reading::tie_held;
 use crate::seen::{Seen, SeenCells};
 use cup_rounds::{rounds, rounds_follow};
-use fpl_base::{CupId, ListOf, Memory, Steps};
+use fpl_base::{CupId, ListOf, Memory, ReadCount};
 use rule_book::{Bracket, Slots};
 use season_book::ShownCup;
 use season_ledger::rows_tell;
@@ -41,7 +41,7 @@ pub fn winners_held<L: Ledger>(
     id: CupId,
     bracket: &Bracket,
     round: u8,
-    steps: &mut Steps<L>,
+    steps: &mut ReadCount<L>,
 ) -> Result<Slots, Memory>
     requires shape { HasShape bracket.now }
     requires round { round < 10 }
@@ -79,7 +79,7 @@ fn winners_shown<L: Ledger>(
     id: CupId,
     bracket: &Bracket,
     round: u8,
-    steps: &mut Steps<L>,
+    steps: &mut ReadCount<L>,
 ) -> Result<Option<Slots>, Memory>
     requires profile { seen.now.managers.profile ≡ seen.now.facts.profile }
     requires kept { AreKeptAt seen.now.facts seen.now.managers id bracket.now cells.now }
@@ -117,7 +117,7 @@ pub fn cup<L: Ledger>(
     cells: &SeenCells<L>,
     id: CupId,
     bracket: &Bracket,
-    steps: &mut Steps<L>,
+    steps: &mut ReadCount<L>,
 ) -> Result<ShownCup, Memory>
     requires profile { seen.now.managers.profile ≡ seen.now.facts.profile }
     requires kept { AreKeptAt seen.now.facts seen.now.managers id bracket.now cells.now }

@@ -17,7 +17,7 @@ ghost use Rattle.season_views.specs.Entries.{OfEachHistory, me_with};
 use crate::reading::{score_held, total_held};
 use crate::seen::{Seen, SeenCells};
 use crate::views::locked_gameweek;
-use fpl_base::{EntryId, Gw, PlayerId, Steps, Tenths};
+use fpl_base::{EntryId, Gw, PlayerId, ReadCount, Tenths};
 use player_prices::selling_price;
 use rule_book::{Pick, Team};
 use season_book::{ShownEntryGameweek, ShownMe, ShownPick};
@@ -33,7 +33,7 @@ pub fn my_entry<L: Ledger>(
     cells: &SeenCells<L>,
     entry: EntryId,
     last: u64,
-    steps: &mut Steps<L>,
+    steps: &mut ReadCount<L>,
 ) -> Option<ShownMe>
     requires profile { seen.now.managers.profile ≡ seen.now.facts.profile }
     requires kept { AreKeptIn seen.now.facts seen.now.managers cells.now }
@@ -141,7 +141,7 @@ pub fn entry_gameweek<L: Ledger>(
     cells: &SeenCells<L>,
     entry: u32,
     gameweek: u32,
-    steps: &mut Steps<L>,
+    steps: &mut ReadCount<L>,
 ) -> Option<ShownEntryGameweek>
     requires profile { seen.now.managers.profile ≡ seen.now.facts.profile }
     requires kept { AreKeptIn seen.now.facts seen.now.managers cells.now }
@@ -163,7 +163,7 @@ pub fn gameweek_of<L: Ledger>(
     cells: &SeenCells<L>,
     entry: EntryId,
     gameweek: Gw,
-    steps: &mut Steps<L>,
+    steps: &mut ReadCount<L>,
 ) -> Option<ShownEntryGameweek>
     requires profile { seen.now.managers.profile ≡ seen.now.facts.profile }
     requires kept { AreKeptIn seen.now.facts seen.now.managers cells.now }

@@ -16,7 +16,7 @@ use crate::names::name_of;
 use crate::reading::head_held;
 use crate::seen::{Seen, SeenCells};
 use classic_leagues::League;
-use fpl_base::{EntryId, LeagueId, ListOf, Memory, Steps};
+use fpl_base::{EntryId, LeagueId, ListOf, Memory, ReadCount};
 use head_to_head::table;
 use rule_book::{HeadRanked, HeadScore, tables_are_the_one};
 use season_book::{ShownHead, ShownHeadRanked};
@@ -30,7 +30,7 @@ pub fn head_rows<L: Ledger>(
     cells: &SeenCells<L>,
     id: LeagueId,
     league: &League,
-    steps: &mut Steps<L>,
+    steps: &mut ReadCount<L>,
 ) -> Result<Vec<(EntryId, HeadScore)>, Memory>
     ensures value { IfOk result
         (λ rows. (b : SeasonFacts) → AreEvaluated b cells.now
@@ -96,7 +96,7 @@ pub fn head<L: Ledger>(
     cells: &SeenCells<L>,
     id: LeagueId,
     league: &League,
-    steps: &mut Steps<L>,
+    steps: &mut ReadCount<L>,
 ) -> Result<ShownHead, Memory>
     requires profile { seen.now.managers.profile ≡ seen.now.facts.profile }
     requires kept { AreKeptFor seen.now.facts seen.now.managers id league.now cells.now }

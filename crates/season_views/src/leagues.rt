@@ -10,7 +10,7 @@ use crate::classic::classic;
 use crate::head::head;
 use crate::seen::{Seen, SeenCells};
 use classic_leagues::League;
-use fpl_base::{LeagueId, Memory, Steps};
+use fpl_base::{LeagueId, Memory, ReadCount};
 use rule_book::LeagueKind;
 use season_book::Shown;
 use std::alloc::Global;
@@ -25,7 +25,7 @@ pub fn league<L: Ledger>(
     cells: &SeenCells<L>,
     id: LeagueId,
     league: &League,
-    steps: &mut Steps<L>,
+    steps: &mut ReadCount<L>,
 ) -> Result<Shown, Memory>
     requires profile { seen.now.managers.profile ≡ seen.now.facts.profile }
     requires kept { AreKeptFor seen.now.facts seen.now.managers id league.now cells.now }

@@ -9,7 +9,7 @@ ghost use Rattle.season_nodes.specs.Season.{SeasonFacts, is_live, line_worth, no
 ghost use Rattle.season_nodes.specs.declared.nodes.Node.{Node};
 
 use crate::seen::SeenCells;
-use fpl_base::{CupId, EntryId, FixtureId, Gw, LeagueId, PlayerId, Steps};
+use fpl_base::{CupId, EntryId, FixtureId, Gw, LeagueId, PlayerId, ReadCount};
 use rule_book::{Figures, HeadScore, TeamScore};
 use season_graph::{LineWorth, Node, Value};
 use season_rules::{figures_in, winner_in, worth_in};
@@ -21,7 +21,7 @@ pub fn line_held<L: Ledger>(
     cells: &SeenCells<L>,
     fixture: FixtureId,
     player: PlayerId,
-    steps: &mut Steps<L>,
+    steps: &mut ReadCount<L>,
 ) -> LineWorth
     ensures value { (b : SeasonFacts) → AreEvaluated b cells.now
         → is_live b (Node.Line fixture player) ≡ true
@@ -38,7 +38,7 @@ pub fn line_held<L: Ledger>(
 pub fn bonuses_held<'a, L: Ledger>(
     cells: &'a SeenCells<L>,
     fixture: FixtureId,
-    steps: &mut Steps<L>,
+    steps: &mut ReadCount<L>,
 ) -> &'a [(PlayerId, u8)]
     ensures value { (b : SeasonFacts) → AreEvaluated b cells.now
         → is_live b (Node.Bonus fixture) ≡ true
@@ -59,7 +59,7 @@ pub fn gameweek_held<L: Ledger>(
     cells: &SeenCells<L>,
     player: PlayerId,
     gameweek: Gw,
-    steps: &mut Steps<L>,
+    steps: &mut ReadCount<L>,
 ) -> Figures
     ensures value { (b : SeasonFacts) → AreEvaluated b cells.now
         → is_live b (Node.PlayerGw player gameweek) ≡ true
@@ -78,7 +78,7 @@ pub fn score_held<L: Ledger>(
     cells: &SeenCells<L>,
     entry: EntryId,
     gameweek: Gw,
-    steps: &mut Steps<L>,
+    steps: &mut ReadCount<L>,
 ) -> Option<TeamScore>
     ensures value { (b : SeasonFacts) → AreEvaluated b cells.now
         → result ≡ (if is_live b (Node.TeamGw entry gameweek)
@@ -98,7 +98,7 @@ pub fn total_held<L: Ledger>(
     cells: &SeenCells<L>,
     entry: EntryId,
     start: Gw,
-    steps: &mut Steps<L>,
+    steps: &mut ReadCount<L>,
 ) -> i32
     ensures value { (b : SeasonFacts) → AreEvaluated b cells.now
         → result ≡ (if is_live b (Node.Total entry start) then total_since b entry start
@@ -118,7 +118,7 @@ pub fn head_held<L: Ledger>(
     cells: &SeenCells<L>,
     league: LeagueId,
     entry: EntryId,
-    steps: &mut Steps<L>,
+    steps: &mut ReadCount<L>,
 ) -> HeadScore
     ensures value { (b : SeasonFacts) → AreEvaluated b cells.now
         → result ≡ head_told b league entry }
@@ -137,7 +137,7 @@ pub fn tie_held<L: Ledger>(
     cup: CupId,
     round: u8,
     place: u16,
-    steps: &mut Steps<L>,
+    steps: &mut ReadCount<L>,
 ) -> u32
     ensures value { (b : SeasonFacts) → AreEvaluated b cells.now
         → result ≡ (if is_live b (Node.Tie cup round place) then tie_told b cup round place

@@ -20,7 +20,7 @@ ghost use Rattle.season_views.specs.Seen.{OfEachSeen};
 
 use classic_leagues::Leagues;
 use cup_rounds::Cups;
-use fpl_base::{EntryId, FixtureId, Gw, Memory, Name, PlayerId, Profile, Steps};
+use fpl_base::{EntryId, FixtureId, Gw, Memory, Name, PlayerId, Profile, ReadCount};
 use manager_book::ManagerBook;
 use player_prices::Players;
 use rule_book::{Fixture, Line, Player, Sale, Team};
@@ -166,7 +166,7 @@ impl<'a, L: Ledger> Seen<'a, L> {
 
     /// An entry's team in a gameweek; `None` where it is not registered and before its first gameweek. It is a counted
     /// read, as each of the next three.
-    pub fn team_at(&self, entry: EntryId, gameweek: Gw, steps: &mut Steps<L>) -> Option<Team>
+    pub fn team_at(&self, entry: EntryId, gameweek: Gw, steps: &mut ReadCount<L>) -> Option<Team>
         ensures counted { steps.new ≡ steps.old + 1 }
         ensures history { (position : ℕ → Position) (h : List Event)
             → StandsFor position (season_of self.now.managers entry) h
@@ -176,7 +176,7 @@ impl<'a, L: Ledger> Seen<'a, L> {
     }
 
     /// An entry's free transfers in a gameweek; `None` where they have no number.
-    pub fn free(&self, entry: EntryId, gameweek: Gw, steps: &mut Steps<L>) -> Option<u8>
+    pub fn free(&self, entry: EntryId, gameweek: Gw, steps: &mut ReadCount<L>) -> Option<u8>
         ensures counted { steps.new ≡ steps.old + 1 }
         ensures history { (position : ℕ → Position) (h : List Event)
             → StandsFor position (season_of self.now.managers entry) h
@@ -186,7 +186,7 @@ impl<'a, L: Ledger> Seen<'a, L> {
     }
 
     /// What an entry's transfers of a gameweek cost, in points.
-    pub fn cost(&self, entry: EntryId, gameweek: Gw, steps: &mut Steps<L>) -> u32
+    pub fn cost(&self, entry: EntryId, gameweek: Gw, steps: &mut ReadCount<L>) -> u32
         ensures counted { steps.new ≡ steps.old + 1 }
         ensures history { (position : ℕ → Position) (h : List Event)
             → StandsFor position (season_of self.now.managers entry) h
@@ -196,7 +196,7 @@ impl<'a, L: Ledger> Seen<'a, L> {
     }
 
     /// How many of an entry's transfers count in a table, in the gameweeks up to this one.
-    pub fn counted_transfers(&self, entry: EntryId, through: u8, steps: &mut Steps<L>) -> u32
+    pub fn counted_transfers(&self, entry: EntryId, through: u8, steps: &mut ReadCount<L>) -> u32
         ensures counted { steps.new ≡ steps.old + 1 }
         ensures history { (position : ℕ → Position) (h : List Event)
             → StandsFor position (season_of self.now.managers entry) h
@@ -206,7 +206,7 @@ impl<'a, L: Ledger> Seen<'a, L> {
     }
 
     /// How many transfers an entry made in a gameweek; 0 where it is not registered. It is a counted read.
-    pub fn made(&self, entry: EntryId, gameweek: Gw, steps: &mut Steps<L>) -> u16
+    pub fn made(&self, entry: EntryId, gameweek: Gw, steps: &mut ReadCount<L>) -> u16
         ensures counted { steps.new ≡ steps.old + 1 }
         ensures history { (position : ℕ → Position) (h : List Event)
             → StandsFor position (season_of self.now.managers entry) h
@@ -220,7 +220,7 @@ impl<'a, L: Ledger> Seen<'a, L> {
     }
 
     /// The transfers that an entry made, each with its gameweek, in the order of making. Each is one counted read.
-    pub fn sales(&self, entry: EntryId, steps: &mut Steps<L>) -> &[(Gw, Sale)]
+    pub fn sales(&self, entry: EntryId, steps: &mut ReadCount<L>) -> &[(Gw, Sale)]
         ensures sales { result.now ≡ sales_of self.now.managers entry }
         ensures counted { steps.new ≡ steps.old + length (sales_of self.now.managers entry) }
     {
@@ -277,7 +277,7 @@ impl<'a, L: Ledger> Seen<'a, L> {
 
     /// The players who have a line in a fixture, ascending, and beside them the line of each. Each line is one counted
     /// read.
-    pub fn rows(&self, fixture: FixtureId, steps: &mut Steps<L>) -> (&[PlayerId], &[Line])
+    pub fn rows(&self, fixture: FixtureId, steps: &mut ReadCount<L>) -> (&[PlayerId], &[Line])
         ensures rows { zip result.0.now result.1.now ≡ lines_of self.now.facts.matches fixture }
         ensures paired { length result.1.now ≡ length result.0.now }
         ensures counted { steps.new ≡ steps.old + length (lines_of self.now.facts.matches fixture) }
@@ -287,7 +287,7 @@ impl<'a, L: Ledger> Seen<'a, L> {
 }
 
 // Counts so many reads.
-fn count_reads<L: Ledger>(count: usize, steps: &mut Steps<L>)
+fn count_reads<L: Ledger>(count: usize, steps: &mut ReadCount<L>)
     ensures { steps.new ≡ steps.old + count }
 {
     'reads: for _ in 0..count {
@@ -322,7 +322,7 @@ impl<'a, L: Ledger> SeenCells<'a, L> {
     }
 
     /// The value of a node, by a counted read; `None` where it is not live or was not evaluated yet.
-    pub fn get(&self, node: Node, steps: &mut Steps<L>) -> Option<&Value>
+    pub fn get(&self, node: Node, steps: &mut ReadCount<L>) -> Option<&Value>
         ensures value { option_copied result ≡ held_values self.now node }
         ensures cost { steps.new ≡ steps.old + 1 }
     {

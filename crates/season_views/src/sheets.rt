@@ -11,7 +11,7 @@ ghost use Rattle.season_views.specs.Cells.{AreKeptOf, line_with};
 
 use crate::reading::{bonuses_held, line_held};
 use crate::seen::{Seen, SeenCells};
-use fpl_base::{FixtureId, Memory, PlayerId, Steps};
+use fpl_base::{FixtureId, Memory, PlayerId, ReadCount};
 use season_book::{ShownLine, ShownLines};
 use season_graph::lines_are_told;
 use season_rules::bonus_among;
@@ -24,7 +24,7 @@ pub fn lines_shown<L: Ledger>(
     seen: &Seen<L>,
     cells: &SeenCells<L>,
     fixture: FixtureId,
-    steps: &mut Steps<L>,
+    steps: &mut ReadCount<L>,
 ) -> Result<ShownLines, Memory>
     requires { AreKeptOf seen.now.facts cells.now }
     ensures value { IfOk result
@@ -49,7 +49,7 @@ pub fn line_shown<L: Ledger>(
     fixture: FixtureId,
     bonuses: &[(PlayerId, u8)],
     player: PlayerId,
-    steps: &mut Steps<L>,
+    steps: &mut ReadCount<L>,
 ) -> ShownLine
     ensures value { (b : SeasonFacts) → AreEvaluated b cells.now
         → is_live b (Node.Line fixture player) ≡ true

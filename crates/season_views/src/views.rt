@@ -10,7 +10,7 @@ ghost use Rattle.season_views.specs.Reads.{reads_allowed};
 use crate::reading::gameweek_held;
 use crate::seen::{Seen, SeenCells};
 use crate::sheets::lines_shown;
-use fpl_base::{Gw, Memory, Moment, Steps};
+use fpl_base::{Gw, Memory, Moment, ReadCount};
 use rule_book::Player;
 use season_book::{Moments, Shown, ShownFixture, ShownSeason, View};
 use season_calendar::Calendar;
@@ -24,7 +24,7 @@ pub fn show<L: Ledger>(
     seen: &Seen<L>,
     cells: &SeenCells<L>,
     view: View,
-    steps: &mut Steps<L>,
+    steps: &mut ReadCount<L>,
 ) -> Result<Option<Shown>, Memory>
     requires { AreKeptOf seen.now.facts cells.now }
     ensures shown { IfOk result (λ shown. shown ≡ shown_of seen.now.facts view) }
@@ -107,7 +107,7 @@ fn gameweek_shown<L: Ledger>(
     cells: &SeenCells<L>,
     player: u32,
     gameweek: u32,
-    steps: &mut Steps<L>,
+    steps: &mut ReadCount<L>,
 ) -> Option<Shown>
     requires { AreKeptOf seen.now.facts cells.now }
     ensures shown { result ≡ shown_of seen.now.facts (view.PlayerGameweek player gameweek) }
@@ -137,7 +137,7 @@ fn fixture_shown<L: Ledger>(
     seen: &Seen<L>,
     cells: &SeenCells<L>,
     fixture: u32,
-    steps: &mut Steps<L>,
+    steps: &mut ReadCount<L>,
 ) -> Result<Option<Shown>, Memory>
     requires { AreKeptOf seen.now.facts cells.now }
     ensures shown { IfOk result (λ shown. shown ≡ shown_of seen.now.facts (view.Fixture fixture)) }

@@ -24,7 +24,7 @@ use classic_leagues::League;
 use draw_windows::{write_cup_window, write_head_matches, write_transfers};
 use entry_windows::write_entry;
 use fixture_windows::{write_element_summary, write_fixtures};
-use fpl_base::{Caller, CupId, EntryId, Gw, LeagueId, Memory, Name, PlayerId, Steps};
+use fpl_base::{Caller, CupId, EntryId, Gw, LeagueId, Memory, Name, PlayerId, ReadCount};
 use history_windows::{write_history, write_picks};
 use json::Writer;
 use json_members::{
@@ -51,7 +51,7 @@ pub fn window<L: Ledger>(
     caller: &Caller,
     last: u64,
     window: Window,
-    steps: &mut Steps<L>,
+    steps: &mut ReadCount<L>,
 ) -> Result<Option<Page>, Memory>
     requires { IsKept seen.now cells.now }
     ensures value { IfOk result
@@ -92,7 +92,7 @@ fn write_window<L: Ledger>(
     caller: &Caller,
     last: u64,
     window: Window,
-    steps: &mut Steps<L>,
+    steps: &mut ReadCount<L>,
 ) -> Result<bool, Memory>
     requires { IsKept seen.now cells.now }
     ensures value { ShowsEach seen.now
@@ -397,7 +397,7 @@ fn write_sheet<L: Ledger>(
     out: &mut Writer,
     seen: &Seen<L>,
     fixture: Fixture,
-    steps: &mut Steps<L>,
+    steps: &mut ReadCount<L>,
 ) -> Result<(), AllocError>
     ensures value { Appends result out.old out.new (tokens_of (sheet_data seen.now.facts fixture)) }
     ensures cost { steps.new

@@ -17,7 +17,7 @@ use crate::pages::{begin_standings, end_standings};
 use crate::places::rank_of;
 use crate::scores::{last_behind, last_points, net};
 use classic_leagues::League;
-use fpl_base::{EntryId, Gw, LeagueId, Memory, Steps};
+use fpl_base::{EntryId, Gw, LeagueId, Memory, ReadCount};
 use json::Writer;
 use json_members::{write_count, write_integer, write_text};
 use rule_book::{LeagueKind, Ranked, ranks};
@@ -42,7 +42,7 @@ fn standing_before<L: Ledger>(
     cells: &SeenCells<L>,
     row: &(EntryId, i32, u32),
     last: Gw,
-    steps: &mut Steps<L>,
+    steps: &mut ReadCount<L>,
 ) -> Standing
     requires kept { IsKept seen.now cells.now }
     requires last { last ≡ seen.now.facts.calendar.locked }
@@ -71,7 +71,7 @@ fn standings_before<L: Ledger>(
     cells: &SeenCells<L>,
     rows: &[(EntryId, i32, u32)],
     last: Gw,
-    steps: &mut Steps<L>,
+    steps: &mut ReadCount<L>,
 ) -> Result<Vec<Standing>, Memory>
     requires kept { IsKept seen.now cells.now }
     requires last { last ≡ seen.now.facts.calendar.locked }
@@ -95,7 +95,7 @@ pub fn last_ranks<L: Ledger>(
     cells: &SeenCells<L>,
     league: &League,
     rows: &[(EntryId, i32, u32)],
-    steps: &mut Steps<L>,
+    steps: &mut ReadCount<L>,
 ) -> Result<Vec<u32>, Memory>
     requires kept { IsKept seen.now cells.now }
     requires rows { OfEachSeen seen.now
@@ -128,7 +128,7 @@ fn write_row<L: Ledger>(
     place: u64,
     row: &Ranked,
     last: u32,
-    steps: &mut Steps<L>,
+    steps: &mut ReadCount<L>,
 ) -> Result<(), AllocError>
     requires kept { IsKept seen.now cells.now }
     ensures value { WritesEach seen.now
@@ -162,7 +162,7 @@ fn write_rows<L: Ledger>(
     league: &League,
     table: &[Ranked],
     ranks: &[u32],
-    steps: &mut Steps<L>,
+    steps: &mut ReadCount<L>,
 ) -> Result<(), AllocError>
     requires kept { IsKept seen.now cells.now }
     requires members { All (λ row. Contains league.now.members row.entry) table.now }
@@ -191,7 +191,7 @@ fn write_standings<L: Ledger>(
     cells: &SeenCells<L>,
     id: LeagueId,
     league: &League,
-    steps: &mut Steps<L>,
+    steps: &mut ReadCount<L>,
 ) -> Result<(), Memory>
     requires kept { IsKept seen.now cells.now }
     requires there { entry_in seen.now.leagues id ≡ Some league.now }
@@ -220,7 +220,7 @@ pub fn write_classic_standings<L: Ledger>(
     seen: &Seen<L>,
     cells: &SeenCells<L>,
     number: u32,
-    steps: &mut Steps<L>,
+    steps: &mut ReadCount<L>,
 ) -> Result<bool, Memory>
     requires kept { IsKept seen.now cells.now }
     ensures value { ShowsEach seen.now

@@ -23,7 +23,7 @@ use crate::pages::{begin_standings, end_standings};
 use crate::places::rank_of;
 use crate::scores::{last_behind, net};
 use classic_leagues::League;
-use fpl_base::{EntryId, Gw, LeagueId, Memory, Steps};
+use fpl_base::{EntryId, Gw, LeagueId, Memory, ReadCount};
 use head_to_head::{opponent, opponent_is_the_one, result};
 use json::Writer;
 use json_members::{write_count, write_integer, write_text};
@@ -47,7 +47,7 @@ fn average<L: Ledger>(
     cells: &SeenCells<L>,
     league: LeagueId,
     gameweek: Gw,
-    steps: &mut Steps<L>,
+    steps: &mut ReadCount<L>,
 ) -> i32
     ensures value { (b : SeasonFacts) → AreEvaluated b cells.now
         → is_live b (Node.Average league gameweek) ≡ true
@@ -68,7 +68,7 @@ fn points_against<L: Ledger>(
     league: &League,
     place: usize,
     last: Gw,
-    steps: &mut Steps<L>,
+    steps: &mut ReadCount<L>,
 ) -> i32
     requires kept { IsKept seen.now cells.now }
     requires there { entry_in seen.now.leagues id ≡ Some league.now }
@@ -102,7 +102,7 @@ fn standing_before<L: Ledger>(
     league: &League,
     row: &(EntryId, HeadScore),
     last: Gw,
-    steps: &mut Steps<L>,
+    steps: &mut ReadCount<L>,
 ) -> HeadStanding
     requires kept { IsKept seen.now cells.now }
     requires there { entry_in seen.now.leagues id ≡ Some league.now }
@@ -137,7 +137,7 @@ pub fn last_ranks<L: Ledger>(
     id: LeagueId,
     league: &League,
     rows: &[(EntryId, HeadScore)],
-    steps: &mut Steps<L>,
+    steps: &mut ReadCount<L>,
 ) -> Result<Vec<u32>, Memory>
     requires kept { IsKept seen.now cells.now }
     requires there { entry_in seen.now.leagues id ≡ Some league.now }
@@ -238,7 +238,7 @@ fn write_standings<L: Ledger>(
     cells: &SeenCells<L>,
     id: LeagueId,
     league: &League,
-    steps: &mut Steps<L>,
+    steps: &mut ReadCount<L>,
 ) -> Result<(), Memory>
     requires kept { IsKept seen.now cells.now }
     requires there { entry_in seen.now.leagues id ≡ Some league.now }
@@ -271,7 +271,7 @@ pub fn write_head_standings<L: Ledger>(
     seen: &Seen<L>,
     cells: &SeenCells<L>,
     number: u32,
-    steps: &mut Steps<L>,
+    steps: &mut ReadCount<L>,
 ) -> Result<bool, Memory>
     requires kept { IsKept seen.now cells.now }
     ensures value { ShowsEach seen.now

@@ -7,7 +7,7 @@ ghost use Rattle.season_book.specs.LeagueViews.{history_of, net_in};
 ghost use Rattle.season_views.specs.Seen.{IsKept, OfEachSeen};
 ghost use Rattle.season_book.specs.ClassicStandings.{last_points};
 
-use fpl_base::{EntryId, Gw, Steps};
+use fpl_base::{EntryId, Gw, ReadCount};
 use rule_book::TeamScore;
 use season_ledger::rows_tell;
 use season_views::{Seen, SeenCells, score_held};
@@ -43,7 +43,7 @@ pub fn score<L: Ledger>(
     cells: &SeenCells<L>,
     entry: EntryId,
     gameweek: Gw,
-    steps: &mut Steps<L>,
+    steps: &mut ReadCount<L>,
 ) -> Option<TeamScore>
     requires kept { IsKept seen.now cells.now }
     requires locked { gameweek ≤ seen.now.facts.calendar.locked }
@@ -65,7 +65,7 @@ pub(crate) fn net<L: Ledger>(
     cells: &SeenCells<L>,
     entry: EntryId,
     gameweek: Gw,
-    steps: &mut Steps<L>,
+    steps: &mut ReadCount<L>,
 ) -> i32
     requires kept { IsKept seen.now cells.now }
     requires locked { gameweek ≤ seen.now.facts.calendar.locked }
@@ -84,7 +84,7 @@ pub(crate) fn last_points<L: Ledger>(
     seen: &Seen<L>,
     cells: &SeenCells<L>,
     entry: EntryId,
-    steps: &mut Steps<L>,
+    steps: &mut ReadCount<L>,
 ) -> i32
     requires kept { IsKept seen.now cells.now }
     ensures value { OfEachSeen seen.now

@@ -1,6 +1,6 @@
 pub mod Counted
 pub mod OneEleven
-pub mod Steps
+pub mod ReadCount
 pub mod Standers
 pub mod Legal
 pub mod Enough

@@ -1,7 +1,7 @@
 use Rattle.std.proofs.Common.{◌≡◌, ◌∙◌, ◌+◌, drop, ap, arith, of_z, refl, rules, sym, to_z, w32}
 use Rattle.std.proofs.lemmas.List.{drop_all}
-use Rattle.fpl_asking.proofs.AskingLemmas.{rose_behind}
-use Rattle.fpl_desk.specs.Kept.{Kept}
+use Rattle.local_requests.proofs.AskingLemmas.{rose_behind}
+use Rattle.request_handler.specs.Kept.{Kept}
 use Rattle.fpl_drafting.specs.Drafting.{points_told}
 use Rattle.fpl_drafting.proofs.StepLemmas.{fresh_shown, next_of, rose_from, rose_since}
 use Rattle.fpl_drafting.proofs.TellLemmas.{asked_end, asked_more, asked_out, asked_start, asked_stop, went_well}

@@ -1,5 +1,5 @@
 use Rattle.std.proofs.Common.{◌≡◌, ◌≤◌, drop, false}
-use Rattle.fpl_desk.specs.Kept.{Leads}
+use Rattle.request_handler.specs.Kept.{Leads}
 use Rattle.fpl_drafting.proofs.TellLemmas.{IsAsked}
 use Rattle.fpl_drafting.proofs.scoring.points_asked.Given as goal
 

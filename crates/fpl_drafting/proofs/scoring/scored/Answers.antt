@@ -1,7 +1,7 @@
 use Rattle.std.proofs.Common.{List, Option, ap, subst, ℕ}
-use Rattle.fpl_asking.specs.Printing.{PrintsOne}
+use Rattle.local_requests.specs.Printing.{PrintsOne}
 use Rattle.fpl_base.specs.Causes.{Rose}
-use Rattle.fpl_desk.specs.Kept.{Kept}
+use Rattle.request_handler.specs.Kept.{Kept}
 use Rattle.draft_sheet.specs.Totals.{IsTableText}
 use Rattle.draft_sheet.specs.declared.totals.Told.{Told}
 use Rattle.fpl_drafting.proofs.StepLemmas.{rose_from}

@@ -1,6 +1,6 @@
 use Rattle.std.proofs.Common.{refl, sym}
-use Rattle.fpl_asking.proofs.AskingLemmas.{rose_behind}
-use Rattle.fpl_desk.specs.Kept.{Kept}
+use Rattle.local_requests.proofs.AskingLemmas.{rose_behind}
+use Rattle.request_handler.specs.Kept.{Kept}
 use Rattle.fpl_drafting.specs.Drafting.{locked_in}
 use Rattle.fpl_drafting.proofs.StepLemmas.{fresh_shown, rose_since}
 use Rattle.fpl_drafting.proofs.TellLemmas.{season_not, season_shown}

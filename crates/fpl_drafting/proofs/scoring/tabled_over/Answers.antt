@@ -1,5 +1,5 @@
 use Rattle.std.proofs.Common.{◌∙◌}
-use Rattle.fpl_desk.specs.Kept.{Kept}
+use Rattle.request_handler.specs.Kept.{Kept}
 use Rattle.fpl_drafting.proofs.TellLemmas.{tabled_lacks, tabled_scored}
 use Rattle.fpl_drafting.proofs.scoring.tabled_over.Goals as goal
 

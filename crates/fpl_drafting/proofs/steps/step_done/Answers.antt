@@ -1,6 +1,6 @@
 use Rattle.std.proofs.Common.{sym}
 use Rattle.fpl_base.specs.declared.kinds.Position.TheVariants.{Keeper}
-use Rattle.fpl_desk.specs.Kept.{Kept}
+use Rattle.request_handler.specs.Kept.{Kept}
 use Rattle.fpl_drafting.proofs.StepLemmas.{step_alone}
 use Rattle.fpl_drafting.proofs.steps.step_done.Goals as goal
 

@@ -1,5 +1,5 @@
 use Rattle.std.proofs.Common.{◌≡◌, ◌≤◌, drop, false}
-use Rattle.fpl_desk.specs.Kept.{Leads}
+use Rattle.request_handler.specs.Kept.{Leads}
 use Rattle.fpl_dreaming.proofs.AskedLemmas.{On}
 use Rattle.fpl_dreaming.proofs.RowLists.{AreRowsOf}
 use Rattle.fpl_dreaming.proofs.dreaming.asked_on.Given as goal

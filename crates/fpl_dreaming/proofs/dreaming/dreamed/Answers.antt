@@ -1,5 +1,5 @@
 use Rattle.std.proofs.Common.{◌∙◌, refl, sym}
-use Rattle.fpl_desk.specs.Kept.{Kept}
+use Rattle.request_handler.specs.Kept.{Kept}
 use Rattle.fpl_dreaming.specs.Rows.{locked_in}
 use Rattle.fpl_dreaming.proofs.AskedLemmas.{fresh_shown, season_not, season_open, season_shown}
 use Rattle.fpl_dreaming.proofs.dreaming.dreamed.Goals as goal

@@ -1,5 +1,5 @@
 use Rattle.std.proofs.Common.{◌∙◌}
-use Rattle.fpl_desk.specs.Kept.{Kept}
+use Rattle.request_handler.specs.Kept.{Kept}
 use Rattle.fpl_dreaming.proofs.AskedLemmas.{dream_lacks, dream_of_players}
 use Rattle.fpl_dreaming.proofs.dreaming.dreamed_in.Goals as goal
 

@@ -1,6 +1,6 @@
 use Rattle.std.proofs.Common.{refl, sym}
-use Rattle.fpl_desk.specs.Kept.{Kept}
-use Rattle.fpl_asking.proofs.AskingLemmas.{rose_behind}
+use Rattle.request_handler.specs.Kept.{Kept}
+use Rattle.local_requests.proofs.AskingLemmas.{rose_behind}
 use Rattle.fpl_dreaming.specs.Rows.{position_in}
 use Rattle.fpl_dreaming.proofs.AskedLemmas.{fresh_shown, player_not, player_shown}
 use Rattle.fpl_dreaming.proofs.rows.ask_row.Goals as goal

@@ -4,7 +4,7 @@ use Rattle.std.proofs.lemmas.List.{drop_all}
 use Rattle.event_sheet.specs.Rows.{AreDoable, IsDoable}
 use Rattle.event_sheet.specs.declared.row.EventRow.{EventRow}
 use Rattle.match_events.specs.Sheets.{Sheet}
-use Rattle.fpl_desk.specs.Kept.{Kept}
+use Rattle.request_handler.specs.Kept.{Kept}
 use Rattle.fpl_events.specs.Playing.{bare_sheet}
 use Rattle.fpl_events.proofs.PlayingLemmas.{going_end, going_more, going_start, going_stop}
 use Rattle.fpl_events.proofs.SendingLemmas.{next_of, rose_from, rose_since}

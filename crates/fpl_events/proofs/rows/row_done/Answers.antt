@@ -1,4 +1,4 @@
-use Rattle.fpl_desk.specs.Kept.{Kept}
+use Rattle.request_handler.specs.Kept.{Kept}
 use Rattle.fpl_events.proofs.PlayingLemmas.{row_inserts, row_removes, row_sends}
 use Rattle.fpl_events.proofs.rows.row_done.Goals as goal
 

@@ -1,5 +1,5 @@
 use Rattle.std.proofs.Common.{◌∙◌, ap}
-use Rattle.fpl_desk.specs.Kept.{Kept}
+use Rattle.request_handler.specs.Kept.{Kept}
 use Rattle.fpl_events.specs.Sending.{next_number}
 use Rattle.fpl_events.proofs.SendingLemmas.{heard_next}
 use Rattle.fpl_events.proofs.sending.ask_next.Goals as goal

@@ -1,6 +1,6 @@
 use Rattle.std.proofs.Common.{◌≡◌, ℕ, refl}
 use Rattle.std.specs.Prelude.{Err, Ok, Result}
-use Rattle.fpl_desk.specs.Kept.{Kept}
+use Rattle.request_handler.specs.Kept.{Kept}
 use Rattle.fpl_events.proofs.SendingLemmas.{all_sent}
 use Rattle.fpl_events.proofs.sending.send_all.Goals as goal
 

@@ -1,4 +1,4 @@
-use Rattle.fpl_desk.specs.Kept.{Kept}
+use Rattle.request_handler.specs.Kept.{Kept}
 use Rattle.fpl_events.proofs.SendingLemmas.{changed_lacks, changed_sent}
 use Rattle.fpl_events.proofs.sending.send_changed.Goals as goal
 

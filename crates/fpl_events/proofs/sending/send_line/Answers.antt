@@ -1,5 +1,5 @@
 use Rattle.std.proofs.Common.{◌∙◌, sym}
-use Rattle.fpl_desk.specs.Kept.{Kept}
+use Rattle.request_handler.specs.Kept.{Kept}
 use Rattle.fpl_events.proofs.SendingLemmas.{line_done, line_ends}
 use Rattle.fpl_events.proofs.sending.send_line.Goals as goal
 

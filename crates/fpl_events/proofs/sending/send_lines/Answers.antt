@@ -1,6 +1,6 @@
 use Rattle.std.proofs.Common.{◌<◌, ◌+◌, ◌∙◌, drop, length, ap, arith, refl}
 use Rattle.std.proofs.lemmas.List.{drop_all}
-use Rattle.fpl_desk.specs.Kept.{Kept}
+use Rattle.request_handler.specs.Kept.{Kept}
 use Rattle.fpl_events.proofs.SendingLemmas.{next_of, rose_from, rose_since, sending_end, sending_more, sending_start, sending_stop}
 use Rattle.fpl_events.proofs.sending.send_lines.Goals as goal
 

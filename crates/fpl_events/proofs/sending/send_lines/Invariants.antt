@@ -1,5 +1,5 @@
 use Rattle.std.proofs.Common.{◌≡◌, ◌≤◌, drop, false}
-use Rattle.fpl_desk.specs.Kept.{Leads}
+use Rattle.request_handler.specs.Kept.{Leads}
 use Rattle.fpl_events.proofs.SendingLemmas.{IsSending}
 use Rattle.fpl_events.proofs.sending.send_lines.Given as goal
 

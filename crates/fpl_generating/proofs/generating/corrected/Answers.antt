@@ -1,5 +1,5 @@
 use Rattle.std.proofs.Common.{ap}
-use Rattle.fpl_desk.specs.Kept.{Kept}
+use Rattle.request_handler.specs.Kept.{Kept}
 use Rattle.fpl_generating.proofs.CourseLemmas.{corrected_end, corrected_stop, rose_from}
 use Rattle.fpl_generating.proofs.generating.corrected.Goals as goal
 

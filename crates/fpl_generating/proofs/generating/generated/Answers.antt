@@ -1,5 +1,5 @@
 use Rattle.std.proofs.Common.{ap}
-use Rattle.fpl_desk.specs.Kept.{Kept}
+use Rattle.request_handler.specs.Kept.{Kept}
 use Rattle.fpl_generating.proofs.CourseLemmas.{rose_behind, rose_from, season_end, season_stop}
 use Rattle.fpl_generating.proofs.generating.generated.Goals as goal
 

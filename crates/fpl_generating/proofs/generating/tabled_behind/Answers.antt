@@ -1,5 +1,5 @@
 use Rattle.std.proofs.Common.{◌≡◌, ◌∙◌, ◌-◌, ℕ, ap, rules, subst, sym, Err, Result}
-use Rattle.fpl_desk.specs.Kept.{Kept, Leads}
+use Rattle.request_handler.specs.Kept.{Kept, Leads}
 use Rattle.fpl_generating.specs.Generating.{TabledBehind}
 use Rattle.fpl_generating.specs.declared.table.Table.{Table}
 use Rattle.fpl_generating.proofs.CourseLemmas.{rose_behind, rose_from, table_behind, table_stop}

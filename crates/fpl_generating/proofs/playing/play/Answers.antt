@@ -1,6 +1,6 @@
 use Rattle.std.proofs.Common.{◌≡◌, ◌∙◌, ◌-◌, ◌+◌, ℕ, suc, ap, arith, refl, rules, subst, sym}
 use Rattle.std.specs.Prelude.{Ok, Err, Result}
-use Rattle.fpl_desk.specs.Kept.{Kept, Leads}
+use Rattle.request_handler.specs.Kept.{Kept, Leads}
 use Rattle.fpl_generating.specs.Generating.{PlaysOn}
 use Rattle.fpl_generating.proofs.CourseLemmas.{played_as, rose_behind, rose_from, underway_end, underway_more, underway_start, underway_stop}
 use Rattle.fpl_generating.proofs.playing.play.Goals as goal

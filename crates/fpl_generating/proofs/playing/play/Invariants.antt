@@ -1,6 +1,6 @@
 use Rattle.std.proofs.Common.{◌≡◌, ◌≤◌, ◌-◌, false, Option}
 use Rattle.fpl_base.specs.Moments.{Moments}
-use Rattle.fpl_desk.specs.Kept.{Leads}
+use Rattle.request_handler.specs.Kept.{Leads}
 use Rattle.fpl_generating.proofs.CourseLemmas.{IsUnderway}
 use Rattle.fpl_generating.proofs.playing.play.Given as goal
 

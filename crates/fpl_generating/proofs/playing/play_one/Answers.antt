@@ -1,5 +1,5 @@
 use Rattle.std.proofs.Common.{◌∙◌, sym}
-use Rattle.fpl_desk.specs.Kept.{Kept}
+use Rattle.request_handler.specs.Kept.{Kept}
 use Rattle.fpl_generating.proofs.CourseLemmas.{step_done, step_ends}
 use Rattle.fpl_generating.proofs.playing.play_one.Goals as goal
 

@@ -1,5 +1,5 @@
 use Rattle.std.proofs.Common.{sym}
-use Rattle.fpl_desk.specs.Kept.{Kept}
+use Rattle.request_handler.specs.Kept.{Kept}
 use Rattle.fpl_generating.proofs.CourseLemmas.{table_ends, table_told}
 use Rattle.fpl_generating.proofs.table.tabled.Goals as goal
 

@@ -1,6 +1,6 @@
 use Rattle.std.proofs.Common.{◌≡◌, ◌+◌, ◌≤◌, ◌<◌, ◌∙◌, arith, ap, refl, sym, subst}
-use Rattle.fpl_desk.specs.Kept.{Kept}
-use Rattle.fpl_asking.proofs.AskingLemmas.{rose_behind}
+use Rattle.request_handler.specs.Kept.{Kept}
+use Rattle.local_requests.proofs.AskingLemmas.{rose_behind}
 use Rattle.fpl_loading.specs.More.{is_done}
 use Rattle.fpl_loading.proofs.AddingLemmas.{added_done, added_none, added_not, fresh_if, lacking_is, told_keeper}
 use Rattle.fpl_loading.proofs.adding.add.Goals as goal

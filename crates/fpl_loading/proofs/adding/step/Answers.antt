@@ -1,5 +1,5 @@
 use Rattle.std.proofs.Common.{◌∙◌, refl, sym}
-use Rattle.fpl_desk.specs.Kept.{Kept}
+use Rattle.request_handler.specs.Kept.{Kept}
 use Rattle.fpl_loading.specs.Standing.{lacks}
 use Rattle.fpl_loading.proofs.AddingLemmas.{fresh_lacks, held_fresh, held_keeper, step_added, step_held}
 use Rattle.fpl_loading.proofs.adding.step.Goals as goal

@@ -4,9 +4,9 @@ use Rattle.std.specs.Vec.Iter.{into_iter_items}
 use Rattle.fpl_base.specs.Causes.{Rose}
 use Rattle.season_book.specs.Commands.{IsCommand}
 use Rattle.season_book.specs.declared.answer.Answer.{Answer}
-use Rattle.fpl_desk.specs.Kept.{Kept}
-use Rattle.fpl_asking.specs.Printing.{EndsBy}
-use Rattle.fpl_asking.proofs.AskingLemmas.{rose_behind}
+use Rattle.request_handler.specs.Kept.{Kept}
+use Rattle.local_requests.specs.Printing.{EndsBy}
+use Rattle.local_requests.proofs.AskingLemmas.{rose_behind}
 use Rattle.fpl_loading.proofs.LoadingLemmas.{fresh_behind, load_ends, load_goes, load_is, load_starts, load_stops, note_is, nothing_left, rose_since}
 use Rattle.fpl_loading.proofs.loading.loaded.Goals as goal
 

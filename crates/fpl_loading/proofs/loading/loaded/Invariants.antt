@@ -1,7 +1,7 @@
 use Rattle.std.proofs.Common.{◌≡◌, ◌+◌, ◌≤◌, length, false, All}
 use Rattle.std.specs.Vec.Iter.{into_iter_items}
 use Rattle.season_book.specs.Commands.{IsCommand}
-use Rattle.fpl_desk.specs.Kept.{Leads}
+use Rattle.request_handler.specs.Kept.{Leads}
 use Rattle.fpl_loading.proofs.LoadingLemmas.{On}
 use Rattle.fpl_loading.proofs.loading.loaded.Given as goal
 

@@ -1,4 +1,4 @@
-use Rattle.fpl_desk.specs.Kept.{Kept}
+use Rattle.request_handler.specs.Kept.{Kept}
 use Rattle.fpl_loading.proofs.AddingLemmas.{by_more, by_number}
 use Rattle.fpl_loading.proofs.more.loaded_by.Goals as goal
 

@@ -3,7 +3,7 @@ use Rattle.std.proofs.lemmas.List.Elements.{All-head, All-rest, All-same}
 use Rattle.std.specs.Vec.Iter.{into_iter_items}
 use Rattle.fpl_base.specs.Causes.{Rose}
 use Rattle.season_book.specs.Commands.{IsCommand}
-use Rattle.fpl_desk.specs.Kept.{Kept}
+use Rattle.request_handler.specs.Kept.{Kept}
 use Rattle.fpl_loading.specs.More.{StopsBy}
 use Rattle.fpl_loading.specs.declared.notes.Place.{Place}
 use Rattle.fpl_loading.proofs.LoadingLemmas.{nothing_left, rose_since}

@@ -1,6 +1,6 @@
 use Rattle.std.proofs.Common.{inl, inr, refl}
 use Rattle.fpl_loading.specs.More.{LoadsBy}
-use Rattle.fpl_desk.specs.Kept.{Kept}
+use Rattle.request_handler.specs.Kept.{Kept}
 use Rattle.fpl_requests.proofs.RequestLemmas.{asked_runs}
 use Rattle.fpl_requests.proofs.loads.load_all.Goals as goal
 

@@ -1,5 +1,5 @@
 use Rattle.std.proofs.Common.{inl, inr, refl}
-use Rattle.fpl_desk.specs.Kept.{Kept}
+use Rattle.request_handler.specs.Kept.{Kept}
 use Rattle.fpl_generating.specs.Generating.{IsGenerated}
 use Rattle.fpl_requests.proofs.RequestLemmas.{asked_runs}
 use Rattle.fpl_requests.proofs.requests.generate_as.Goals as goal

@@ -1,7 +1,7 @@
 use Rattle.std.proofs.Common.{inl, inr, refl, subst}
 use Rattle.season_book.specs.declared.request.View.{View}
-use Rattle.fpl_asking.specs.Printing.{IsReported}
-use Rattle.fpl_desk.specs.Kept.{Kept, Leads}
+use Rattle.local_requests.specs.Printing.{IsReported}
+use Rattle.request_handler.specs.Kept.{Kept, Leads}
 use Rattle.fpl_requests.proofs.RequestLemmas.{asked_runs}
 use Rattle.fpl_requests.specs.Requests.{view_of}
 use Rattle.fpl_requests.proofs.requests.report.Goals as goal

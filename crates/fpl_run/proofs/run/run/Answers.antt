@@ -1,7 +1,7 @@
 use Rattle.std.proofs.Common.{◌≡◌, Some, refl, subst}
-use Rattle.fpl_words.specs.Orders.{HasFewMembers, ordered}
-use Rattle.fpl_words.specs.declared.words.Words.{Words}
-use Rattle.fpl_words.specs.declared.words.Words.TheVariants as order
+use Rattle.command_line.specs.Orders.{HasFewMembers, ordered}
+use Rattle.command_line.specs.declared.words.Words.{Words}
+use Rattle.command_line.specs.declared.words.Words.TheVariants as order
 use Rattle.fpl_run.proofs.RunLemmas.{no_memory, not_read_ends, runs_as, runs_none, unread_statuses}
 use Rattle.fpl_run.proofs.run.run.Goals as goal
 

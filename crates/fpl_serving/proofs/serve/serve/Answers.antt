@@ -1,10 +1,10 @@
 use Rattle.std.proofs.Common.{List, Option, inl, inr, refl}
 use Rattle.fpl_http.specs.Stream.{Request}
-use Rattle.fpl_desk.specs.Looks.{Counted}
+use Rattle.request_handler.specs.Looks.{Counted}
 use Rattle.fpl_serving.specs.Looking.{LooksReadFew}
 use Rattle.fpl_serving.specs.Serve.{DoorState, HearOn, ServesOn, in_turn}
-use Rattle.fpl_replies.specs.Replying.{IsReplyUntil, Served}
-use Rattle.fpl_replies.specs.Whole.{IsKeptReply}
+use Rattle.reply_laws.specs.Replying.{IsReplyUntil, Served}
+use Rattle.reply_laws.specs.Whole.{IsKeptReply}
 use Rattle.fpl_serving.proofs.CourseLemmas.{runs_of}
 use Rattle.fpl_serving.proofs.LookingLemmas.{leads_looked}
 use Rattle.fpl_serving.proofs.ReadingLemmas.{counts_from, heard_few}

@@ -1,9 +1,9 @@
 use Rattle.std.proofs.Common.{rules, arith, ◌≡◌, ◌≢◌, ◌+◌, ◌-◌, suc, subst, Ok}
 use Rattle.fpl_session.specs.declared.ending.Ending.TheVariants as ends
-use Rattle.fpl_desk.specs.Kept.{Kept, LeadsAll}
-use Rattle.fpl_desk.specs.Looks.{Counted}
-use Rattle.fpl_replies.specs.Replying.{IsReplyUntil}
-use Rattle.fpl_replies.specs.Whole.{IsKeptReply}
+use Rattle.request_handler.specs.Kept.{Kept, LeadsAll}
+use Rattle.request_handler.specs.Looks.{Counted}
+use Rattle.reply_laws.specs.Replying.{IsReplyUntil}
+use Rattle.reply_laws.specs.Whole.{IsKeptReply}
 use Rattle.fpl_serving.specs.Serve.{DoorState, IsAskedOnce}
 use Rattle.fpl_serving.proofs.ReadingLemmas.{counting_end, counting_fail, counting_more, counting_stop}
 use Rattle.fpl_serving.proofs.ServeLemmas.{remain_more, underway_end, underway_fail, underway_more, underway_stop}

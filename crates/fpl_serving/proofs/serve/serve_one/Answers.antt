@@ -1,5 +1,5 @@
-use Rattle.fpl_desk.specs.Kept.{Kept}
-use Rattle.fpl_desk.specs.Looks.{Counted}
+use Rattle.request_handler.specs.Kept.{Kept}
+use Rattle.request_handler.specs.Looks.{Counted}
 use Rattle.fpl_serving.specs.Serve.{DoorState}
 use Rattle.fpl_serving.proofs.ReadingLemmas.{one_counted}
 use Rattle.fpl_serving.proofs.ServeLemmas.{one_visit}

@@ -1,4 +1,4 @@
-use Rattle.fpl_desk.specs.Looks.{Counted}
+use Rattle.request_handler.specs.Looks.{Counted}
 use Rattle.fpl_serving.proofs.talk.talk.Goals as goal
 
 pub returns-clause-leads : goal.returns-clause-leads

@@ -1,5 +1,5 @@
 use Rattle.std.proofs.Common.{◌≡◌, ◌∙◌}
-use Rattle.season_books.specs.LeagueRules.{members_of}
+use Rattle.store_validation.specs.LeagueRules.{members_of}
 use Rattle.leagues_restoring.proofs.OneLeague.{Parts, is_league_of}
 use Rattle.leagues_restoring.proofs.leagues.league_of.Goals as goal
 

@@ -1,0 +1,10 @@
+use Rattle.std.proofs.Common.{ap, ◌∙◌}
+use Rattle.clap.specs.declared.builder.arg.Arg.{Arg}
+use Rattle.command_line.proofs.OptionLemmas.{flag_is}
+use Rattle.command_line.proofs.options.flag.Goals as goal
+
+pub returns-clause-rule : goal.returns-clause-rule
+returns-clause-rule c = flag_is c.args.name c.new.result c.long.result c.action.result c.new.ensures.rule c.long.ensures c.action.ensures
+
+pub returns-clause-local : goal.returns-clause-local
+returns-clause-local c = ap (λ (a : Arg). a.global) c.action.ensures ∙ ap (λ (a : Arg). a.global) c.long.ensures ∙ c.new.ensures.optional.1

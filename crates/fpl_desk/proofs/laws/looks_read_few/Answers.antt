@@ -1,5 +1,0 @@
-use Rattle.fpl_desk.proofs.LookLemmas.{looks_read_few}
-use Rattle.fpl_desk.proofs.laws.looks_read_few.Goals as goal
-
-pub returns : goal.returns
-returns g c = looks_read_few _

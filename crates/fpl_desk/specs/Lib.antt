@@ -1,4 +1,0 @@
-pub mod Answered
-pub mod Desks
-pub mod Kept
-pub mod Looks

@@ -1,5 +1,0 @@
-use Rattle.fpl_replies.proofs.OnceFacts.{messages_act_once}
-use Rattle.fpl_replies.proofs.laws.messages_act_once.Goals as goal
-
-pub returns : goal.returns
-returns c = messages_act_once c.commands_act_once.ensures

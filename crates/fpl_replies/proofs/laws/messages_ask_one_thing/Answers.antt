@@ -1,5 +1,0 @@
-use Rattle.fpl_replies.proofs.OnceFacts.{one_asked}
-use Rattle.fpl_replies.proofs.laws.messages_ask_one_thing.Goals as goal
-
-pub returns : goal.returns
-returns c = one_asked c.targets_ask_one_thing.ensures

@@ -1,6 +1,0 @@
-use Rattle.std.proofs.Common.{length}
-use Rattle.fpl_shelves.proofs.memory.+found.Given as goal
-
--- there are fewer files behind the first
-abbrev pub decreases-found : goal.decreases-found
-decreases-found l = length l.files.now

@@ -1,5 +1,0 @@
-use Rattle.fpl_words.proofs.OptionLemmas.{one_more}
-use Rattle.fpl_words.proofs.options.with_options.Goals as goal
-
-pub loop-name-preserved : goal.loop-name-preserved
-loop-name-preserved c = one_more _ _ _ _ _ _ _ _ c.loop-name-test.true c.loop-name.invariant c.in_ok-command.ensures c.option.ensures.rule c.option.ensures.local

@@ -1,0 +1,4 @@
+pub mod Answered
+pub mod Handlers
+pub mod Kept
+pub mod Looks

@@ -1,8 +1,0 @@
-use Rattle.std.proofs.Common.{◌≡◌, take}
-use Rattle.std.specs.List.{All}
-use Rattle.season_batches.specs.Batches.{IsToldInRange, batch_by}
-use Rattle.season_batches.proofs.batches.batch_of.Given as goal
-
-abbrev pub invariant-slots : goal.invariant-slots
-invariant-slots l =
-    (l.ops.items ≡ batch_by l.running l.lasts (take l.slot-index l.slots)) × All (IsToldInRange l.running l.lasts) (take l.slot-index l.slots)

@@ -1,9 +1,0 @@
-use Rattle.std.proofs.Common.{◌<◌, ◌++◌, [], ◌∷◌, ◌∙◌, List, ℕ, length, arith, ap}
-use Rattle.season_batches.proofs.Found.{next_taken}
-use Rattle.season_batches.proofs.facts.deadlines_of.Goals as goal
-
-pub gameweeks-preserved : goal.gameweeks-preserved
-gameweeks-preserved c =
-    let within : c.gameweeks.place < length c.args.calendar.now.deadlines = omega (arith, c.gameweeks-test.true, c.gameweeks-place-end.ensures.value) in
-    c.in_ok-push.ensures.ok ∙ ap (λ (l : List ℕ). l ++ c.deadline_at.result ∷ []) c.gameweeks.invariant
-    ∙ next_taken c.args.calendar.now.deadlines c.gameweeks.place c.deadline_at.result within c.deadline_at.ensures

@@ -1,7 +1,0 @@
-use Rattle.std.proofs.Common.{◌≡◌, ◌++◌, take, map}
-use Rattle.season_book.specs.Commands.{club_ids}
-use Rattle.record_codec.specs.declared.slot.Slot.TheVariants as slot
-use Rattle.season_batches.proofs.listing.add_clubs.Given as goal
-
-abbrev pub invariant-clubs : goal.invariant-clubs
-invariant-clubs l = l.slots.items ≡ l.fn.slots.items ++ map slot.Club (club_ids (take l.club-index l.fn.clubs))

@@ -1,7 +1,0 @@
-use Rattle.std.proofs.Common.{◌≡◌, ◌++◌, take, map}
-use Rattle.rule_book.specs.MatchFacts.{players_in}
-use Rattle.record_codec.specs.declared.slot.Slot.TheVariants as slot
-use Rattle.season_batches.proofs.listing.add_lines.Given as goal
-
-abbrev pub invariant-lines : goal.invariant-lines
-invariant-lines l = l.slots.items ≡ l.fn.slots.items ++ map (slot.Line l.fn.fixture) (players_in (take l.line-index l.fn.lines))

@@ -1,8 +1,0 @@
-use Rattle.std.proofs.Common.{◌≡◌, ◌≤◌, ◌++◌, ◌-◌, map}
-use Rattle.std.specs.List.{range_with_len}
-use Rattle.record_codec.specs.declared.slot.Slot.TheVariants as slot
-use Rattle.season_batches.proofs.listing.add_transfers.Given as goal
-
-abbrev pub invariant-numbers : goal.invariant-numbers
-invariant-numbers l =
-    (l.fn.first ≤ l.number) × (l.slots.items ≡ l.fn.slots.items ++ map (slot.Transfer l.fn.entry l.fn.gameweek) (range_with_len l.fn.first (l.number - l.fn.first)))

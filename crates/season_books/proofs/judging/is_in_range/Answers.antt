@@ -1,7 +1,0 @@
-use Rattle.std.proofs.Common.{◌∙◌, ap, sym}
-use Rattle.season_books.specs.Lawful.{is_in_range}
-use Rattle.season_books.proofs.Judged.{judged_ok}
-use Rattle.season_books.proofs.judging.is_in_range.Goals as goal
-
-pub returns-in-Line : goal.returns-in-Line
-returns-in-Line c = c.is_ok.ensures.value ∙ (judged_ok _ c.line_ok.result c.line_ok.ensures.judged ∙ sym (ap is_in_range c.in-Line.is))

@@ -1,6 +1,0 @@
-use Rattle.std.proofs.Common.{◌≡◌, drop}
-use Rattle.season_books.specs.TeamRules.{is_priced}
-use Rattle.season_books.proofs.team_rules.is_priced.Given as goal
-
-abbrev pub invariant-picks : goal.invariant-picks
-invariant-picks l = is_priced (drop l.pick-index l.picks) ≡ is_priced l.picks

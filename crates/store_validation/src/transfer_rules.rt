@@ -1,0 +1,144 @@
+// The rules on a transfer of an entry in a gameweek.
+ghost use Rattle.std.specs.Prelude.{◌≡◌, IfOk, is_some};
+ghost use Rattle.fpl_base.specs.Keeping.{map_of};
+ghost use Rattle.rule_book.specs.EntryCalls.{transfer_limit};
+ghost use Rattle.stored_records.specs.EntryTold.{sale_told};
+ghost use Rattle.stored_records.specs.SeasonRules.{terms_told};
+ghost use Rattle.store_validation.specs.TransferRules.{IsKnown, is_next_number, is_priced_sale, names_players, is_lawful_sale, term_told};
+
+use crate::team_rules::{is_price, makes_free};
+use fpl_base::{Chip, EntryId, Gw, Memory};
+use record_codec::Slot;
+use rule_book::Sale;
+use std::alloc::Global;
+use stored_records::{Stored, Terms, chip_in, first_of, is_first, is_in_time, sale_of, team_of};
+
+/// What an entry's gameweek says of its transfers: whether it may have some, and at most how many.
+#[derive(Clone, Copy)]
+pub(crate) struct Term {
+    pub(crate) entry: u32,
+    pub(crate) gameweek: u8,
+    pub(crate) open_to_transfers: bool,
+    pub(crate) most: u32,
+}
+
+/// What an entry's gameweek says of its transfers.
+pub(crate) fn term_of(
+    alloc: Global,
+    stored: &Stored,
+    terms: &Terms,
+    entry: EntryId,
+    gameweek: Gw,
+) -> Result<Term, Memory>
+    requires { terms.now ≡ terms_told (map_of stored.now) }
+    ensures { IfOk result (λ term. term ≡ term_told (map_of stored.now) entry gameweek) }
+{
+    let first = first_of(alloc, stored, entry.get())?;
+    let team = team_of(alloc, stored, entry, gameweek.get())?;
+    Ok(Term {
+        entry: entry.get(),
+        gameweek: gameweek.get(),
+        open_to_transfers: is_in_time(terms, first, gameweek) && team.is_some(),
+        most: transfer_limit(is_first(first, gameweek), chip_in(&team)),
+    })
+}
+
+/// The same, as it is known of this gameweek already or else is known from now on. Transfers stand by gameweek, so one is
+/// known at a time.
+pub(crate) fn known_term(
+    alloc: Global,
+    stored: &Stored,
+    terms: &Terms,
+    known: &mut Option<Term>,
+    entry: EntryId,
+    gameweek: Gw,
+) -> Result<Term, Memory>
+    requires terms { terms.now ≡ terms_told (map_of stored.now) }
+    requires known { IsKnown (map_of stored.now) known.old }
+    ensures term { IfOk result (λ term. term ≡ term_told (map_of stored.now) entry gameweek) }
+    ensures known { IsKnown (map_of stored.now) known.new }
+{
+    if let Some(term) = *known {
+        if term.entry == entry.get() && term.gameweek == gameweek.get() {
+            return Ok(term);
+        }
+    }
+    let term = term_of(alloc, stored, terms, entry, gameweek)?;
+    *known = Some(term);
+    Ok(term)
+}
+
+// So many transfers are made in a gameweek at most.
+fn transfer_limit(first: bool, chip: Chip) -> u32
+    ensures { result ≡ transfer_limit first chip }
+{
+    if first || makes_free(chip) { 1000 } else { 20 }
+}
+
+// Whether a number is 1, or the transfer before it is there.
+fn is_next_number(
+    alloc: Global,
+    stored: &Stored,
+    entry: EntryId,
+    gameweek: Gw,
+    number: u32,
+) -> Result<bool, Memory>
+    ensures { IfOk result
+        (λ next. next ≡ is_next_number (map_of stored.now) entry gameweek number) }
+{
+    if number < 2 {
+        return Ok(number == 1);
+    }
+    has_sale(alloc, stored, entry, gameweek, number - 1)
+}
+
+fn has_sale(
+    alloc: Global,
+    stored: &Stored,
+    entry: EntryId,
+    gameweek: Gw,
+    number: u32,
+) -> Result<bool, Memory>
+    ensures { IfOk result
+        (λ has. has ≡ is_some (sale_told (map_of stored.now) entry gameweek number)) }
+{
+    let sale = sale_of(alloc, stored, entry, gameweek, number)?;
+    Ok(sale.is_some())
+}
+
+// Whether who goes and who comes are there.
+fn names_players(stored: &Stored, sale: &Sale) -> bool
+    ensures { result ≡ names_players (map_of stored.now) sale.now }
+{
+    stored.has(Slot::Player(sale.out.get())) && stored.has(Slot::Player(sale.into.get()))
+}
+
+// Whether both prices can be.
+fn is_priced_sale(sale: &Sale) -> bool
+    ensures { result ≡ is_priced_sale sale.now }
+{
+    is_price(sale.sold.get()) && is_price(sale.bought.get())
+}
+
+/// Whether a transfer is lawful, by what its gameweek says.
+pub(crate) fn is_lawful_sale(
+    alloc: Global,
+    stored: &Stored,
+    term: Term,
+    entry: EntryId,
+    gameweek: Gw,
+    number: u32,
+    sale: &Sale,
+) -> Result<bool, Memory>
+    requires { term ≡ term_told (map_of stored.now) entry gameweek }
+    ensures { IfOk result (λ lawful.
+        lawful ≡ is_lawful_sale (map_of stored.now) entry gameweek number sale.now) }
+{
+    if !term.open_to_transfers || number > term.most {
+        return Ok(false);
+    }
+    if !is_next_number(alloc, stored, entry, gameweek, number)? {
+        return Ok(false);
+    }
+    Ok(names_players(stored, sale) && is_priced_sale(sale))
+}
