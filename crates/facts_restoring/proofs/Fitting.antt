@@ -37,7 +37,7 @@ use Rattle.facts_restoring.specs.Restored.{fixture_told, player_told, with_rows}
 use Rattle.facts_restoring.proofs.Room.{AddsOne, all_kept, at_is_fixture, count_front, counted, fixture_from, fixtures_add, fixtures_at, fixtures_at_add, fixtures_of, is_fixture, is_fixture_at, is_line_of, is_player, kept_put, line_from, below_apart, lines_add, lines_count, none_front, player_from, players_add, players_of, tells}
 use Rattle.facts_restoring.proofs.Rows.{IsSpelled, Rise, Row, earlier_apart, told_after}
 use Rattle.facts_restoring.proofs.Slots.{own_key}
-use Rattle.facts_restoring.proofs.ReadCount.{is_of_facts}
+use Rattle.facts_restoring.proofs.Steps.{is_of_facts}
 
 pub none_of : {A : Type 0} (o : Option A) → is_some o ≡ false → o ≡ None
 none_of None e = refl

@@ -4,6 +4,6 @@ mod Room
 mod Rows
 mod Slots
 mod Sound
-mod ReadCount
+mod Steps
 mod Told
 mod Whole

@@ -19,7 +19,7 @@ use Rattle.stored_records.specs.Stored.{Rows, told}
 use Rattle.season_records.specs.Records.{told_in}
 use Rattle.facts_restoring.specs.Restored.{with_item, with_row, with_rows, with_spelled}
 use Rattle.facts_restoring.proofs.Slots.{own_key}
-use Rattle.facts_restoring.proofs.ReadCount.{is_of_facts, keeps_others, keeps_season, tells_own}
+use Rattle.facts_restoring.proofs.Steps.{is_of_facts, keeps_others, keeps_season, tells_own}
 
 abbrev pub Row : Type 0
 Row = RecordKey × List ℕ

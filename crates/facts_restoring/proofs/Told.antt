@@ -32,7 +32,7 @@ use Rattle.facts_restoring.proofs.Fitting.{each_taken, fixture_fits, line_fits, 
 use Rattle.facts_restoring.proofs.Rows.{IsSpelled, Row, rise_of, season_after, told_after}
 use Rattle.facts_restoring.proofs.Slots.{HasIds, own_key}
 use Rattle.facts_restoring.proofs.Sound.{IsSound, all_spelled, first_is_season, season_of, sound_at, sounds, told_there}
-use Rattle.facts_restoring.proofs.ReadCount.{is_of_facts}
+use Rattle.facts_restoring.proofs.Steps.{is_of_facts}
 use Rattle.facts_restoring.proofs.Whole.{AreWhole, DoesSuit, Suits, facts_whole, order_whole, whole_begun, whole_rows}
 
 -- What the season's record says.

@@ -22,7 +22,7 @@ use Rattle.draft_league.specs.Rules.{IsJudged}
 use Rattle.draft_league.specs.declared.rule.DraftRefused.{DraftRefused}
 use Rattle.draft_league.specs.declared.rule.DraftRefused.TheVariants as refused
 use Rattle.draft_sheet.specs.declared.row.DraftRow.{DraftRow}
-use Rattle.fpl_drafting.specs.ReadCount.{DoesAs, IsDone, IsStep, StepsOn, StopsBy, asked_of, position_in, refusal_of}
+use Rattle.fpl_drafting.specs.Steps.{DoesAs, IsDone, IsStep, StepsOn, StopsBy, asked_of, position_in, refusal_of}
 
 -- a count that rose later rose since
 pub rose_since : (before between now : ℕ) → before ≤ between → Rose between now → Rose before now
@@ -72,21 +72,21 @@ IsUnderway rows start before number left league old mid =
     (after : Option (List ℕ)) (gave : Result League ℕ) (new : Served) → StepsOn number left league before after gave mid new → StepsOn 1 rows start before after gave old new
 
 -- a row, by whom it asks
-abbrev ReadCount : ℕ → DraftRow → League → Option (List ℕ) → Option (List ℕ) → Result League ℕ → Served → Served → Option ℕ → Type 0
-ReadCount number row league before after gave old new o =
+abbrev Steps : ℕ → DraftRow → League → Option (List ℕ) → Option (List ℕ) → Result League ℕ → Served → Served → Option ℕ → Type 0
+Steps number row league before after gave old new o =
     MatchOption o ((position : Position) × IsDone number row position league before after gave × (new ≡ old))
     (λ player. (told : Answer) × IsHeard old caller.Operator (request.View (view.Player player)) told new × DoesAs told number row league before after gave)
 
 asks_none : (number : ℕ) (row : DraftRow) (position : Position) (league : League) (before after : Option (List ℕ)) (gave : Result League ℕ) (served : Served)
     → asked_of row ≡ None → IsDone number row position league before after gave → IsStep number row league before after gave served served
 asks_none number row position league before after gave served none done =
-    subst (λ (o : Option ℕ). ReadCount number row league before after gave served served o) (sym none) (position, done, refl)
+    subst (λ (o : Option ℕ). Steps number row league before after gave served served o) (sym none) (position, done, refl)
 
 asks_one : (number : ℕ) (row : DraftRow) (player : ℕ) (told : Answer) (league : League) (before after : Option (List ℕ)) (gave : Result League ℕ) (old new : Served)
     → asked_of row ≡ Some player → IsHeard old caller.Operator (request.View (view.Player player)) told new → DoesAs told number row league before after gave
     → IsStep number row league before after gave old new
 asks_one number row player told league before after gave old new one heard does =
-    subst (λ (o : Option ℕ). ReadCount number row league before after gave old new o) (sym one) (told, heard, does)
+    subst (λ (o : Option ℕ). Steps number row league before after gave old new o) (sym one) (told, heard, does)
 
 -- what becomes of a row, by the position that is told
 abbrev Does : Answer → ℕ → DraftRow → League → Option (List ℕ) → Option (List ℕ) → Result League ℕ → Option Position → Type 0

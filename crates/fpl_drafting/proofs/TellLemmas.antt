@@ -20,7 +20,7 @@ use Rattle.draft_sheet.specs.Totals.{IsTableText, asked_of_all}
 use Rattle.draft_sheet.specs.declared.row.DraftRow.{DraftRow}
 use Rattle.draft_sheet.specs.declared.totals.Told.{Told}
 use Rattle.fpl_drafting.specs.Drafting.{IsDrafted, IsScored, IsTabled, IsTabledOver, IsToldOf, PointsOn, locked_in, points_told, told_of}
-use Rattle.fpl_drafting.specs.ReadCount.{StepsOn}
+use Rattle.fpl_drafting.specs.Steps.{StepsOn}
 
 -- what was given went well
 pub went_well : {X E P : Type 0} (gave : Result X E) → is_err gave ≡ false → OnOk gave P → P

@@ -14,7 +14,7 @@ use Rattle.draft_sheet.specs.Texts.{outcomes_text, picks_text}
 use Rattle.draft_sheet.specs.Totals.{IsTableText, asked_of_all}
 use Rattle.draft_sheet.specs.declared.row.DraftRow.{DraftRow}
 use Rattle.draft_sheet.specs.declared.totals.Told.{Told}
-use Rattle.fpl_drafting.specs.ReadCount.{StepsOn}
+use Rattle.fpl_drafting.specs.Steps.{StepsOn}
 
 -- how many gameweeks are locked, by an answer that shows the season; no season has more than 38
 abbrev pub locked_in : Answer → Option ℕ

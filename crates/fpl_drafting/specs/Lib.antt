@@ -1,3 +1,3 @@
 pub mod Drafting
-pub mod ReadCount
+pub mod Steps
 pub mod Telling

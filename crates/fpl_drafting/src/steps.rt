@@ -8,7 +8,7 @@ ghost use Rattle.request_handler.specs.Kept.{Leads, kept_as};
 ghost use Rattle.draft_league.specs.Leagues.{picked};
 ghost use Rattle.draft_league.specs.Rules.{IsJudged, pick_refusal, waive_refusal};
 ghost use Rattle.draft_sheet.specs.Rows.{AreRowsOf, IsRowOf};
-ghost use Rattle.fpl_drafting.specs.ReadCount.{Changes, IsDone, IsStep, StepsOn, StopsBy, Waives, asked_of, position_in, refusal_of};
+ghost use Rattle.fpl_drafting.specs.Steps.{Changes, IsDone, IsStep, StepsOn, StopsBy, Waives, asked_of, position_in, refusal_of};
 
 use crate::telling::refused;
 use draft_league::{Draft, DraftRefused};

@@ -1,4 +1,4 @@
-// ReadCount of a made-up season, asked one after another.
+// Steps of a made-up season, asked one after another.
 ghost use Rattle.std.specs.Prelude.{◌≡◌, ◌≤◌, ◌<◌, ◌-◌, ◌^◌, ◌⊎◌, Err, IfErr, IfOk, OnOk, Option, Some, false};
 ghost use Rattle.fpl_base.specs.Causes.{Rose};
 ghost use Rattle.fpl_base.specs.Moments.{Moments};

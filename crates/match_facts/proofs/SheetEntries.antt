@@ -9,7 +9,7 @@ use Rattle.std.proofs.lemmas.Bool.Decides.{nat_tests}
 use Rattle.std.proofs.lemmas.List.{length-append}
 use Rattle.rule_book.specs.declared.line.Line.{Line}
 use Rattle.std.proofs.lemmas.Map.{keys-set_value}
-use Rattle.std.proofs.lemmas.Map.ReadCount.{set_value_same}
+use Rattle.std.proofs.lemmas.Map.Steps.{set_value_same}
 use Rattle.rule_book.specs.ById.{at_id, placed_at}
 use Rattle.rule_book.specs.MatchFacts.{Lines, with_line, by_player, Sheet, bare_sheet, tells_facts, MatchFacts, sheet_of, with_sheet}
 use Rattle.rule_book.specs.ById.{AreSorted}

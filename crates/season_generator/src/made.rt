@@ -47,7 +47,7 @@ impl MadeUpSeason {
         }
     }
 
-    /// The step of this number, from 0; `Ok(None)` behind the last. ReadCount may be asked for in any order; in theirs each
+    /// The step of this number, from 0; `Ok(None)` behind the last. Steps may be asked for in any order; in theirs each
     /// draw is made once.
     pub fn step(&mut self, alloc: Global, n: u32) -> Result<Option<Step>, Memory>
         ensures step { IfOk result (λ step. step ≡ step_of self.old n) }

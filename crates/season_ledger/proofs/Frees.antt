@@ -12,7 +12,7 @@ use Rattle.season_ledger.specs.declared.row.Row.{Row}
 use Rattle.season_ledger.specs.Rows.{Rise, AllAbove, row_at, chip_in, made_in, first_row, used_by, chip_by, is_past, free_by, free_in, cost_by, counted_by}
 use Rattle.season_ledger.proofs.Held.{RowsHold, Holds, Stands}
 use Rattle.season_ledger.proofs.Counts.{swaps_untouched}
-use Rattle.season_ledger.proofs.ReadCount.{nothing_done}
+use Rattle.season_ledger.proofs.Steps.{nothing_done}
 use Rattle.season_ledger.proofs.Legality.{headed}
 use Rattle.season_ledger.proofs.Carry.{chip_untouched, row_there}
 

@@ -8,7 +8,7 @@ pub mod Counting
 pub mod Ledger
 pub mod Legality
 pub mod Carry
-pub mod ReadCount
+pub mod Steps
 pub mod Places
 pub mod Chips
 pub mod Frees

@@ -13,7 +13,7 @@ use Rattle.season_ledger.specs.Rows.{row_at, base_at, or_else, put_row, carried,
 use Rattle.season_ledger.specs.Stands.{IsPlaced, Tells, StandsFor}
 use Rattle.season_ledger.proofs.Held.{IsHeld, Holds, Stands, StandingHeld}
 use Rattle.season_ledger.proofs.Carry.{base_some}
-use Rattle.season_ledger.proofs.ReadCount.{row_at-put}
+use Rattle.season_ledger.proofs.Steps.{row_at-put}
 
 -- holdings with positions put on
 placed : (ℕ → Position) → List Holding → List Pick

@@ -26,7 +26,7 @@ use Rattle.season_ledger.proofs.Carry.{base_some, standing_told}
 use Rattle.season_ledger.proofs.Frees.{chip_is, used_is, past_told, first_is, free_in_told, cost_told, counted_told}
 use Rattle.season_ledger.proofs.Chips.{among_agree}
 use Rattle.season_ledger.proofs.Places.{place_there}
-use Rattle.season_ledger.proofs.ReadCount.{rise-put, transferred, lined_up, played, cancelled, registered, nothing_done, team_balances}
+use Rattle.season_ledger.proofs.Steps.{rise-put, transferred, lined_up, played, cancelled, registered, nothing_done, team_balances}
 use Rattle.season_ledger.proofs.Placed.{stands, stands_for, rows_placed, placed_put, standing_placed, told_up}
 
 -- the rows stay in order

@@ -35,7 +35,7 @@ use Rattle.season_ledger.proofs.Carry.{standing_told}
 use Rattle.season_ledger.proofs.Held.{IsHeld, StandingHeld}
 use Rattle.season_ledger.proofs.Placed.{stands, up}
 use Rattle.season_ledger.proofs.Season.{balances_for, rows_tell, standing_for}
-use Rattle.season_ledger.proofs.ReadCount.{none_after, team_after_batch}
+use Rattle.season_ledger.proofs.Steps.{none_after, team_after_batch}
 use Rattle.manager_book.specs.declared.manager.Manager.{Manager}
 use Rattle.manager_book.specs.Managers.{Managers, season_of}
 use Rattle.manager_book.proofs.Batched.{all_placed, batch_on, placed_all}

@@ -21,7 +21,7 @@ use Rattle.rule_book.specs.Elevens.{is_used, is_legal_eleven, has_enough_in, Has
 use Rattle.team_scoring.specs.Ones.{one_if}
 use Rattle.team_scoring.proofs.Counted.{starters_at, starter_from, swapped}
 use Rattle.team_scoring.proofs.Standers.{Stands, stands, keeper_stands, stander}
-use Rattle.team_scoring.proofs.ReadCount.{used_no, used_yes, not_same}
+use Rattle.team_scoring.proofs.Steps.{used_no, used_yes, not_same}
 use Rattle.team_scoring.proofs.Legal.{keeper_is_no_other, not_defender, not_midfielder, not_forward}
 
 abbrev used_by : (ℕ → Bool) → Bool → Bool → Bool → ℕ

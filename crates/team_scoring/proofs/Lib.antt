@@ -1,6 +1,6 @@
 pub mod Counted
 pub mod OneEleven
-pub mod ReadCount
+pub mod Steps
 pub mod Standers
 pub mod Legal
 pub mod Enough

@@ -1,7 +1,7 @@
 use Rattle.std.proofs.Common.{refl, sym}
 use Rattle.std.specs.Prelude.{Err}
 use Rattle.request_handler.specs.Kept.{Kept}
-use Rattle.fpl_drafting.specs.ReadCount.{position_in}
+use Rattle.fpl_drafting.specs.Steps.{position_in}
 use Rattle.fpl_drafting.proofs.StepLemmas.{does_by, ends_by, fresh_shown, step_heard, then_ok}
 use Rattle.fpl_drafting.proofs.steps.step_asked.Goals as goal
 

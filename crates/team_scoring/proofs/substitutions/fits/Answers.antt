@@ -1,5 +1,5 @@
 use Rattle.std.proofs.Common.{◌∙◌}
-use Rattle.team_scoring.proofs.ReadCount.{counts_own, legal_when}
+use Rattle.team_scoring.proofs.Steps.{counts_own, legal_when}
 use Rattle.team_scoring.proofs.substitutions.fits.Goals as goal
 
 pub after-counts-requires-clause-counted : goal.after-counts-requires-clause-counted

@@ -1,5 +1,5 @@
 use Rattle.std.proofs.Common.{sym, ◌∙◌}
-use Rattle.team_scoring.proofs.ReadCount.{stays_on, counts_own, present_settles, alone_settles, replaced_on}
+use Rattle.team_scoring.proofs.Steps.{stays_on, counts_own, present_settles, alone_settles, replaced_on}
 use Rattle.team_scoring.proofs.substitutions.settle.Goals as goal
 
 pub returns-then-played : goal.returns-then-played

@@ -1,5 +1,5 @@
 use Rattle.std.proofs.Common.{sym, ◌∙◌}
-use Rattle.team_scoring.proofs.ReadCount.{stand_when}
+use Rattle.team_scoring.proofs.Steps.{stand_when}
 use Rattle.team_scoring.proofs.substitutions.stands.Goals as goal
 
 pub returns : goal.returns
