@@ -19,8 +19,8 @@ ghost use Rattle.bootstrap_window.specs.Tables.{AllSmall, AreSmall, Sums, told, 
 
 use crate::totals::{Totals, no_totals, with_line};
 use fpl_base::{FixtureId, PlayerId, Position, Profile, ReadCount};
-use line_scoring::{bps, line_points};
 use rule_book::{Fixture, Line};
+use scoring::{bps, line_points};
 use season_graph::lines_are_told;
 use season_rules::bonus_among;
 use season_views::{Seen, SeenCells, bonuses_held};

@@ -38,8 +38,8 @@ use Rattle.store_validation.specs.TeamRules.{has_players, is_distinct, is_lined_
 use Rattle.store_validation.proofs.EntriesJudged.{judged_lawful, judged_restored, nothing_broken, team_has}
 use Rattle.store_validation.proofs.Lawful.{gapless}
 use Rattle.season_records.specs.Records.{player_item, team_item, transfer_item}
-use Rattle.season_rows.specs.Ordered.{IsManagerInOrder, IsRowInOrder}
-use Rattle.season_rows.specs.RowsTold.{manager_item, team_by, transfer_by}
+use Rattle.record_changes.specs.Ordered.{IsManagerInOrder, IsRowInOrder}
+use Rattle.record_changes.specs.RowsTold.{manager_item, team_by, transfer_by}
 use Rattle.entries_restoring.specs.Restoring.{ArePlayersTold, HasBank, HaveBanks, IsRestored, IsTold, entry_sales_told, pick_placed, placed, team_of, team_placed, teams_told}
 use Rattle.entries_restoring.proofs.Numbers.{found_of, no_number_before, number_found, numbered_sales, numbers_rise, without_numbers}
 use Rattle.entries_restoring.proofs.Through.{each_team, no_sales_before, none_before, sales_found, team_found, teams_rise}

@@ -25,8 +25,8 @@ use Rattle.store_validation.proofs.Lawful.{lawful_at, lawful_sale_at}
 use Rattle.season_entries.specs.Deeds.{AreInTime}
 use Rattle.season_entries.specs.EntryLaws.{AreEarly}
 use Rattle.season_records.specs.Records.{told_in}
-use Rattle.season_rows.specs.Ordered.{IsManagerInOrder}
-use Rattle.season_rows.specs.RowsTold.{manager_item, team_by, transfer_by}
+use Rattle.record_changes.specs.Ordered.{IsManagerInOrder}
+use Rattle.record_changes.specs.RowsTold.{manager_item, team_by, transfer_by}
 use Rattle.entries_restoring.specs.Restoring.{AreRestored, EndsAt, IsRestored}
 use Rattle.entries_restoring.proofs.Issued.{are_there, entry_pushed, none_behind, room, slice_there, told_shape}
 use Rattle.entries_restoring.proofs.Numbers.{entry_at}

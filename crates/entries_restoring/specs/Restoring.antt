@@ -22,8 +22,8 @@ use Rattle.stored_records.specs.Sequels.{sales_told}
 use Rattle.stored_records.specs.Stored.{told}
 use Rattle.season_records.specs.Records.{player_item}
 use Rattle.entries_restoring.specs.declared.managers.Parts.{Parts}
-use Rattle.season_rows.specs.Ordered.{IsManagerInOrder}
-use Rattle.season_rows.specs.RowsTold.{manager_item, team_by, transfer_by}
+use Rattle.record_changes.specs.Ordered.{IsManagerInOrder}
+use Rattle.record_changes.specs.RowsTold.{manager_item, team_by, transfer_by}
 
 -- players are those that records tell
 abbrev pub ArePlayersTold : List Player → Map → Type 0

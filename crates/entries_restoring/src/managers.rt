@@ -10,8 +10,8 @@ ghost use Rattle.stored_records.specs.Stored.{told};
 ghost use Rattle.store_validation.specs.Lawful.{judged};
 ghost use Rattle.season_entries.specs.EntryLaws.{AreEarly};
 ghost use Rattle.season_records.specs.Records.{told_in};
-ghost use Rattle.season_rows.specs.Ordered.{IsManagerInOrder};
-ghost use Rattle.season_rows.specs.RowsTold.{manager_item, team_by, transfer_by};
+ghost use Rattle.record_changes.specs.Ordered.{IsManagerInOrder};
+ghost use Rattle.record_changes.specs.RowsTold.{manager_item, team_by, transfer_by};
 ghost use Rattle.entries_restoring.specs.Restoring.{ArePlayersTold, AreRestored, EndsAt, HasIssued, IsTold, parts_of};
 
 use crate::entry_sales::sales_of;

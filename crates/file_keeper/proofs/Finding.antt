@@ -8,10 +8,10 @@ use Rattle.sqlite.specs.State.{State, HasCleanDisk, IsLive, Opens}
 use Rattle.fpl_base.specs.Keeping.{Map}
 use Rattle.season_keeper.specs.Holding.{HoldsMap, MayLeave, Tells}
 use Rattle.season_keeper.proofs.Keeping.{trees_one}
-use Rattle.path_keeper.specs.Filing.{BeginsWith, FirstIs}
+use Rattle.record_keepers.specs.Filing.{BeginsWith, FirstIs}
 use Rattle.file_keeper.specs.Opening.{CommittedTells, FilesTell, IsBegunBy, IsOpenedBy}
-use Rattle.path_keeper.specs.declared.opened.Opened.{Opened}
-use Rattle.path_keeper.specs.declared.opened.Opened.TheVariants.{First, Again}
+use Rattle.record_keepers.specs.declared.opened.Opened.{Opened}
+use Rattle.record_keepers.specs.declared.opened.Opened.TheVariants.{First, Again}
 
 told_by : (image : Image) (s : State) (m : Map) → Opens s → IsLive s → FindsIn image s → FilesTell image m → Tells s.committed m
 told_by image s m opens live finds tell = tell.each s.committed finds.reads (live opens.is_open).1

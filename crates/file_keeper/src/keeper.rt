@@ -7,7 +7,7 @@ ghost use Rattle.file_keeper.specs.Opening.{FilesTell};
 use crate::cause::Cause;
 use crate::opening::StoreFiles;
 use fpl_base::{Keeper, Text};
-use path_keeper::{PathKeeper, WithKeeper, work_over};
+use record_keepers::{PathKeeper, WithKeeper, work_over};
 use sqlite::{Start, Unknown};
 
 /// A keeper over the file of a path. `S` stands for what the file and its log held before it was opened, which no code can

@@ -13,7 +13,7 @@ ghost use Rattle.file_keeper.specs.Opening.{CommittedTells, IsBegunBy, IsOpenedB
 use crate::cause::Cause;
 use crate::stored::StoredFile;
 use fpl_base::KeeperFault;
-use path_keeper::Opening;
+use record_keepers::Opening;
 use season_keeper::SqlKeeper;
 use sqlite::{Alter, Connection, Error, ErrorCode, File, FileFrom, Start};
 

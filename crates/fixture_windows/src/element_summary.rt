@@ -35,8 +35,8 @@ use json::Writer;
 use json_members::{
     write_count, write_count_or_null, write_integer, write_no_list, write_nothing, write_truth,
 };
-use line_scoring::{bps, line_points};
 use rule_book::{Fixture, Line, Player};
+use scoring::{bps, line_points};
 use season_rules::bonus_among;
 use season_views::{Seen, SeenCells};
 use std::alloc::{AllocError, Global};

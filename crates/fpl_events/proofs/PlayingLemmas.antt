@@ -3,8 +3,8 @@ use Rattle.std.proofs.Common.{◌≡◌, ◌+◌, ◌-◌, ◌≤◌, ℕ, List,
 use Rattle.std.specs.Prelude.{Ok, Err, Result}
 use Rattle.std.proofs.lemmas.List.Edits.{length-insert, length-remove}
 use Rattle.fpl_base.specs.Keeping.{Map}
-use Rattle.event_sheet.specs.declared.row.EventRow.{EventRow}
-use Rattle.event_sheet.specs.declared.row.EventRow.TheVariants as row
+use Rattle.fpl_events.specs.declared.row.EventRow.{EventRow}
+use Rattle.fpl_events.specs.declared.row.EventRow.TheVariants as row
 use Rattle.match_events.specs.Refusals.{IsJudged}
 use Rattle.match_events.specs.Sheets.{Sheet, insert_refusal, remove_refusal, with_event, without_event}
 use Rattle.match_events.specs.declared.event.Event.{Event}

@@ -1,7 +1,7 @@
 -- What rows ask of a host, and what is written of them.
 use Rattle.std.specs.Prelude.{◌≡◌, ◌⊎◌, ◌+◌, ℕ, List, [], ◌∷◌, Option, Some, None, Result, Ok, Err, ⊤}
-use Rattle.event_sheet.specs.declared.row.EventRow.{EventRow}
-use Rattle.event_sheet.specs.declared.row.EventRow.TheVariants as row
+use Rattle.fpl_events.specs.declared.row.EventRow.{EventRow}
+use Rattle.fpl_events.specs.declared.row.EventRow.TheVariants as row
 use Rattle.match_events.specs.Refusals.{rule_number}
 use Rattle.match_events.specs.Sheets.{Sheet, insert_refusal, remove_refusal, with_event, without_event}
 use Rattle.match_events.specs.declared.refusal.EventRefused.{EventRefused}

@@ -1,8 +1,8 @@
 -- What is written of a match by its events.
 use Rattle.std.specs.Prelude.{◌≡◌, ℕ, List, [], ◌∷◌, ◌++◌, Option, codes}
 use Rattle.std.specs.Fmt.{decimal}
-use Rattle.event_sheet.specs.declared.rows.RowFault.{RowFault}
-use Rattle.event_sheet.specs.declared.rows.RowFault.TheVariants as fault
+use Rattle.fpl_events.specs.declared.sheet.RowFault.{RowFault}
+use Rattle.fpl_events.specs.declared.sheet.RowFault.TheVariants as fault
 use Rattle.local_requests.specs.Printing.{PrintsOne}
 
 -- the line that says how many commands were sent

@@ -1,13 +1,13 @@
 // The rows of a match, done one after another.
 ghost use Rattle.std.specs.Prelude.{◌≡◌, ◌≤◌, ◌<◌, ◌^◌, ◌⊎◌, false, length};
 ghost use Rattle.fpl_base.specs.Causes.{Rose};
-ghost use Rattle.event_sheet.specs.Rows.{AreDoable};
+ghost use Rattle.fpl_events.specs.Rows.{AreDoable};
 ghost use Rattle.request_handler.specs.Kept.{Leads, kept_as};
 ghost use Rattle.fpl_events.specs.Playing.{IsPlayed};
 
+use crate::row::EventRow;
 use crate::rows::row_done;
 use crate::telling::tell;
-use event_sheet::EventRow;
 use fpl_base::{Clock, Keeper, ReadCount, Sink};
 use match_events::MatchEvents;
 use season_keeping::Host;

@@ -1,15 +1,15 @@
 // One row, done on the events.
 ghost use Rattle.std.specs.Prelude.{◌≡◌, ◌≤◌, ◌+◌, ◌-◌, ◌⊎◌, Err, IfErr, IfOk, OnOk, false, length, true};
 ghost use Rattle.fpl_base.specs.Causes.{Rose};
-ghost use Rattle.event_sheet.specs.Rows.{IsDoable, events_after};
+ghost use Rattle.fpl_events.specs.Rows.{IsDoable, events_after};
 ghost use Rattle.request_handler.specs.Kept.{Leads, kept_as};
 ghost use Rattle.match_events.specs.Events.{is_event};
 ghost use Rattle.match_events.specs.Sheets.{insert_refusal, remove_refusal, with_event, without_event};
 ghost use Rattle.fpl_events.specs.Playing.{DoesRow, Edits, EndsBy};
 
+use crate::row::EventRow;
 use crate::sending::send_changed;
 use crate::telling::refused;
-use event_sheet::EventRow;
 use fpl_base::{Clock, Keeper, ReadCount, Sink};
 use local_requests::status::MEMORY;
 use match_events::{Event, EventRefused, MatchEvents};

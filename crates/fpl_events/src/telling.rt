@@ -5,7 +5,7 @@ ghost use Rattle.match_events.specs.Refusals.{rule_number};
 ghost use Rattle.local_requests.specs.Printing.{PrintsOne};
 ghost use Rattle.fpl_events.specs.Telling.{TellsRowFault, refused_text, row_text, sent_text};
 
-use event_sheet::RowFault;
+use crate::sheet::RowFault;
 use fpl_base::Sink;
 use local_requests::print;
 use local_requests::status::{DONE, MEMORY, REFUSED_ROW, WRONG_ROW};

@@ -16,19 +16,17 @@ use crate::notes::tell_note;
 use command_line::{WordFault, Words, words_of};
 use file_keeper::{Cause, with_file, with_file_behind};
 use fpl_base::{Doors, Memory, Quiet, Text};
-use fpl_gathering::Gathering;
 use fpl_loading::Note;
 use fpl_run::run_here;
-use listener::Listening;
+use listener::{Gathering, Listening};
 use local_requests::status::{DOORS, KEEPER, MEMORY, SHELF};
-use path_keeper::{AtPath, WithKeeper};
+use record_keepers::{AtPath, TreeKeeper, WithKeeper};
 use season_folder::{AskedShelf, Disk};
 use std::alloc::Global;
 use std::io;
 use std::process::ExitCode;
 use std::rt::Env;
 use std::time::Duration;
-use tree_keeper::TreeKeeper;
 
 fn main(rt: HostRuntime) -> ExitCode {
     let alloc = rt.alloc();

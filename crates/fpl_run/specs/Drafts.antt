@@ -3,7 +3,7 @@ use Rattle.std.specs.Prelude.{◌≡◌, ◌≤◌, ◌<◌, ◌⊎◌, ℕ, Lis
 use Rattle.std.specs.Io.KnownBytes.{Consumes, IsAtEnd}
 use Rattle.fpl_base.specs.Keeping.{Map}
 use Rattle.fpl_base.specs.Moments.{Moments}
-use Rattle.fpl_requests.specs.Requests.{Drafts}
+use Rattle.fpl_run.specs.Requests.{Drafts}
 
 -- its input, which has 65,536 bytes at most, was read to its end, and its rows were done; or the input has more (10), or failed
 -- (1), or memory was wanting for it (6), and then nothing was written and nothing asked

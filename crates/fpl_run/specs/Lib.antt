@@ -1,3 +1,5 @@
+pub mod LoadRequests
+pub mod Requests
 pub mod Drafts
 pub mod Events
 pub mod Input

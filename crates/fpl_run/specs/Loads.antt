@@ -6,7 +6,7 @@ use Rattle.fpl_base.specs.declared.kinds.Profile.{Profile}
 use Rattle.fpl_base.specs.declared.outside.ShelfFault.{ShelfFault}
 use Rattle.fpl_loading.specs.Notes.{noted_behind}
 use Rattle.fpl_loading.specs.declared.notes.Note.{Note}
-use Rattle.fpl_requests.specs.Loads.{Loads}
+use Rattle.fpl_run.specs.LoadRequests.{Loads}
 
 -- a shelf, what its files have, if it tells them, and what was noted last
 pub record Handed (F : Type 0) : Type 0 where

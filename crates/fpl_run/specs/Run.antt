@@ -12,7 +12,7 @@ use Rattle.command_line.specs.declared.words.Words.TheVariants as order
 use Rattle.score_sheet.specs.Sheets.{Scores, HasWrongRow}
 use Rattle.fpl_run.specs.Input.{TakesAtMost}
 use Rattle.fpl_serving.specs.Pipe.{Pipes}
-use Rattle.fpl_requests.specs.Requests.{Dreams, Generates, Reports}
+use Rattle.fpl_run.specs.Requests.{Dreams, Generates, Reports}
 use Rattle.fpl_serving.specs.Reading.{PipeCounts, ServeCounts}
 use Rattle.fpl_serving.specs.Serve.{DoorState, Serves}
 use Rattle.fpl_run.specs.Drafts.{Drafted}

@@ -32,7 +32,7 @@ pub(crate) fn draft<S: Source, W: Sink, C: Clock, K: Keeper, L: Ledger>(
         ⊎ (result ≡ 6) ⊎ (result ≡ 10) ⊎ (result ≡ 11) ⊎ (result ≡ 13) ⊎ (result ≡ 14) }
 {
     match read_all(alloc, input) {
-        Ok(bytes) => fpl_requests::draft(
+        Ok(bytes) => crate::draft_request::draft(
             alloc,
             key,
             members,

@@ -4,8 +4,8 @@ ghost use Rattle.fpl_base.specs.Causes.{Rose};
 ghost use Rattle.fpl_run.specs.Events.{Recorded};
 
 use crate::input::{InputFault, read_all};
+use crate::requests::play;
 use fpl_base::{Clock, Keeper, Key, ReadCount, Sink, Source};
-use fpl_requests::play;
 use local_requests::status::{MEMORY, READ_FAULT, TOO_LONG};
 use std::alloc::Global;
 use std::sync::ledger::Ledger;

@@ -37,7 +37,7 @@ pub(crate) fn load<W: Sink, C: Clock, K: Keeper, F: AskedShelf, L: Ledger>(
     ensures keeper { result ≡ 4 → Rose (K.faults keeper.old) (K.faults keeper.new) }
     ensures shelf { result ≡ 9 → Rose (F.faults shelf.old) (F.faults shelf.new) }
 {
-    let end = fpl_requests::load(
+    let end = crate::load_request::load(
         alloc, key, folder, split, profile, more, output, clock, keeper, shelf, steps,
     );
     put(note, end.note);

@@ -3,8 +3,8 @@ use Rattle.std.proofs.Common.{ℕ, zero, suc, List, Option, inl, inr, sym, subst
 use Rattle.fpl_base.specs.Keeping.{Map}
 use Rattle.fpl_base.specs.Moments.{Moments}
 use Rattle.season_book.specs.Book.{Book}
-use Rattle.season_lawful.specs.Books.{IsLawful}
-use Rattle.season_lawful.specs.Judged.{LawfulBooksAreWhole}
+use Rattle.lawful_books.specs.Books.{IsLawful}
+use Rattle.lawful_books.specs.Judged.{LawfulBooksAreWhole}
 use Rattle.season_opening.specs.Opening.{IsKeepable}
 use Rattle.season_opening.specs.declared.loading.OpenFault.{OpenFault}
 use Rattle.season_opening.specs.declared.loading.OpenFault.TheVariants as fault

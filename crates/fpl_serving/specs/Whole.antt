@@ -3,7 +3,7 @@ use Rattle.std.specs.Prelude.{◌≡◌, ◌⊎◌, ℕ, List, Option}
 use Rattle.fpl_base.specs.Keeping.{Map}
 use Rattle.fpl_base.specs.Moments.{Moments}
 use Rattle.season_book.specs.Book.{Book}
-use Rattle.season_lawful.specs.Books.{IsLawful}
+use Rattle.lawful_books.specs.Books.{IsLawful}
 use Rattle.season_opening.specs.Opening.{IsKeepable}
 use Rattle.season_records.specs.Records.{records}
 use Rattle.fpl_session.specs.declared.ending.Ending.{Ending}

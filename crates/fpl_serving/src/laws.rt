@@ -7,9 +7,9 @@ ghost use Rattle.fpl_serving.specs.Whole.{PipesAreWhole, ServesAreWhole};
 
 use fpl_base::Keeper;
 use fpl_session::Answering;
+use lawful_books::lawful_books_are_whole;
 use reply_laws::{messages_act_once, replies_are_whole};
 use request_handler::sessions_answer;
-use season_lawful::lawful_books_are_whole;
 
 /// Over a keeper that tells, and serves to the end, a run of `pipe` or `serve` from a lawful book has no reply of status
 /// 500, and leaves a lawful book. Nor is the keeper found damaged as the host is opened.

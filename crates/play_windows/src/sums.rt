@@ -7,8 +7,8 @@ ghost use Rattle.season_book.specs.LineSums.{clean_sheets_of};
 
 use crate::items::{counted_yellow, figure, is_clean_sheet};
 use fpl_base::{FixtureId, PlayerId, Position, Profile};
-use line_scoring::{bps, line_points};
 use rule_book::Line;
+use scoring::{bps, line_points};
 
 /// A player's line in a fixture, with his bonus there.
 #[derive(Clone, Copy)]

@@ -1,5 +1,10 @@
+pub mod EntriesTold
+pub mod RowsMade
+pub mod Read
+pub mod RowsStand
+pub mod RowsTold
 pub mod Batched
 pub mod Found
-pub mod Made
+pub mod ChangesMade
 pub mod Ops
 pub mod Ordered

@@ -9,7 +9,7 @@ use Rattle.record_codec.specs.declared.slot.Slot.{Slot}
 use Rattle.season_records.specs.Records.{told_in}
 use Rattle.season_records.specs.Touched.{batch, op_of}
 use Rattle.season_running.specs.Standing.{Running, host_rows}
-use Rattle.season_rows.specs.RowsTold.{told_by}
+use Rattle.record_changes.specs.RowsTold.{told_by}
 
 -- what a running season, or none, tells of a slot
 abbrev pub told_of : Option Running → List (ℕ × Last) → Slot → Option Item

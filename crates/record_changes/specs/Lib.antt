@@ -1,1 +1,4 @@
+pub mod Laws
+pub mod Ordered
+pub mod RowsTold
 pub mod Batches

@@ -6,7 +6,7 @@ ghost use Rattle.rule_book.specs.EntryRecords.{sales_in};
 ghost use Rattle.record_codec.specs.declared.slot.Slot.TheVariants as slot;
 ghost use Rattle.season_records.specs.Records.{pick_told, team_item};
 ghost use Rattle.record_changes.specs.Batches.{Keeps};
-ghost use Rattle.season_rows.specs.RowsTold.{manager_item, team_by, transfer_by};
+ghost use Rattle.record_changes.specs.RowsTold.{manager_item, team_by, transfer_by};
 
 use crate::changes::{delete, price_told, put};
 use fpl_base::{EntryId, Gw, Memory, Op, PlayerId};

@@ -1,4 +1,5 @@
-//! Which records a command touches, and the batch of changes that is committed of them, over a running season.
+//! What the rows of a host tell of each record, which records a command touches, and the batch of changes that is committed of
+//! them, over a running season.
 #![tactic(auto)]
 
 mod batches;
@@ -8,8 +9,10 @@ mod entries;
 mod facts;
 mod listing;
 mod parts;
+mod rows;
 mod seeking;
 mod touching;
 
 pub use batches::batch_of;
+pub use rows::{rows_in_order_stand, rows_tell_records};
 pub use touching::{touched, touched_first};

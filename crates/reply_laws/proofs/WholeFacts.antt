@@ -16,10 +16,10 @@ use Rattle.season_book.specs.declared.answer.Answer.{Answer}
 use Rattle.season_book.specs.declared.answer.Answer.TheVariants as answer
 use Rattle.season_book.specs.declared.request.Request.{Request as Asked}
 use Rattle.season_opening.specs.Opening.{IsKeepable}
-use Rattle.lawful_leagues.specs.Keeping.{IsCaller}
-use Rattle.lawful_leagues.proofs.Numbers.{numbered_there}
-use Rattle.season_lawful.specs.Books.{IsLawful, RunsKeepLaws}
-use Rattle.season_lawful.specs.Judged.{LawfulBooksAreJudged}
+use Rattle.lawful_books.specs.LeaguesKeeping.{IsCaller}
+use Rattle.lawful_books.proofs.Numbers.{numbered_there}
+use Rattle.lawful_books.specs.Books.{IsLawful, RunsKeepLaws}
+use Rattle.lawful_books.specs.Judged.{LawfulBooksAreJudged}
 use Rattle.fpl_answers.specs.Answers.{status_of}
 use Rattle.fpl_bodies.specs.Requests.{request_of}
 use Rattle.fpl_bodies.specs.declared.field.FieldName.{FieldName}

@@ -2,7 +2,7 @@
 use Rattle.std.specs.Prelude.{◌≡◌, ◌≢◌, ◌⊎◌, ℕ, List, Option, Ok, Err, IfSome}
 use Rattle.season_book.specs.Hosts.{IsRequest}
 use Rattle.season_opening.specs.Opening.{IsKeepable}
-use Rattle.season_lawful.specs.Books.{IsLawful}
+use Rattle.lawful_books.specs.Books.{IsLawful}
 use Rattle.fpl_http.specs.Stream.{Request}
 use Rattle.fpl_session.specs.Replies.{Speaks}
 use Rattle.fpl_session.specs.Runs.{Run}

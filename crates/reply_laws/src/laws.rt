@@ -6,9 +6,9 @@ ghost use Rattle.reply_laws.specs.Whole.{IsKeptReply, IsWhole, IsWholeReply, Rep
 
 use fpl_routes::targets_ask_one_thing;
 use fpl_session::{Staying, sessions_stay};
+use lawful_books::{books_are_lawful, lawful_books_are_judged};
 use season_book::commands_act_once;
 use season_isolation::answers_are_isolated;
-use season_lawful::{books_are_lawful, lawful_books_are_judged};
 
 /// A law on the definitions: a message asks one thing of a host, or is refused in one way before the host judges it.
 pub fn messages_ask_one_thing()

@@ -1,14 +1,14 @@
 // What the rows of a match score.
 ghost use Rattle.std.specs.Prelude.{◌≡◌, ◌≤◌, ℤ, List, All, IfOk, string_bytes};
-ghost use Rattle.line_scoring.specs.Levels.{bonus_by};
+ghost use Rattle.scoring.specs.Levels.{bonus_by};
 ghost use Rattle.rule_book.specs.Bonus.{takes_part, standing, bonus_of, bonus_in};
 ghost use Rattle.rule_book.specs.Figures.{IsLine};
 ghost use Rattle.rule_book.specs.declared.line.Appearance.{Appearance};
 ghost use Rattle.score_sheet.specs.Scores.{line_text, numbers_text, score_text};
 
 use fpl_base::{Memory, PlayerId, Profile};
-use line_scoring::{BonusLevels, bps, line_points};
 use rule_book::Appearance;
+use scoring::{BonusLevels, bps, line_points};
 use std::alloc::{AllocError, Global};
 
 // The lines of text for the rows.

@@ -1,2 +1,4 @@
 pub mod DrawFacts
 pub mod MadeFacts
+pub mod CourseLemmas
+pub mod SumLemmas

@@ -1,3 +1,5 @@
 pub mod Draws
 pub mod Made
 pub mod Places
+pub mod Generating
+pub mod Summaries

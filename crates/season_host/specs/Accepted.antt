@@ -16,7 +16,7 @@ use Rattle.season_book.specs.declared.made.Made.TheVariants as made
 use Rattle.record_codec.specs.Ranges.{IsItem}
 use Rattle.record_codec.specs.declared.slot.Slot.{Slot}
 use Rattle.season_records.specs.Touched.{touched}
-use Rattle.season_rows.specs.RowsTold.{told_by}
+use Rattle.record_changes.specs.RowsTold.{told_by}
 use Rattle.season_running.specs.Accepting.{IsNew, kept_last}
 use Rattle.season_running.specs.Standing.{HostRows}
 use Rattle.season_cells.specs.declared.plan.Plan.{Plan}

@@ -10,7 +10,7 @@ ghost use Rattle.season_book.specs.Verdict.{number_refusal, unseen, view_answer}
 ghost use Rattle.season_book.specs.declared.answer.Answer.TheVariants as answer_of;
 ghost use Rattle.season_book.specs.declared.request.Request.TheVariants as request_of;
 ghost use Rattle.season_records.specs.Touched.{batch, touched};
-ghost use Rattle.season_rows.specs.RowsTold.{told_by};
+ghost use Rattle.record_changes.specs.RowsTold.{told_by};
 ghost use Rattle.season_running.specs.Accepting.{IsAccepted};
 ghost use Rattle.season_running.specs.EntryLaws.{IsOrderlyHost};
 ghost use Rattle.season_running.specs.Standing.{Follows, StandsIn, host_rows, keys_in, number_at, passed, players_in};

@@ -14,14 +14,14 @@ use Rattle.season_book.specs.declared.command.Command.{Command}
 use Rattle.season_book.specs.declared.request.Request.{Request}
 use Rattle.season_book.specs.declared.request.Request.TheVariants as request
 use Rattle.season_host.specs.Accepted.{Changes, MayEndIn}
-use Rattle.record_ranges.specs.Staying.{ItemsStay, LooksTellItems, TellItems}
+use Rattle.season_records.specs.Staying.{ItemsStay, LooksTellItems, TellItems}
 use Rattle.season_opening.specs.Opening.{IsKeepable}
 use Rattle.season_records.specs.Commits.{HoldsLeft}
 use Rattle.season_records.specs.Keeping.{AreEarly, CommandsKeepRecords, Leads, VerdictsAreEarly}
 use Rattle.season_records.specs.Records.{records}
 use Rattle.season_records.specs.Told.{IsInOrder, TellsItems, VerdictsKeepOrder}
 use Rattle.season_records.specs.Touched.{touched}
-use Rattle.season_rows.specs.Laws.{RowsTellRecords}
+use Rattle.record_changes.specs.Laws.{RowsTellRecords}
 use Rattle.season_running.specs.EntryLaws.{IsOrderlyHost}
 use Rattle.season_running.specs.Standing.{Follows, HostRows, StandsIn}
 use Rattle.season_keeping.specs.Answering.{Commits, EndsCommit, HoldsKept, LeadsOn, StopsEnding, WouldAct}

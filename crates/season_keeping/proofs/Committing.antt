@@ -7,7 +7,7 @@ use Rattle.fpl_base.specs.declared.records.Op.{Op}
 use Rattle.record_codec.specs.declared.slot.Slot.{Slot}
 use Rattle.season_host.specs.Accepted.{TellItemsBy}
 use Rattle.season_records.specs.Touched.{batch}
-use Rattle.season_rows.specs.RowsTold.{told_by}
+use Rattle.record_changes.specs.RowsTold.{told_by}
 use Rattle.season_running.specs.Standing.{HostRows}
 use Rattle.season_keeping.specs.Answering.{Commits}
 use Rattle.season_keeping.specs.Housed.{Housed}

@@ -9,10 +9,10 @@ use Rattle.season_records.specs.Keeping.{Leads}
 use Rattle.season_records.specs.Records.{records, told}
 use Rattle.season_records.specs.Touched.{batch}
 use Rattle.season_host.specs.Accepted.{TellItemsBy}
-use Rattle.record_ranges.specs.Staying.{LooksTellItems, TellItems}
+use Rattle.season_records.specs.Staying.{LooksTellItems, TellItems}
 use Rattle.season_opening.specs.Opening.{IsKeepable}
-use Rattle.season_rows.specs.Laws.{TellAs}
-use Rattle.season_rows.specs.RowsTold.{told_by}
+use Rattle.record_changes.specs.Laws.{TellAs}
+use Rattle.record_changes.specs.RowsTold.{told_by}
 use Rattle.season_running.specs.Standing.{HostRows, StandsIn}
 use Rattle.season_keeping.specs.Answering.{Commits, EndsCommit, LeadsOn, StandsOn, StopsCommit}
 use Rattle.season_keeping.specs.Housed.{Backs, Housed}

@@ -11,13 +11,13 @@ use Rattle.season_book.specs.Book.{Book, Facts}
 use Rattle.season_book.specs.Verdict.{locked_at, pass}
 use Rattle.season_cells.specs.Kept.{CellRows}
 use Rattle.season_host.specs.Accepted.{locks_more}
-use Rattle.record_ranges.specs.Staying.{LockedItemsStay, LooksTellItems}
+use Rattle.season_records.specs.Staying.{LockedItemsStay, LooksTellItems}
 use Rattle.season_opening.specs.Opening.{IsKeepable}
 use Rattle.season_records.specs.Keeping.{LocksKeepRecords, MomentsAreEarly, NoLockLeavesBook}
 use Rattle.season_records.specs.Records.{records}
 use Rattle.season_records.specs.Told.{MomentsKeepOrder}
 use Rattle.season_records.specs.Touched.{locked_slots}
-use Rattle.season_rows.specs.Laws.{RowsTellRecords}
+use Rattle.record_changes.specs.Laws.{RowsTellRecords}
 use Rattle.season_running.specs.EntryLaws.{IsOrderlyHost}
 use Rattle.season_running.specs.Standing.{HostRows, StandsIn, passed}
 use Rattle.season_running.proofs.HostFacts.{passed_stands}

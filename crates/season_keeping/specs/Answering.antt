@@ -15,7 +15,7 @@ use Rattle.record_codec.specs.declared.slot.Slot.{Slot}
 use Rattle.season_records.specs.Commits.{HoldsLeft}
 use Rattle.season_records.specs.Records.{records}
 use Rattle.season_records.specs.Touched.{batch}
-use Rattle.season_rows.specs.RowsTold.{told_by}
+use Rattle.record_changes.specs.RowsTold.{told_by}
 use Rattle.season_host.specs.Accepted.{TellItemsBy}
 use Rattle.season_cells.specs.Kept.{CellRows}
 use Rattle.season_host.specs.Cells.{AreCorrected, IsCheapCommand, IsCheapNow, running_in}

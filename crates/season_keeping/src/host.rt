@@ -20,17 +20,17 @@ ghost use Rattle.season_keeping.specs.Housed.{Backs};
 ghost use Rattle.season_keeping.specs.Opening.{HoldsOn, Opens, Withholds};
 
 use fpl_base::{Caller, Keeper, KeeperFault, Key, Memory, Moment, PlayerId, ReadCount};
+use record_changes::rows_tell_records;
 use record_codec::Slot;
-use record_ranges::{items_stay, slots_tell_items};
 use season_book::{Answer, Command, Request};
 use season_cells::KeptCells;
 use season_host::{House, answer_command, cells_of, pass};
 use season_isolation::answers_are_isolated;
 use season_opening::{OpenFault, loaded, loaded_rows_stand};
 use season_records::{
-    books_are_early, books_are_in_order, commands_keep_records, locks_keep_records,
+    books_are_early, books_are_in_order, commands_keep_records, items_stay, locks_keep_records,
+    slots_tell_items,
 };
-use season_rows::rows_tell_records;
 use std::alloc::Global;
 use std::marker::Model;
 use std::sync::ledger::Ledger;

@@ -9,8 +9,8 @@ use Rattle.store_validation.specs.Lawful.{judged}
 use Rattle.season_records.specs.Keeping.{AreEarly}
 use Rattle.season_records.specs.Records.{records}
 use Rattle.season_records.specs.Told.{IsInOrder, TellsItems}
-use Rattle.season_rows.specs.Ordered.{AreRowsInOrder}
-use Rattle.season_rows.specs.RowsTold.{told_by}
+use Rattle.record_changes.specs.Ordered.{AreRowsInOrder}
+use Rattle.record_changes.specs.RowsTold.{told_by}
 use Rattle.season_running.specs.Standing.{HostRows, StandsIn}
 
 -- Books.

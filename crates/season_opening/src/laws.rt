@@ -1,8 +1,7 @@
 ghost use Rattle.season_opening.specs.Opening.{EmptyIsKeepable, LoadedRowsStand};
 
-use record_ranges::items_stay;
-use season_records::{books_are_early, books_are_in_order};
-use season_rows::rows_in_order_stand;
+use record_changes::rows_in_order_stand;
+use season_records::{books_are_early, books_are_in_order, items_stay};
 
 /// A law on the definitions: rows that were made of the records of a book that can be made anew stand for that book.
 pub fn loaded_rows_stand()

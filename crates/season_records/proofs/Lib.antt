@@ -19,3 +19,6 @@ pub mod Sheets
 pub mod Slots
 pub mod TeamsTold
 pub mod Worked
+pub mod LockFacts
+pub mod ReadFacts
+pub mod StayFacts

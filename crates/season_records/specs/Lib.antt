@@ -3,3 +3,5 @@ pub mod Keeping
 pub mod Records
 pub mod Told
 pub mod Touched
+pub mod Read
+pub mod Staying

@@ -19,8 +19,8 @@ use Rattle.season_records.specs.Records.{cup_item, last_item, league_item, made_
 use Rattle.season_records.specs.Told.{AreInOrder, made_by}
 use Rattle.stored_records.specs.Stored.{Rows, told}
 use Rattle.season_running.specs.Standing.{InStep, Running, host_rows}
-use Rattle.season_rows.specs.Ordered.{AreRowsInOrder}
-use Rattle.season_rows.specs.RowsTold.{manager_item, team_by, told_by, transfer_by}
+use Rattle.record_changes.specs.Ordered.{AreRowsInOrder}
+use Rattle.record_changes.specs.RowsTold.{manager_item, team_by, told_by, transfer_by}
 use Rattle.season_restoring.specs.Books.{IsRunningInOrder, MayRun, RunningTells}
 
 -- with a running season that tells what the records tell

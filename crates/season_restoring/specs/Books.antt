@@ -10,8 +10,8 @@ use Rattle.season_records.specs.Records.{cup_item, league_item, member_told}
 use Rattle.season_records.specs.Told.{AreInOrder}
 use Rattle.stored_records.specs.Stored.{Rows, told}
 use Rattle.season_running.specs.Standing.{Running}
-use Rattle.season_rows.specs.Ordered.{IsManagerInOrder}
-use Rattle.season_rows.specs.RowsTold.{manager_item, team_by, transfer_by}
+use Rattle.record_changes.specs.Ordered.{IsManagerInOrder}
+use Rattle.record_changes.specs.RowsTold.{manager_item, team_by, transfer_by}
 use Rattle.facts_restoring.specs.Restored.{TellsFacts}
 
 -- at each slot it tells what the records tell

@@ -7,8 +7,8 @@ ghost use Rattle.season_records.specs.Told.{AreInOrder};
 ghost use Rattle.stored_records.specs.Stored.{told};
 ghost use Rattle.store_validation.specs.Lawful.{judged};
 ghost use Rattle.season_running.specs.Standing.{host_rows};
-ghost use Rattle.season_rows.specs.Ordered.{AreRowsInOrder};
-ghost use Rattle.season_rows.specs.RowsTold.{told_by};
+ghost use Rattle.record_changes.specs.Ordered.{AreRowsInOrder};
+ghost use Rattle.record_changes.specs.RowsTold.{told_by};
 ghost use Rattle.facts_restoring.specs.Restored.{TellsFacts};
 ghost use Rattle.season_restoring.specs.Books.{IsRunningInOrder, MayRun, RunningTells};
 

@@ -12,9 +12,9 @@ use crate::rules::SeasonCells;
 use crate::worth::{figures_in, no_figures};
 use fpl_base::{EntryId, Gw, PlayerId, ReadCount};
 use rule_book::{Figures, Team, TeamScore};
+use scoring::team_score;
 use season_nodes::{Books, Node};
 use std::sync::ledger::Ledger;
-use team_scoring::team_score;
 
 // What the cells hold of the players of a team in a gameweek, by slot.
 fn team_figures<L: Ledger>(

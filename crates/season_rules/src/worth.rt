@@ -10,8 +10,8 @@ ghost use Rattle.season_nodes.specs.Season.{AreModest, IsSeason, bonuses_by, bon
 
 use crate::rules::SeasonCells;
 use fpl_base::{FixtureId, Gw, Memory, PlayerId, Position, Profile, ReadCount};
-use line_scoring::{BonusLevels, bps, line_points};
 use rule_book::{Figures, Line};
+use scoring::{BonusLevels, bps, line_points};
 use season_nodes::{Bonuses, Books, LineWorth, Node, Value};
 use std::alloc::Global;
 use std::sync::ledger::Ledger;

@@ -9,8 +9,8 @@ use Rattle.season_book.specs.Book.{Facts}
 use Rattle.stored_records.specs.Stored.{told}
 use Rattle.season_entries.specs.EntryLaws.{AreEarly}
 use Rattle.season_records.specs.Records.{told_in}
-use Rattle.season_rows.specs.Ordered.{IsManagerInOrder}
-use Rattle.season_rows.specs.RowsTold.{manager_item, team_by, transfer_by}
+use Rattle.record_changes.specs.Ordered.{IsManagerInOrder}
+use Rattle.record_changes.specs.RowsTold.{manager_item, team_by, transfer_by}
 use Rattle.entries_restoring.specs.Restoring.{AreRestored, EndsAt}
 use Rattle.entries_restoring.proofs.Whole.{early, entries, if_both, ordered, teams, transfers}
 use Rattle.entries_restoring.proofs.managers.managers_of.Goals as goal

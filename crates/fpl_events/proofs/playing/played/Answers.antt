@@ -1,8 +1,8 @@
 use Rattle.std.proofs.Common.{◌≡◌, ◌+◌, ◌∙◌, ℕ, List, drop, length, ap, arith, refl, subst, sym}
 use Rattle.std.specs.Prelude.{Err, Result}
 use Rattle.std.proofs.lemmas.List.{drop_all}
-use Rattle.event_sheet.specs.Rows.{AreDoable, IsDoable}
-use Rattle.event_sheet.specs.declared.row.EventRow.{EventRow}
+use Rattle.fpl_events.specs.Rows.{AreDoable, IsDoable}
+use Rattle.fpl_events.specs.declared.row.EventRow.{EventRow}
 use Rattle.match_events.specs.Sheets.{Sheet}
 use Rattle.request_handler.specs.Kept.{Kept}
 use Rattle.fpl_events.specs.Playing.{bare_sheet}

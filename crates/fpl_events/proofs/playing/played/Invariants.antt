@@ -1,5 +1,5 @@
 use Rattle.std.proofs.Common.{◌≡◌, ◌≤◌, ◌+◌, ◌*◌, drop, false, length}
-use Rattle.event_sheet.specs.Rows.{AreDoable}
+use Rattle.fpl_events.specs.Rows.{AreDoable}
 use Rattle.request_handler.specs.Kept.{Leads}
 use Rattle.fpl_events.proofs.PlayingLemmas.{IsGoing}
 use Rattle.fpl_events.proofs.playing.played.Given as goal

@@ -1,6 +1,6 @@
 use Rattle.std.proofs.Common.{List, ap, inl, inr, refl, subst, ℕ}
 use Rattle.std.specs.Prelude.{Err}
-use Rattle.fpl_requests.specs.Requests.{Drafts}
+use Rattle.fpl_run.specs.Requests.{Drafts}
 use Rattle.fpl_run.specs.declared.input.InputFault.{InputFault}
 use Rattle.fpl_run.proofs.drafts.draft.Goals as goal
 

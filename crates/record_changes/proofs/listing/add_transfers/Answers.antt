@@ -1,6 +1,6 @@
 use Rattle.std.proofs.Common.{arith}
 use Rattle.record_codec.specs.declared.slot.Slot.TheVariants as slot
-use Rattle.record_changes.proofs.Made.{added}
+use Rattle.record_changes.proofs.ChangesMade.{added}
 use Rattle.record_changes.proofs.listing.add_transfers.Goals as goal
 
 pub numbers-preserved : goal.numbers-preserved

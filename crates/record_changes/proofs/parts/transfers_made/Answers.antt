@@ -1,7 +1,7 @@
 use Rattle.std.proofs.Common.{rules, ◌≡◌, ◌≤◌, ◌-◌, ◌∙◌, Some, None, ap, subst, sym}
 use Rattle.std.specs.List.{slice_get}
 use Rattle.std.specs.Prelude.{option_copied}
-use Rattle.record_changes.proofs.Made.{made_there, made_nowhere}
+use Rattle.record_changes.proofs.ChangesMade.{made_there, made_nowhere}
 use Rattle.record_changes.proofs.parts.transfers_made.Goals as goal
 
 pub returns-in-Some-manager-clause-made : goal.returns-in-Some-manager-clause-made

@@ -2,7 +2,7 @@ use Rattle.std.proofs.Common.{◌∙◌, List, subst, sym}
 use Rattle.std.specs.List.{AllByRecursion as Each}
 use Rattle.fpl_base.specs.Keeping.{map_of}
 use Rattle.rule_book.specs.declared.player.Player.{Player}
-use Rattle.season_rows.specs.Ordered.{IsManagerInOrder}
+use Rattle.record_changes.specs.Ordered.{IsManagerInOrder}
 use Rattle.season_restoring.specs.Books.{IsRunningInOrder, RunningTells}
 use Rattle.season_restoring.proofs.BookLemmas.{in_step}
 use Rattle.season_restoring.proofs.books.running_of.Goals as goal

@@ -1,7 +1,7 @@
 use Rattle.std.proofs.Common.{List, ap, ◌∙◌}
 use Rattle.rule_book.specs.declared.team_score.Figures.{Figures}
 use Rattle.rule_book.specs.ScoreOfTeam.{score_of}
-use Rattle.team_scoring.proofs.ScoreFacts.{score_is_the_one}
+use Rattle.scoring.proofs.ScoreFacts.{score_is_the_one}
 use Rattle.season_nodes.specs.BookFacts.{facts_of}
 use Rattle.season_nodes.specs.Held.{held_values}
 use Rattle.season_nodes.specs.Season.{figures_of_fifteen}

@@ -1,0 +1,15 @@
+pub mod Facts
+pub mod FactsKeeping
+pub mod FactsRules
+pub mod Telling
+pub mod LeaguesKeeping
+pub mod Leagues
+pub mod Rekeyed
+pub mod LeaguesRules
+pub mod Histories
+pub mod EntriesKeeping
+pub mod Recorded
+pub mod Fifteens
+pub mod TeamsTold
+pub mod Books
+pub mod Judged

@@ -1,8 +1,0 @@
-use Rattle.lawful_facts.proofs.Telling.{records_are_there, records_are_told}
-use Rattle.lawful_facts.proofs.laws.records_are_told.Goals as goal
-
-pub returns-clause-told : goal.returns-clause-told
-returns-clause-told c = records_are_told
-
-pub returns-clause-there : goal.returns-clause-there
-returns-clause-there c = records_are_there

@@ -1,4 +1,0 @@
-pub mod Facts
-pub mod Keeping
-pub mod Rules
-pub mod Telling

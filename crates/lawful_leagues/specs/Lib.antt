@@ -1,4 +1,0 @@
-pub mod Keeping
-pub mod Leagues
-pub mod Rekeyed
-pub mod Rules

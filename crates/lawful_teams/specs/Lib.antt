@@ -1,2 +1,0 @@
-pub mod Fifteens
-pub mod TeamsTold

@@ -1,4 +1,0 @@
-use Rattle.path_keeper.proofs.over.work_over.Goals as goal
-
-pub returns : goal.returns
-returns g c = (_, c.with.ensures)

@@ -1,3 +1,0 @@
-pub mod LockFacts
-pub mod ReadFacts
-pub mod StayFacts

@@ -1,0 +1,4 @@
+pub mod Levels
+pub mod Ones
+pub mod Counts
+pub mod Standing

@@ -1,3 +1,0 @@
-pub mod Stood
-pub mod Judged
-pub mod Kept

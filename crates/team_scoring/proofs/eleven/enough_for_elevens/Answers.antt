@@ -1,5 +1,0 @@
-use Rattle.team_scoring.proofs.Enough.{enough_alike}
-use Rattle.team_scoring.proofs.eleven.enough_for_elevens.Goals as goal
-
-pub returns : goal.returns
-returns c = enough_alike

@@ -1,5 +1,0 @@
-use Rattle.team_scoring.proofs.ScoreFacts.{final_eleven_is_the_one}
-use Rattle.team_scoring.proofs.laws.final_eleven_is_the_one.Goals as goal
-
-pub returns : goal.returns
-returns c = final_eleven_is_the_one

@@ -1,7 +1,0 @@
-use Rattle.std.proofs.Common.{◌≡◌, ◌≤◌, ◌*◌, take, sum_by}
-use Rattle.rule_book.specs.TeamScores.{conceded_at}
-use Rattle.team_scoring.proofs.score.sum_of_conceded.Given as goal
-
-abbrev pub invariant-loop-slot : goal.invariant-loop-slot
-invariant-loop-slot l =
-    (l.total ≡ sum_by (conceded_at l.figures) (take l.slot-index l.slots)) × (l.total ≤ 1000000 * l.slot-index)

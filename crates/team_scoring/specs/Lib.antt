@@ -1,3 +1,0 @@
-pub mod Ones
-pub mod Counts
-pub mod Standing
