@@ -4,6 +4,6 @@
 mod players;
 mod prices;
 
-pub use players::{Players, judge_price};
+pub use players::{Players, is_price, judge_price};
 pub use prices::selling_price;
 pub use rule_book::Player;

@@ -207,16 +207,16 @@ pub fn judge_price(price: Tenths) -> Result<(), Rule>
     ensures judged { IsJudged (price_refusal price) result }
     ensures price { OnOk result (IsPrice price) }
 {
-    if is_price(price) {
+    if is_price(price.get()) {
         Ok(())
     } else {
         Err(Rule::PriceRange)
     }
 }
 
-// Whether a player can have this price.
-fn is_price(price: Tenths) -> bool
+/// Whether a player can have this price, in tenths of a million: 3.0 to 20.0 million.
+pub fn is_price(price: u32) -> bool
     ensures { IsTrue result ↔ IsPrice price }
 {
-    price.get() >= 30 && price.get() <= 200
+    (30..=200).contains(&price)
 }

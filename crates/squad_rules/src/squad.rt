@@ -42,8 +42,8 @@ pub fn first_repeat(players: &[PlayerId]) -> Option<PlayerId>
     None
 }
 
-// Whether there are two goalkeepers, five defenders, five midfielders and three forwards.
-fn has_squad_shape(positions: &[Position; 15]) -> bool
+/// Whether there are two goalkeepers, five defenders, five midfielders and three forwards.
+pub fn has_squad_shape(positions: &[Position; 15]) -> bool
     ensures { result ≡ has_squad_shape positions.now }
 {
     if keepers(positions) != 2 || defenders(positions) != 5 || midfielders(positions) != 5 {
