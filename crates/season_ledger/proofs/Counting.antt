@@ -1,5 +1,5 @@
 -- The transfers that a table counts, by one pass over the rows.
-use Rattle.std.proofs.Common.{◌≡◌, ◌<◌, ◌≤◌, ◌≢◌, ◌+◌, ◌⊎◌, ◌∷◌, [], ℕ, zero, suc, Bool, true, false, cond, not, ◌&&◌, ◌||◌, List, Some, ⊎_elim, refl, sym, ap, ◌∙◌, subst, arith, nat_eq, nat_le}
+use Rattle.std.proofs.Common.{◌≡◌, ◌<◌, ◌≤◌, ◌≢◌, ◌+◌, ◌∷◌, [], ℕ, zero, suc, Bool, true, false, cond, not, ◌&&◌, ◌||◌, List, Some, ⊎_elim, refl, sym, ap, ◌∙◌, subst, arith, nat_eq, nat_le}
 use Rattle.std.specs.List.{sum_by}
 use Rattle.std.proofs.lemmas.Bool.Decides.{nat_tests}
 use Rattle.std.proofs.lemmas.Bool.{cases_eq, cases_lt}

@@ -1,5 +1,5 @@
 -- What counts in a gameweek, as events come.
-use Rattle.std.proofs.Common.{◌≡◌, ◌<◌, ◌≤◌, ◌+◌, ◌≢◌, ◌∷◌, [], ◌++◌, ℕ, Bool, true, false, ◌||◌, List, arith, refl, ap, ◌∙◌, ⊎_elim, nat_eq, nat_lt}
+use Rattle.std.proofs.Common.{◌≡◌, ◌<◌, ◌≤◌, ◌≢◌, ◌∷◌, [], ◌++◌, ℕ, Bool, true, false, ◌||◌, List, arith, refl, ap, ◌∙◌, ⊎_elim, nat_eq, nat_lt}
 use Rattle.std.specs.Prelude.{filter}
 use Rattle.std.specs.List.{flat_map, AllByRecursion as Each}
 use Rattle.std.proofs.lemmas.List.{append-nil}

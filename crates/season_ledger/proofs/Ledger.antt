@@ -1,5 +1,5 @@
 -- What was paid and earned, and what the fifteen cost.
-use Rattle.std.proofs.Common.{◌≡◌, ◌<◌, ◌≤◌, ◌+◌, ◌≢◌, ◌⊎◌, ◌∷◌, [], ◌++◌, ℕ, Bool, true, false, cond, List, map, arith, refl, sym, ap, ◌∙◌, subst, ⊎_elim, nat_eq}
+use Rattle.std.proofs.Common.{◌≡◌, ◌<◌, ◌≤◌, ◌+◌, ◌≢◌, ◌∷◌, [], ◌++◌, ℕ, Bool, true, false, cond, List, map, arith, refl, sym, ap, ◌∙◌, subst, ⊎_elim, nat_eq}
 use Rattle.std.specs.List.{AllByRecursion as Each}
 use Rattle.std.proofs.lemmas.List.{append-nil}
 use Rattle.std.proofs.lemmas.Bool.Decides.{nat_tests}

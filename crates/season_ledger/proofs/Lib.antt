@@ -10,7 +10,6 @@ pub mod Legality
 pub mod Carry
 pub mod Steps
 pub mod Places
-pub mod Chips
 pub mod Frees
 pub mod Placed
 pub mod Season

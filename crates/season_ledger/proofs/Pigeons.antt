@@ -1,5 +1,5 @@
 -- As many different players, each among the others: they are the same.
-use Rattle.std.proofs.Common.{◌≡◌, ◌<◌, ◌≤◌, ◌+◌, ◌≢◌, ◌⊎◌, ◌∷◌, [], ℕ, true, false, cond, List, length, arith, refl, ap, ⊎_elim, nat_eq}
+use Rattle.std.proofs.Common.{◌≡◌, ◌<◌, ◌≤◌, ◌+◌, ◌≢◌, ◌∷◌, [], ℕ, true, false, cond, List, length, arith, refl, ap, ⊎_elim, nat_eq}
 use Rattle.std.proofs.lemmas.Bool.Decides.{nat_tests}
 use Rattle.std.proofs.lemmas.Bool.{cases_eq}
 use Rattle.rule_book.specs.HistoryRules.{times}

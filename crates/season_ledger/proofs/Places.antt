@@ -1,5 +1,5 @@
 -- A row written at its place.
-use Rattle.std.proofs.Common.{◌≡◌, ◌<◌, ◌≤◌, ◌+◌, ◌∷◌, [], ◌++◌, ℕ, suc, true, false, cond, List, Some, length, set, arith, refl, ap, nat_eq}
+use Rattle.std.proofs.Common.{◌≡◌, ◌<◌, ◌≤◌, ◌∷◌, [], ◌++◌, ℕ, suc, true, false, cond, List, Some, length, set, arith, refl, ap, nat_eq}
 use Rattle.season_ledger.specs.Rows.{put_row, place_at, row_at}
 use Rattle.season_ledger.specs.declared.row.Standing.{Standing}
 use Rattle.season_ledger.specs.declared.row.Row.{Row}

@@ -1,5 +1,5 @@
 -- The calls on an entry's rows: they stay in order, and stand for the history that goes on.
-use Rattle.std.proofs.Common.{◌≡◌, ◌<◌, ◌≤◌, ◌+◌, ◌-◌, ◌*◌, ◌≢◌, ◌⊎◌, ◌∷◌, [], ◌++◌, ℕ, Bool, true, false, cond, not, ◌&&◌, List, Option, Some, None, Result, Ok, Err, OnOk, length, map, arith, refl, sym, ap, ◌∙◌, subst, ⊎_elim, nat_eq, nat_lt, nat_le}
+use Rattle.std.proofs.Common.{◌≡◌, ◌<◌, ◌≤◌, ◌+◌, ◌-◌, ◌*◌, ◌≢◌, ◌∷◌, [], ◌++◌, ℕ, Bool, true, false, cond, ◌&&◌, List, Option, Some, None, Result, Ok, Err, OnOk, length, map, arith, refl, sym, ap, ◌∙◌, subst, ⊎_elim, nat_eq, nat_lt, nat_le}
 use Rattle.std.specs.List.{AllByRecursion as Each}
 use Rattle.std.proofs.lemmas.Bool.Decides.{nat_tests}
 use Rattle.std.proofs.lemmas.Bool.{cases_eq, cases_lt}
@@ -24,7 +24,7 @@ use Rattle.season_ledger.specs.Stands.{IsPlaced, StandsFor, RowsAlwaysTell}
 use Rattle.season_ledger.proofs.Held.{Holds, RowsHold, Stands}
 use Rattle.season_ledger.proofs.Carry.{base_some, standing_told}
 use Rattle.season_ledger.proofs.Frees.{chip_is, used_is, past_told, first_is, free_in_told, cost_told, counted_told}
-use Rattle.season_ledger.proofs.Chips.{among_agree}
+use Rattle.squad_rules.proofs.ChipsPlayed.{among_agree}
 use Rattle.season_ledger.proofs.Places.{place_there}
 use Rattle.season_ledger.proofs.Steps.{rise-put, transferred, lined_up, played, cancelled, registered, nothing_done, team_balances}
 use Rattle.season_ledger.proofs.Placed.{stands, stands_for, rows_placed, placed_put, standing_placed, told_up}

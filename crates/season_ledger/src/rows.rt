@@ -3,12 +3,12 @@ ghost use Rattle.std.specs.Prelude.{◌≡◌, ◌==◌, ◌<◌, ◌≤◌, ◌
 ghost use Rattle.std.specs.List.{list_any};
 ghost use Rattle.std.specs.Option.{option_map};
 ghost use Rattle.rule_book.specs.EntryRecords.{sales_in};
-ghost use Rattle.rule_book.specs.History.{is_free_hit};
 ghost use Rattle.season_ledger.specs.Rows.{row_at, base_at, put_row, place_at, standing_at, is_up_to, first_in, row_of_record, rows_had, rows_of_records};
 
 use crate::{Row, Standing};
 use fpl_base::{Chip, Gw, Memory, PlayerId};
 use rule_book::{Sale, Team};
+use squad_rules::is_free_hit;
 use std::alloc::Global;
 
 // What a gameweek's own row has.
@@ -37,25 +37,13 @@ pub fn row_in(rows: &[Row], gameweek: u32) -> Option<&Row>
     None
 }
 
-fn plays_free_hit(chip: Chip) -> bool
-    ensures { result ≡ is_free_hit chip }
-{
-    match chip {
-        Chip::FreeHit => true,
-        Chip::None => false,
-        Chip::Wildcard => false,
-        Chip::BenchBoost => false,
-        Chip::TripleCaptain => false,
-    }
-}
-
 // The last row before a gameweek without a free hit.
 pub fn base_of(rows: &[Row], g: u8) -> Option<Row>
     ensures { result ≡ base_at rows.now g }
 {
     let mut found = None;
     'rows: for row in rows {
-        if row.gw.get() < g && !plays_free_hit(row.standing.team.chip) {
+        if row.gw.get() < g && !is_free_hit(row.standing.team.chip) {
             found = Some(*row);
         }
     }

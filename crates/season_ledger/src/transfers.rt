@@ -7,19 +7,7 @@ ghost use Rattle.season_ledger.specs.Rows.{Rise, chip_by, used_by};
 use crate::Row;
 use crate::rows::row_of;
 use fpl_base::{Chip, Gw, Profile};
-
-// Whether a chip makes the gameweek's transfers free.
-fn waives(chip: Chip) -> bool
-    ensures { result ≡ makes_free chip }
-{
-    match chip {
-        Chip::Wildcard => true,
-        Chip::FreeHit => true,
-        Chip::None => false,
-        Chip::BenchBoost => false,
-        Chip::TripleCaptain => false,
-    }
-}
+use squad_rules::{half_of, is_same_chip, makes_free};
 
 // The free transfers of the next gameweek.
 fn next_free(profile: Profile, free: u8, used: u16, chip: Chip) -> u8
@@ -36,12 +24,10 @@ fn next_free(profile: Profile, free: u8, used: u16, chip: Chip) -> u8
         Profile::B => 5,
     };
     let rest = u16::from(free).saturating_sub(used) as u8;
-    match chip {
-        Chip::Wildcard => kept,
-        Chip::FreeHit => kept,
-        Chip::None => (rest + 1).min(most),
-        Chip::BenchBoost => (rest + 1).min(most),
-        Chip::TripleCaptain => (rest + 1).min(most),
+    if makes_free(chip) {
+        kept
+    } else {
+        (rest + 1).min(most)
     }
 }
 
@@ -82,13 +68,7 @@ pub fn cost_of(profile: Profile, rows: &[Row], first: u8, g: u8) -> u32
 {
     let (chip, used) = doings(rows, g);
     let paid = 4 * u32::from(used.saturating_sub(u16::from(free_of(profile, rows, first, g))));
-    match chip {
-        Chip::Wildcard => 0,
-        Chip::FreeHit => 0,
-        Chip::None => paid,
-        Chip::BenchBoost => paid,
-        Chip::TripleCaptain => paid,
-    }
+    if makes_free(chip) { 0 } else { paid }
 }
 
 // What a row adds to the transfers of gameweeks 1 to g that a table counts.
@@ -99,7 +79,7 @@ fn counted_row(row: &Row, first: u8, g: u8) -> u16
         then row.now.standing.made else 0) }
 {
     let w = row.gw.get();
-    if w > g || w == first || waives(row.standing.team.chip) {
+    if w > g || w == first || makes_free(row.standing.team.chip) {
         0
     } else {
         row.standing.made
@@ -120,38 +100,6 @@ pub fn counted_of(rows: &[Row], first: u8, g: u8) -> u32
     }
     let _ = last;
     sum
-}
-
-fn is_same_chip(one: Chip, other: Chip) -> bool
-    ensures { result ≡ is_same_chip one other }
-{
-    match (one, other) {
-        (Chip::None, Chip::None) => true,
-        (Chip::Wildcard, Chip::Wildcard) => true,
-        (Chip::FreeHit, Chip::FreeHit) => true,
-        (Chip::BenchBoost, Chip::BenchBoost) => true,
-        (Chip::TripleCaptain, Chip::TripleCaptain) => true,
-        _ => false,
-    }
-}
-
-// The gameweek from which on a chip is played once.
-fn half_of(split: u8, chip: Chip, g: u8) -> u8
-    ensures value { result ≡ half_of split chip g }
-    ensures from_one { 1 ≤ result }
-{
-    match chip {
-        Chip::Wildcard => {
-            if split < g {
-                return split + 1;
-            }
-            1
-        }
-        Chip::None => 1,
-        Chip::FreeHit => 1,
-        Chip::BenchBoost => 1,
-        Chip::TripleCaptain => 1,
-    }
 }
 
 // The earlier gameweek in which a chip was played, in the same half for a wildcard.

@@ -2,7 +2,7 @@ use Rattle.std.proofs.Common.{◌≡◌, ◌<◌, ◌≤◌, ◌-◌, ℕ, true,
 use Rattle.std.specs.Prelude.{IsSome, IfSome}
 use Rattle.rule_book.specs.HistoryTransfers.{chip_among, half_of, is_same_chip}
 use Rattle.season_ledger.specs.Rows.{chip_by}
-use Rattle.season_ledger.proofs.Chips.{among_found}
+use Rattle.squad_rules.proofs.ChipsPlayed.{among_found}
 use Rattle.season_ledger.proofs.transfers.used_of.Goals as goal
 
 some_of : (o : Option ℕ) (w : ℕ) → IsSome o → IfSome o (λ g. g ≡ w) → o ≡ Some w

@@ -2,7 +2,7 @@ use Rattle.std.proofs.Common.{◌≡◌, ◌-◌, rules, ◌∙◌}
 use Rattle.rule_book.specs.History.{chip_at}
 use Rattle.rule_book.specs.HistoryTransfers.{used_before, half_of}
 use Rattle.season_ledger.specs.Rows.{chip_by}
-use Rattle.season_ledger.proofs.Chips.{among_agree}
+use Rattle.squad_rules.proofs.ChipsPlayed.{among_agree}
 use Rattle.season_ledger.proofs.Frees.{chip_is}
 use Rattle.season_ledger.proofs.Placed.{stands}
 use Rattle.season_ledger.proofs.entry.Entry.chip_used.Goals as goal

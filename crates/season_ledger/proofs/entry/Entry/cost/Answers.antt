@@ -1,4 +1,4 @@
-use Rattle.std.proofs.Common.{◌≡◌, ◌-◌, rules, ◌∙◌}
+use Rattle.std.proofs.Common.{◌≡◌, rules, ◌∙◌}
 use Rattle.season_ledger.specs.Rows.{cost_by}
 use Rattle.season_ledger.proofs.Season.{cost_for}
 use Rattle.season_ledger.proofs.entry.Entry.cost.Goals as goal

@@ -1,4 +1,4 @@
-use Rattle.std.proofs.Common.{◌≡◌, ◌-◌, rules, ◌∙◌}
+use Rattle.std.proofs.Common.{◌≡◌, rules, ◌∙◌}
 use Rattle.season_ledger.specs.Rows.{counted_by}
 use Rattle.season_ledger.proofs.Season.{counted_for}
 use Rattle.season_ledger.proofs.entry.Entry.counted.Goals as goal

@@ -1,4 +1,4 @@
-use Rattle.std.proofs.Common.{◌≡◌, ◌-◌, rules, sym, subst, refl}
+use Rattle.std.proofs.Common.{◌≡◌, rules, sym, subst, refl}
 use Rattle.rule_book.specs.HistoryRules.{FirstTold}
 use Rattle.season_ledger.specs.Rows.{IsKept, first_in, standing_at}
 use Rattle.season_ledger.proofs.Season.{first_for, standing_begun}

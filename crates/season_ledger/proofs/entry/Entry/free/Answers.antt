@@ -1,4 +1,4 @@
-use Rattle.std.proofs.Common.{◌≡◌, ◌-◌, Some, None, rules, sym, subst}
+use Rattle.std.proofs.Common.{◌≡◌, Some, None, rules, sym, subst}
 use Rattle.rule_book.specs.HistoryTransfers.{FreeTold}
 use Rattle.season_ledger.specs.Rows.{free_in}
 use Rattle.season_ledger.proofs.Season.{free_for}

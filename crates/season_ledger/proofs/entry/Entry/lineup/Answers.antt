@@ -1,4 +1,4 @@
-use Rattle.std.proofs.Common.{◌+◌, ◌-◌, ◌++◌, ◌∷◌, List, [], rules, sym, subst}
+use Rattle.std.proofs.Common.{◌++◌, ◌∷◌, List, [], rules, sym, subst}
 use Rattle.rule_book.specs.History.{in_gameweek}
 use Rattle.rule_book.specs.History.Deed.{Lineup}
 use Rattle.season_ledger.specs.declared.row.Row.{Row}

@@ -1,4 +1,4 @@
-use Rattle.std.proofs.Common.{◌≡◌, ◌+◌, ◌-◌, ◌++◌, ◌∷◌, List, [], Some, rules, sym, subst, ap, ◌∙◌}
+use Rattle.std.proofs.Common.{◌≡◌, ◌++◌, ◌∷◌, List, [], Some, rules, sym, subst, ap, ◌∙◌}
 use Rattle.rule_book.specs.History.{in_gameweek}
 use Rattle.rule_book.specs.History.Deed.{Play}
 use Rattle.season_ledger.specs.declared.row.Row.{Row}

@@ -1,4 +1,4 @@
-use Rattle.std.proofs.Common.{◌+◌, ◌-◌, ◌++◌, ◌∷◌, List, [], arith, rules, sym, subst, refl}
+use Rattle.std.proofs.Common.{◌++◌, ◌∷◌, List, [], arith, rules, sym, subst, refl}
 use Rattle.rule_book.specs.History.{in_gameweek}
 use Rattle.rule_book.specs.History.Deed.{First}
 use Rattle.rule_book.specs.HistoryTeam.{holdings}

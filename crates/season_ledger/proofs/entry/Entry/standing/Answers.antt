@@ -1,4 +1,4 @@
-use Rattle.std.proofs.Common.{◌≡◌, ◌-◌, Option, rules, sym, subst}
+use Rattle.std.proofs.Common.{◌≡◌, Option, rules, sym, subst}
 use Rattle.rule_book.specs.HistoryTeam.{TeamTold, TeamBalances}
 use Rattle.season_ledger.specs.declared.row.Standing.{Standing}
 use Rattle.season_ledger.specs.Rows.{IsKept, standing_at, team_in}

@@ -1,4 +1,4 @@
-use Rattle.std.proofs.Common.{◌+◌, ◌-◌, ◌++◌, List, length, map, rules, sym, subst}
+use Rattle.std.proofs.Common.{◌+◌, ◌++◌, List, length, map, rules, sym, subst}
 use Rattle.rule_book.specs.History.{in_gameweek}
 use Rattle.rule_book.specs.History.Deed.{Swap}
 use Rattle.season_ledger.specs.declared.row.Row.{Row}

@@ -4,7 +4,7 @@ use Rattle.fpl_base.specs.declared.kinds.Chip.{Chip}
 use Rattle.rule_book.specs.HistoryTransfers.{is_same_chip, chip_among}
 
 -- the first that has it
-pub among_here : (chips : ℕ → Chip) (chip : Chip) (from k : ℕ) → chip_among chips chip from k ≡ None → is_same_chip chip (chips (from + k)) ≡ true → chip_among chips chip from (suc k) ≡ Some (from + k)
+among_here : (chips : ℕ → Chip) (chip : Chip) (from k : ℕ) → chip_among chips chip from k ≡ None → is_same_chip chip (chips (from + k)) ≡ true → chip_among chips chip from (suc k) ≡ Some (from + k)
 among_here chips chip from k n t = rw (n, t) refl
 
 -- later ones change nothing
