@@ -1,4 +1,3 @@
-pub mod Chips
 pub mod EntriesJudged
 pub mod Judged
 pub mod KeyPlaces

@@ -2,18 +2,15 @@
 ghost use Rattle.std.specs.Prelude.{◌≡◌, ◌==◌, IfOk, map};
 ghost use Rattle.std.specs.List.{list_any};
 ghost use Rattle.fpl_base.specs.Keeping.{map_of};
-ghost use Rattle.record_fields.specs.Ranges.{is_between};
-ghost use Rattle.rule_book.specs.HistoryTransfers.{half_of, is_same_chip, makes_free};
-ghost use Rattle.rule_book.specs.Positions.{keepers, defenders, midfielders, forwards};
-ghost use Rattle.rule_book.specs.Squads.{has_squad_shape};
 ghost use Rattle.stored_records.specs.EntryTold.{is_first_of};
 ghost use Rattle.stored_records.specs.SeasonRules.{terms_told};
 ghost use Rattle.stored_records.specs.Stored.{split_told};
 ghost use Rattle.store_validation.specs.TeamRules.{has_players, is_distinct, is_fit, is_lined_up, is_playable, is_played_again, is_priced, position_in, position_told, positions_told, is_lawful_team};
 
 use fpl_base::{Chip, EntryId, Gw, Memory, Position};
+use player_prices::is_price;
 use record_codec::{Item, Slot};
-use squad_rules::check_lineup;
+use squad_rules::{check_lineup, half_of, has_squad_shape, is_same_chip, makes_free};
 use std::alloc::Global;
 use stored_records::{
     RecordedTeam, Stored, Terms, chip_of, first_of, goes_on, is_first, is_in_time,
@@ -29,13 +26,6 @@ fn has_players(stored: &Stored, picks: &[(u32, u32); 15]) -> bool
         }
     }
     true
-}
-
-/// Whether a price can be: 3.0 to 20.0 million.
-pub(crate) fn is_price(price: u32) -> bool
-    ensures { result ≡ is_between 30 200 price }
-{
-    (30..=200).contains(&price)
 }
 
 // Whether each of the prices can be.
@@ -106,98 +96,11 @@ fn positions_of(
     Ok(positions)
 }
 
-fn keepers(positions: &[Position]) -> usize
-    ensures { result ≡ keepers positions.now }
-{
-    positions.iter().filter(|p| **p == Position::Keeper).count()
-}
-
-fn defenders(positions: &[Position]) -> usize
-    ensures { result ≡ defenders positions.now }
-{
-    positions
-        .iter()
-        .filter(|p| **p == Position::Defender)
-        .count()
-}
-
-fn midfielders(positions: &[Position]) -> usize
-    ensures { result ≡ midfielders positions.now }
-{
-    positions
-        .iter()
-        .filter(|p| **p == Position::Midfielder)
-        .count()
-}
-
-fn forwards(positions: &[Position]) -> usize
-    ensures { result ≡ forwards positions.now }
-{
-    positions
-        .iter()
-        .filter(|p| **p == Position::Forward)
-        .count()
-}
-
-// Whether there are two goalkeepers, five defenders, five midfielders and three forwards.
-fn has_squad_shape(positions: &[Position; 15]) -> bool
-    ensures { result ≡ has_squad_shape positions.now }
-{
-    if keepers(positions) != 2 || defenders(positions) != 5 || midfielders(positions) != 5 {
-        return false;
-    }
-    forwards(positions) == 3
-}
-
 // Whether they are a squad in a lineup that nothing refuses.
 fn is_lined_up(positions: &[Position; 15], captain: u8, vice: u8) -> bool
     ensures { result ≡ is_lined_up positions.now captain vice }
 {
     has_squad_shape(positions) && check_lineup(positions, captain, vice).is_ok()
-}
-
-// Whether a chip makes the gameweek's transfers free.
-pub(crate) fn makes_free(chip: Chip) -> bool
-    ensures { result ≡ makes_free chip }
-{
-    match chip {
-        Chip::Wildcard => true,
-        Chip::FreeHit => true,
-        Chip::None => false,
-        Chip::BenchBoost => false,
-        Chip::TripleCaptain => false,
-    }
-}
-
-fn is_same_chip(one: Chip, other: Chip) -> bool
-    ensures { result ≡ is_same_chip one other }
-{
-    match (one, other) {
-        (Chip::None, Chip::None) => true,
-        (Chip::Wildcard, Chip::Wildcard) => true,
-        (Chip::FreeHit, Chip::FreeHit) => true,
-        (Chip::BenchBoost, Chip::BenchBoost) => true,
-        (Chip::TripleCaptain, Chip::TripleCaptain) => true,
-        _ => false,
-    }
-}
-
-// The gameweek from which on a chip is played once.
-fn half_of(split: u8, chip: Chip, g: u8) -> u8
-    ensures { result ≡ half_of split chip g }
-{
-    match chip {
-        Chip::Wildcard => {
-            if split < g {
-                return split + 1;
-            }
-            1
-        }
-        Chip::None => 1,
-        Chip::FreeHit => 1,
-        Chip::BenchBoost => 1,
-        Chip::TripleCaptain => 1,
-    }
 }
 
 // Whether an earlier team has this chip: a wildcard in the same half.

@@ -1,15 +1,15 @@
 // The rules on a transfer of an entry in a gameweek.
 ghost use Rattle.std.specs.Prelude.{◌≡◌, IfOk, is_some};
 ghost use Rattle.fpl_base.specs.Keeping.{map_of};
-ghost use Rattle.rule_book.specs.EntryCalls.{transfer_limit};
 ghost use Rattle.stored_records.specs.EntryTold.{sale_told};
 ghost use Rattle.stored_records.specs.SeasonRules.{terms_told};
 ghost use Rattle.store_validation.specs.TransferRules.{IsKnown, is_next_number, is_priced_sale, names_players, is_lawful_sale, term_told};
 
-use crate::team_rules::{is_price, makes_free};
-use fpl_base::{Chip, EntryId, Gw, Memory};
+use fpl_base::{EntryId, Gw, Memory};
+use player_prices::is_price;
 use record_codec::Slot;
 use rule_book::Sale;
+use squad_rules::transfer_limit;
 use std::alloc::Global;
 use stored_records::{Stored, Terms, chip_in, first_of, is_first, is_in_time, sale_of, team_of};
 
@@ -39,7 +39,7 @@ pub(crate) fn term_of(
         entry: entry.get(),
         gameweek: gameweek.get(),
         open_to_transfers: is_in_time(terms, first, gameweek) && team.is_some(),
-        most: transfer_limit(is_first(first, gameweek), chip_in(&team)),
+        most: u32::from(transfer_limit(is_first(first, gameweek), chip_in(&team))),
     })
 }
 
@@ -66,13 +66,6 @@ pub(crate) fn known_term(
     let term = term_of(alloc, stored, terms, entry, gameweek)?;
     *known = Some(term);
     Ok(term)
-}
-
-// So many transfers are made in a gameweek at most.
-fn transfer_limit(first: bool, chip: Chip) -> u32
-    ensures { result ≡ transfer_limit first chip }
-{
-    if first || makes_free(chip) { 1000 } else { 20 }
 }
 
 // Whether a number is 1, or the transfer before it is there.

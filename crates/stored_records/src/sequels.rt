@@ -2,7 +2,6 @@
 ghost use Rattle.std.specs.Prelude.{[], ◌≡◌, ◌≤◌, ◌+◌, IfOk, IfSome, None, OnOk, Some, map};
 ghost use Rattle.fpl_base.specs.Keeping.{map_of};
 ghost use Rattle.rule_book.specs.EntryRecords.{price_among};
-ghost use Rattle.rule_book.specs.History.{is_free_hit};
 ghost use Rattle.rule_book.specs.HistoryRules.{times};
 ghost use Rattle.stored_records.specs.EntryTold.{is_first_of, sale_told, team_told};
 ghost use Rattle.stored_records.specs.Sequels.{HasFew, IsTraded, Trades, are_alike, are_same_holdings, base_told, comes_of};
@@ -10,8 +9,9 @@ ghost use Rattle.stored_records.specs.Sequels.{every_sale_told, follows_told, go
 
 use crate::entry_told::{RecordedTeam, sale_of, team_of};
 use crate::stored::Stored;
-use fpl_base::{Chip, EntryId, Gw, Memory};
+use fpl_base::{EntryId, Gw, Memory};
 use rule_book::Sale;
+use squad_rules::is_free_hit;
 use std::alloc::Global;
 
 // A record has one of so many numbers, from 0 on.
@@ -25,18 +25,6 @@ struct Traded {
     earned: u64,
 }
 
-fn plays_free_hit(chip: Chip) -> bool
-    ensures { result ≡ is_free_hit chip }
-{
-    match chip {
-        Chip::FreeHit => true,
-        Chip::None => false,
-        Chip::Wildcard => false,
-        Chip::BenchBoost => false,
-        Chip::TripleCaptain => false,
-    }
-}
-
 // The team of a gameweek, unless it is one of a free hit.
 fn lasting_of(
     alloc: Global,
@@ -48,7 +36,7 @@ fn lasting_of(
 {
     match team_of(alloc, stored, entry, gameweek)? {
         Some(team) => {
-            if plays_free_hit(team.chip) {
+            if is_free_hit(team.chip) {
                 return Ok(None);
             }
             Ok(Some(team))
