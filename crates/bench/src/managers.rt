@@ -6,7 +6,7 @@ ghost use Rattle.rule_book.specs.Players.{player_of};
 use crate::Plan;
 use fpl_base::{ClubId, EntryId, Gw, Key, Name, PlayerId, Position, Profile, ReadCount, Tenths};
 use manager_book::ManagerBook;
-use player_prices::{Player, Players};
+use player_market::{Player, Players};
 use std::alloc::Global;
 use std::marker::Brand;
 use std::sync::ledger::{Blank, Ledger};

@@ -2,7 +2,7 @@
 //! many to none, the greatest id first, and `add_rising` the least id first.
 use crate::Plan;
 use fpl_base::{ClubId, Name, PlayerId, Position, Refused, Tenths};
-use player_prices::{Player, Players};
+use player_market::{Player, Players};
 use std::alloc::Global;
 
 #[derive(Clone, Copy)]

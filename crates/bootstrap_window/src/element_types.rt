@@ -7,7 +7,7 @@ ghost use Rattle.season_book.specs.ElementTypes.{element_type_data, element_type
 use fpl_base::Position;
 use json::Writer;
 use json_members::{write_count, write_text};
-use player_prices::Players;
+use player_market::Players;
 use std::alloc::AllocError;
 
 /// The four positions, each with the number of its players.

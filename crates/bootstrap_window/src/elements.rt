@@ -16,7 +16,7 @@ use crate::totals::Totals;
 use fpl_base::{Gw, PlayerId, ReadCount};
 use json::Writer;
 use json_members::{text_of, write_count, write_integer, write_nothing, write_text};
-use player_prices::Players;
+use player_market::Players;
 use rule_book::Player;
 use season_views::{Seen, SeenCells, gameweek_held};
 use std::alloc::{AllocError, Global};

@@ -17,10 +17,9 @@ use json::Writer;
 use json_members::{
     write_count, write_count_or_null, write_integer_or_null, write_text, write_truth,
 };
-use season_views::{Seen, SeenCells, deadline_at};
+use season_views::{Seen, SeenCells, deadline_at, write_moment};
 use std::alloc::{AllocError, Global};
 use std::sync::ledger::Ledger;
-use window_parts::write_moment;
 
 /// What is shown of a gameweek.
 #[derive(Clone, Copy)]

@@ -1,2 +1,6 @@
+pub mod Courses
+pub mod EntryLaws
+pub mod Races
+pub mod Told
 pub mod EntrySummary
 pub mod EntryTokens

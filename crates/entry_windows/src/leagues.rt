@@ -6,13 +6,13 @@ ghost use Rattle.rule_book.specs.Leagues.{LeagueFacts};
 ghost use Rattle.season_book.specs.Windows.{listed};
 ghost use Rattle.season_views.specs.Seen.{IsKept, OfEachSeen};
 ghost use Rattle.json_members.specs.Tokens.{tokens_of};
-ghost use Rattle.standings_windows.specs.Openings.{WritesData};
+ghost use Rattle.league_windows.specs.Openings.{WritesData};
 ghost use Rattle.entry_windows.specs.EntryTokens.{WritesTokens};
 ghost use Rattle.season_book.specs.EntryWindow.{classic_league_told, classic_leagues_of, entry_leagues_told, head_league_told, head_leagues_of};
 ghost use Rattle.season_views.specs.EntryWindowReads.{classic_league_reads, head_league_reads};
 
-use crate::ranks::{classic_ranks, head_ranks};
-use crate::writing::write_league;
+use crate::entry_writing::write_league;
+use crate::event_ranks::{classic_ranks, head_ranks};
 use classic_leagues::League;
 use fpl_base::{EntryId, LeagueId, Memory, ReadCount};
 use json::Writer;

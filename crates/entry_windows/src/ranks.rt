@@ -1,163 +1,231 @@
-// The ranks of an entry in its leagues.
-ghost use Rattle.std.specs.Prelude.{◌≡◌, ◌≤◌, ◌<◌, ◌+◌, ◌*◌, ℕ, ℤ, true, false, AllPairs, Contains, IfOk, Some, get_or, length, map};
-ghost use Rattle.rule_book.specs.declared.tables.HeadScore.{HeadScore};
+// The total of an entry through each gameweek, and its rank among all entries.
+ghost use Rattle.std.specs.Prelude.{◌≡◌, ◌≤◌, ◌<◌, ◌+◌, ◌-◌, ◌*◌, ◌^◌, ℕ, All, length, slice_index};
 ghost use Rattle.rule_book.specs.ClassicTable.{is_better};
 ghost use Rattle.rule_book.specs.Entries.{entry_in};
-ghost use Rattle.rule_book.specs.HeadToHead.{is_better as is_better_in_head};
-ghost use Rattle.rule_book.specs.LeagueCalls.{is_head, is_member};
-ghost use Rattle.rule_book.specs.Ranks.{rank_among};
-ghost use Rattle.season_views.specs.Cells.{AreKeptWith};
+ghost use Rattle.rule_book.specs.FigureRange.{IsWithin};
+ghost use Rattle.rule_book.specs.HistoryTeam.{is_begun};
+ghost use Rattle.rule_book.specs.HistoryTransfers.{counted_through};
+ghost use Rattle.season_book.specs.Book.{EntryFacts};
+ghost use Rattle.season_views.specs.Entries.{OfEachHistory, net_by};
 ghost use Rattle.season_views.specs.Seen.{IsKept, OfEachSeen};
-ghost use Rattle.season_book.specs.LeagueTables.{classic_last_rank, classic_rank, head_last_rank, head_rank};
+ghost use Rattle.entry_windows.specs.Courses.{IsCourse, ahead_by, row_at};
+ghost use Rattle.season_book.specs.EntryTotals.{total_through};
+ghost use Rattle.entry_windows.specs.Races.{AreRanks, IsRace};
 
-use classic_leagues::League;
-use fpl_base::{EntryId, LeagueId, Memory, ReadCount};
-use rule_book::HeadScore;
+use crate::shapes::{Course, Race};
+use fpl_base::{EntryId, Gw, ReadCount};
 use season_ledger::rows_tell;
-use season_views::{Seen, SeenCells, classic_rows, head_rows};
-use standings_windows::{classic_last_ranks, head_last_ranks, rank_of};
-use std::alloc::Global;
+use season_views::{Seen, SeenCells, score_held};
 use std::sync::ledger::Ledger;
 
-/// The rank of an entry in a league as it stood a gameweek before, 0 where the league had not begun by then, and as it
-/// stands now.
-#[derive(Clone, Copy, Drop)]
-pub struct LeagueRanks {
-    pub last: u32,
-    pub current: u64,
-}
-
-/// Those of a member of a classic league.
-pub fn classic_ranks<L: Ledger>(
-    alloc: Global,
+/// An entry's totals and ranks through each gameweek up to a locked one. Of each entry it reads each of these gameweeks
+/// once, and its transfers only where the totals are equal.
+pub fn race<L: Ledger>(
     seen: &Seen<L>,
     cells: &SeenCells<L>,
-    league: &League,
     entry: EntryId,
+    through: Gw,
     steps: &mut ReadCount<L>,
-) -> Result<LeagueRanks, Memory>
+) -> Race
     requires kept { IsKept seen.now cells.now }
-    requires with { AreKeptWith seen.now.facts seen.now.managers league.now cells.now }
-    requires kind { is_head league.now.kind ≡ false }
-    requires member { is_member league.now entry ≡ true }
-    ensures last { IfOk result
-        (λ ranks. OfEachSeen seen.now
-        (λ entries. ranks.last ≡ classic_last_rank seen.now.facts entries league.now entry)) }
-    ensures current { IfOk result
-        (λ ranks. OfEachSeen seen.now
-        (λ entries. ranks.current
-        ≡ classic_rank seen.now.facts entries league.now seen.now.facts.calendar.locked entry)) }
-    ensures cost { steps.new ≤ steps.old + 4 * length league.now.members }
+    requires locked { through ≤ seen.now.facts.calendar.locked }
+    ensures value { OfEachSeen seen.now
+        (λ entries. (row : EntryFacts) → entry_in entries entry ≡ Some row
+        → IsRace seen.now.facts entries (entry, row) through result) }
+    ensures cost { steps.new
+        ≤ steps.old + (length seen.now.managers.managers + 1) * (2 * through) }
 {
-    let rows = classic_rows(alloc, seen, cells, league, steps)?;
-    let ranks = classic_last_ranks(alloc, seen, cells, league, &rows, steps)?;
-    let last = rank_of(league.members(), &ranks, entry);
-    let current = classic_rank_of(league.members(), &rows, entry);
-    Ok(LeagueRanks { last, current })
-}
-
-/// Those of a member of a head-to-head league.
-pub fn head_ranks<L: Ledger>(
-    alloc: Global,
-    seen: &Seen<L>,
-    cells: &SeenCells<L>,
-    id: LeagueId,
-    league: &League,
-    entry: EntryId,
-    steps: &mut ReadCount<L>,
-) -> Result<LeagueRanks, Memory>
-    requires kept { IsKept seen.now cells.now }
-    requires there { entry_in seen.now.leagues id ≡ Some league.now }
-    requires member { is_member league.now entry ≡ true }
-    ensures last { IfOk result
-        (λ ranks. OfEachSeen seen.now
-        (λ entries. ranks.last ≡ head_last_rank seen.now.facts entries league.now entry)) }
-    ensures current { IfOk result
-        (λ ranks. OfEachSeen seen.now
-        (λ entries. ranks.current
-        ≡ head_rank seen.now.facts entries league.now seen.now.facts.calendar.locked entry)) }
-    ensures cost { steps.new ≤ steps.old + 3 * length league.now.members }
-{
-    // The law that rows tell what their histories do, that the ids of players rise, and that a league starts in a
-    // gameweek, for the prover.
-    rows_tell();
+    // That the ids of players rise, for the prover.
     let _count = seen.players().len();
-    let _start = league.start();
-    let rows = head_rows(alloc, cells, id, league, steps)?;
-    let ranks = head_last_ranks(alloc, seen, cells, id, league, &rows, steps)?;
-    let last = rank_of(league.members(), &ranks, entry);
-    let current = head_rank_of(league.members(), &rows, entry);
-    Ok(LeagueRanks { last, current })
+    let course = course(seen, cells, entry, through, steps);
+    let ranks = ranks(seen, cells, &course, through, steps);
+    Race { course, ranks }
 }
 
-// The place of a member among the members.
-fn place_of(members: &[EntryId], entry: EntryId) -> usize
-    requires rise { AllPairs (λ a b. a < b) members.now }
-    requires member { Contains members.now entry }
-    ensures within { result < length members.now }
-    ensures is { get_or members.now result 0 ≡ entry }
+// The course of an entry.
+fn course<L: Ledger>(
+    seen: &Seen<L>,
+    cells: &SeenCells<L>,
+    entry: EntryId,
+    through: Gw,
+    steps: &mut ReadCount<L>,
+) -> Course
+    requires kept { IsKept seen.now cells.now }
+    requires locked { through ≤ seen.now.facts.calendar.locked }
+    ensures value { OfEachHistory seen.now.facts seen.now.managers entry
+        (λ h. IsCourse seen.now.facts h through result) }
+    ensures cost { steps.new ≤ steps.old + 2 * through }
 {
-    match members.binary_search(&entry) {
-        Ok(place) => place,
-        Err(_) => unreachable!(),
+    let mut course = Course {
+        totals: [0; 38],
+        transfers: [0; 38],
+    };
+    let mut total = 0;
+    for passed in 0..through.get() {
+        total = total_with(seen, cells, entry, passed, total, steps);
+        let place = usize::from(passed);
+        course.totals[place] = total;
+        course.transfers[place] = seen.counted_transfers(entry, passed + 1, steps);
+    }
+    course
+}
+
+// The rank of each place of a course: 1, and 1 more for each entry that is ahead there.
+fn ranks<L: Ledger>(
+    seen: &Seen<L>,
+    cells: &SeenCells<L>,
+    course: &Course,
+    through: Gw,
+    steps: &mut ReadCount<L>,
+) -> [u64; 38]
+    requires kept { IsKept seen.now cells.now }
+    requires locked { through ≤ seen.now.facts.calendar.locked }
+    ensures value { OfEachSeen seen.now
+        (λ entries. AreRanks seen.now.facts entries course.now through result) }
+    ensures cost { steps.new
+        ≤ steps.old + length seen.now.managers.managers * (2 * through) }
+{
+    // That the ids of players rise, for the prover.
+    let _count = seen.players().len();
+    let mut ranks = [1u64; 38];
+    for place in 0..seen.entries() {
+        let other = EntryId::new(place + 1).unwrap();
+        add_ahead(&mut ranks, seen, cells, other, course, through, steps);
+    }
+    ranks
+}
+
+// Puts each place behind an entry that is ahead there.
+fn add_ahead<L: Ledger>(
+    ranks: &mut [u64; 38],
+    seen: &Seen<L>,
+    cells: &SeenCells<L>,
+    other: EntryId,
+    course: &Course,
+    through: Gw,
+    steps: &mut ReadCount<L>,
+)
+    requires kept { IsKept seen.now cells.now }
+    requires locked { through ≤ seen.now.facts.calendar.locked }
+    requires room { All (λ rank. rank < 2 ^ 64 - 1) ranks.old }
+    ensures value { OfEachHistory seen.now.facts seen.now.managers other
+        (λ h. (place : ℕ) → place < through
+        → slice_index ranks.new place
+        ≡ slice_index ranks.old place + ahead_by seen.now.facts h course.now place) }
+    ensures few { (n : ℕ) → All (λ rank. rank ≤ n) ranks.old
+        → All (λ rank. rank ≤ n + 1) ranks.new }
+    ensures cost { steps.new ≤ steps.old + 2 * through }
+{
+    let mut total = 0;
+    for passed in 0..through.get() {
+        total = total_with(seen, cells, other, passed, total, steps);
+        ranks[usize::from(passed)] += ahead(seen, other, passed, total, course, steps);
     }
 }
 
-// The rank of a member's row of a classic league among all rows.
-fn classic_rank_of(members: &[EntryId], rows: &[(EntryId, i32, u32)], entry: EntryId) -> u64
-    requires rise { AllPairs (λ a b. a < b) members.now }
-    requires member { Contains members.now entry }
-    requires each { length rows.now ≡ length members.now }
-    requires few { length rows.now ≤ 2048 }
-    ensures { (row : ℕ → ℕ × ℤ × ℕ) → rows.now ≡ map row members.now
-        → result ≡ rank_among is_better rows.now (row entry) }
+// 1 where an entry that has this total is in the next gameweek and ahead there, else 0.
+fn ahead<L: Ledger>(
+    seen: &Seen<L>,
+    other: EntryId,
+    passed: u8,
+    total: i32,
+    course: &Course,
+    steps: &mut ReadCount<L>,
+) -> u64
+    requires { passed < 38 }
+    ensures value { OfEachHistory seen.now.facts seen.now.managers other
+        (λ h. total ≡ total_through seen.now.facts h (passed + 1)
+        → result ≡ ahead_by seen.now.facts h course.now passed) }
+    ensures few { result ≤ 1 }
+    ensures cost { steps.new ≤ steps.old + 1 }
 {
-    let place = place_of(members, entry);
-    classic_rank(rows, &rows[place])
+    if !is_in(seen, other, passed) {
+        return 0;
+    }
+    if is_better(seen, other, passed, total, course, steps) {
+        1
+    } else {
+        0
+    }
 }
 
-// The rank of a row of a classic league among all rows.
-fn classic_rank(rows: &[(EntryId, i32, u32)], own: &(EntryId, i32, u32)) -> u64
-    requires few { length rows.now ≤ 2048 }
-    ensures { result ≡ rank_among is_better rows.now own.now }
+// Whether a total is better than that of a course behind so many gameweeks and one: it is greater, or the same by fewer
+// transfers.
+fn is_better<L: Ledger>(
+    seen: &Seen<L>,
+    other: EntryId,
+    passed: u8,
+    total: i32,
+    course: &Course,
+    steps: &mut ReadCount<L>,
+) -> bool
+    requires { passed < 38 }
+    ensures value { OfEachHistory seen.now.facts seen.now.managers other
+        (λ h. result
+        ≡ is_better (0, total, counted_through h (passed + 1)) (row_at course.now passed)) }
+    ensures cost { steps.new ≤ steps.old + 1 }
 {
-    rows.iter().filter(|row| is_better(row, own)).count() as u64 + 1
+    let place = usize::from(passed);
+    let own = course.totals[place];
+    if total != own {
+        return total > own;
+    }
+    seen.counted_transfers(other, passed + 1, steps) < course.transfers[place]
 }
 
-// Whether a row of a classic league is better than another: by the greater total, then by fewer transfers.
-fn is_better(row: &(EntryId, i32, u32), own: &(EntryId, i32, u32)) -> bool
-    ensures { result ≡ is_better row.now own.now }
+// Whether an entry is in the gameweek behind so many.
+fn is_in<L: Ledger>(seen: &Seen<L>, entry: EntryId, passed: u8) -> bool
+    requires { passed < 38 }
+    ensures { OfEachHistory seen.now.facts seen.now.managers entry
+        (λ h. result ≡ is_begun h (passed + 1)) }
 {
-    row.1 > own.1 || (row.1 == own.1 && row.2 < own.2)
+    match seen.first(entry) {
+        Some(first) => first.get() <= passed + 1,
+        None => false,
+    }
 }
 
-// The rank of a member's row of a head-to-head league among all rows.
-fn head_rank_of(members: &[EntryId], rows: &[(EntryId, HeadScore)], entry: EntryId) -> u64
-    requires rise { AllPairs (λ a b. a < b) members.now }
-    requires member { Contains members.now entry }
-    requires each { length rows.now ≡ length members.now }
-    requires few { length rows.now ≤ 2048 }
-    ensures { (row : ℕ → ℕ × HeadScore) → rows.now ≡ map row members.now
-        → result ≡ rank_among is_better_in_head rows.now (row entry) }
+// The total of an entry through the gameweek behind so many locked ones, by that through them.
+fn total_with<L: Ledger>(
+    seen: &Seen<L>,
+    cells: &SeenCells<L>,
+    entry: EntryId,
+    passed: u8,
+    total: i32,
+    steps: &mut ReadCount<L>,
+) -> i32
+    requires kept { IsKept seen.now cells.now }
+    requires locked { passed < seen.now.facts.calendar.locked }
+    requires few { passed < 38 }
+    requires near { IsWithin (18000000 * passed) total }
+    ensures value { OfEachHistory seen.now.facts seen.now.managers entry
+        (λ h. total ≡ total_through seen.now.facts h passed
+        → result ≡ total_through seen.now.facts h (passed + 1)) }
+    ensures near { IsWithin (18000000 * (passed + 1)) result }
+    ensures cost { steps.new ≡ steps.old + 1 }
 {
-    let place = place_of(members, entry);
-    head_rank(rows, &rows[place])
+    total + net_in(seen, cells, entry, Gw::new(passed + 1).unwrap(), steps)
 }
 
-// The rank of a row of a head-to-head league among all rows.
-fn head_rank(rows: &[(EntryId, HeadScore)], own: &(EntryId, HeadScore)) -> u64
-    requires few { length rows.now ≤ 2048 }
-    ensures { result ≡ rank_among is_better_in_head rows.now own.now }
+// The points of an entry in a locked gameweek after deductions; 0 before its first.
+fn net_in<L: Ledger>(
+    seen: &Seen<L>,
+    cells: &SeenCells<L>,
+    entry: EntryId,
+    gameweek: Gw,
+    steps: &mut ReadCount<L>,
+) -> i32
+    requires kept { IsKept seen.now cells.now }
+    requires locked { gameweek ≤ seen.now.facts.calendar.locked }
+    ensures value { OfEachHistory seen.now.facts seen.now.managers entry
+        (λ h. result ≡ net_by seen.now.facts h gameweek) }
+    ensures near { IsWithin 18000000 result }
+    ensures cost { steps.new ≡ steps.old + 1 }
 {
-    rows.iter()
-        .filter(|row| is_better_in_head(row, own))
-        .count() as u64
-        + 1
-}
-
-// Whether a row of a head-to-head league is better than another: by more match points, then by more points scored.
-fn is_better_in_head(row: &(EntryId, HeadScore), own: &(EntryId, HeadScore)) -> bool
-    ensures { result ≡ is_better_in_head row.now own.now }
-{
-    row.1.points > own.1.points || (row.1.points == own.1.points && row.1.scored > own.1.scored)
+    // The law that rows tell what their histories do, for the prover.
+    rows_tell();
+    match score_held(cells, entry, gameweek, steps) {
+        Some(score) => score.net,
+        None => 0,
+    }
 }

@@ -8,10 +8,11 @@ ghost use Rattle.season_book.specs.EntryTotals.{event_rank, gross_by, is_in};
 ghost use Rattle.entry_windows.specs.EntrySummary.{summary_if_in, summary_of};
 ghost use Rattle.season_book.specs.EntryWindow.{transfers_after};
 
+use crate::ranks::race;
+use crate::rows::played;
 use fpl_base::{EntryId, Gw, ReadCount, Tenths};
-use history_windows::{played, race};
+use league_windows::{last_gameweek, score};
 use season_views::{Seen, SeenCells};
-use standings_windows::{last_gameweek, score};
 use std::sync::ledger::Ledger;
 
 /// What an entry has of the last locked gameweek, in which it is: its bank, its points there before deductions and its

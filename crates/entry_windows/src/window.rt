@@ -4,19 +4,19 @@ ghost use Rattle.rule_book.specs.Entries.{entry_in};
 ghost use Rattle.rule_book.specs.UpTo.{start_of};
 ghost use Rattle.season_book.specs.Book.{EntryFacts};
 ghost use Rattle.season_views.specs.Seen.{IsKept, OfEachSeen, ShowsEach, WritesShown};
-ghost use Rattle.standings_windows.specs.Openings.{WritesData};
+ghost use Rattle.league_windows.specs.Openings.{WritesData};
 ghost use Rattle.season_book.specs.EntryWindow.{entry_told, entry_window};
 ghost use Rattle.season_views.specs.EntryWindowReads.{entry_window_reads, reads_of_many};
 
+use crate::entry_writing::{begin_entry, end_entry};
 use crate::leagues::write_leagues;
 use crate::summary::{last_summary, transfers_after};
-use crate::writing::{begin_entry, end_entry};
 use fpl_base::{EntryId, Gw, Memory, ReadCount};
 use json::Writer;
 use json_members::{write_count, write_text};
+use league_windows::{last_gameweek, name_text};
 use season_entries::entries_are_issued;
 use season_views::{Seen, SeenCells, issued};
-use standings_windows::{last_gameweek, name_text};
 use std::alloc::Global;
 use std::sync::ledger::Ledger;
 

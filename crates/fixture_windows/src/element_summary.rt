@@ -38,10 +38,9 @@ use json_members::{
 use rule_book::{Fixture, Line, Player};
 use scoring::{bps, line_points};
 use season_rules::bonus_among;
-use season_views::{Seen, SeenCells};
+use season_views::{Seen, SeenCells, write_moment};
 use std::alloc::{AllocError, Global};
 use std::sync::ledger::Ledger;
-use window_parts::write_moment;
 
 /// The player of a number: the matches that his club has before it, and his lines. Each line of a match in which he has one
 /// is a counted read, and its bonuses are one.

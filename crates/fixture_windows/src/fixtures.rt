@@ -19,10 +19,9 @@ use fpl_base::{FixtureId, Gw, Memory, ReadCount};
 use json::Writer;
 use json_members::{write_count, write_count_or_null, write_no_list, write_truth};
 use rule_book::{Fixture, Line};
-use season_views::{Seen, SeenCells};
+use season_views::{Seen, SeenCells, write_moment};
 use std::alloc::{AllocError, Global};
 use std::sync::ledger::Ledger;
-use window_parts::write_moment;
 
 // As many minutes has a match.
 const MINUTES: u64 = 90;

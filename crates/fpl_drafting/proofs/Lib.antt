@@ -1,2 +1,5 @@
+pub mod Elevens
+pub mod RowLemmas
+pub mod TotalLemmas
 pub mod StepLemmas
 pub mod TellLemmas

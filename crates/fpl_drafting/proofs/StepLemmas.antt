@@ -11,7 +11,7 @@ use Rattle.season_book.specs.declared.answer.Answer.TheVariants as answer
 use Rattle.season_book.specs.declared.request.Request.{Request}
 use Rattle.season_book.specs.declared.request.Request.TheVariants as request
 use Rattle.season_book.specs.declared.request.View.TheVariants as view
-use Rattle.reply_laws.specs.Replying.{Served}
+use Rattle.request_handler.specs.Replying.{Served}
 use Rattle.request_handler.specs.Kept.{Kept, Leads}
 use Rattle.request_handler.proofs.KeptLemmas.{leads_on, leads_same}
 use Rattle.local_requests.proofs.AskingLemmas.{leads_then}
@@ -21,7 +21,7 @@ use Rattle.draft_league.specs.Leagues.{League}
 use Rattle.draft_league.specs.Rules.{IsJudged}
 use Rattle.draft_league.specs.declared.rule.DraftRefused.{DraftRefused}
 use Rattle.draft_league.specs.declared.rule.DraftRefused.TheVariants as refused
-use Rattle.draft_sheet.specs.declared.row.DraftRow.{DraftRow}
+use Rattle.fpl_drafting.specs.declared.row.DraftRow.{DraftRow}
 use Rattle.fpl_drafting.specs.Steps.{DoesAs, IsDone, IsStep, StepsOn, StopsBy, asked_of, position_in, refusal_of}
 
 -- a count that rose later rose since

@@ -6,14 +6,14 @@ use Rattle.season_book.specs.declared.answer.Answer.TheVariants as answer
 use Rattle.season_book.specs.declared.request.Request.TheVariants as request
 use Rattle.season_book.specs.declared.request.View.TheVariants as view
 use Rattle.season_book.specs.declared.shown.Shown.TheVariants as shown
-use Rattle.reply_laws.specs.Replying.{Served}
+use Rattle.request_handler.specs.Replying.{Served}
 use Rattle.local_requests.specs.Asking.{IsHeard}
 use Rattle.local_requests.specs.Printing.{EndsBy, PrintsOne}
 use Rattle.draft_league.specs.Leagues.{League, founded, is_over}
-use Rattle.draft_sheet.specs.Texts.{outcomes_text, picks_text}
-use Rattle.draft_sheet.specs.Totals.{IsTableText, asked_of_all}
-use Rattle.draft_sheet.specs.declared.row.DraftRow.{DraftRow}
-use Rattle.draft_sheet.specs.declared.totals.Told.{Told}
+use Rattle.fpl_drafting.specs.Texts.{outcomes_text, picks_text}
+use Rattle.fpl_drafting.specs.Totals.{IsTableText, asked_of_all}
+use Rattle.fpl_drafting.specs.declared.row.DraftRow.{DraftRow}
+use Rattle.fpl_drafting.specs.declared.totals.Told.{Told}
 use Rattle.fpl_drafting.specs.Steps.{StepsOn}
 
 -- how many gameweeks are locked, by an answer that shows the season; no season has more than 38

@@ -1,3 +1,6 @@
+pub mod Rows
+pub mod Texts
+pub mod Totals
 pub mod Drafting
 pub mod Steps
 pub mod Telling

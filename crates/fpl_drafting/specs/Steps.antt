@@ -7,7 +7,7 @@ use Rattle.season_book.specs.declared.answer.Answer.TheVariants as answer
 use Rattle.season_book.specs.declared.request.Request.TheVariants as request
 use Rattle.season_book.specs.declared.request.View.TheVariants as view
 use Rattle.season_book.specs.declared.shown.Shown.TheVariants as shown
-use Rattle.reply_laws.specs.Replying.{Served}
+use Rattle.request_handler.specs.Replying.{Served}
 use Rattle.local_requests.specs.Asking.{IsHeard}
 use Rattle.local_requests.specs.Printing.{EndsBy, PrintsOne}
 use Rattle.draft_league.specs.Leagues.{AreOutcomes, League, bidden, picked, waived}
@@ -18,8 +18,8 @@ use Rattle.draft_league.specs.declared.kinds.Outcome.{Outcome}
 use Rattle.draft_league.specs.declared.rule.DraftRefused.{DraftRefused}
 use Rattle.draft_league.specs.declared.rule.DraftRefused.TheVariants as refused
 use Rattle.draft_league.specs.declared.rule.DraftRule.{DraftRule}
-use Rattle.draft_sheet.specs.declared.row.DraftRow.{DraftRow}
-use Rattle.draft_sheet.specs.declared.row.DraftRow.TheVariants as row
+use Rattle.fpl_drafting.specs.declared.row.DraftRow.{DraftRow}
+use Rattle.fpl_drafting.specs.declared.row.DraftRow.TheVariants as row
 use Rattle.fpl_drafting.specs.Telling.{refused_text}
 
 -- Each part goes on with something, `Ok`, and then nothing was written; or it ends the command with an exit status, `Err`, and

@@ -2,14 +2,14 @@
 ghost use Rattle.std.specs.Prelude.{◌≡◌, ◌≤◌, ◌⊎◌, false};
 ghost use Rattle.fpl_base.specs.Causes.{Rose};
 ghost use Rattle.request_handler.specs.Kept.{Leads, kept_as};
-ghost use Rattle.draft_sheet.specs.Rows.{AreRowsOf};
+ghost use Rattle.fpl_drafting.specs.Rows.{AreRowsOf};
 ghost use Rattle.fpl_drafting.specs.Drafting.{IsDrafted, IsToldOf};
 
+use crate::row::DraftRow;
 use crate::scoring::tabled;
 use crate::steps::steps_done;
 use crate::telling::{tell_outcomes, tell_picks};
 use draft_league::Draft;
-use draft_sheet::DraftRow;
 use fpl_base::{Clock, Keeper, ReadCount, Sink};
 use local_requests::status::DONE;
 use season_keeping::Host;

@@ -1,11 +1,19 @@
-//! The command for draft leagues: rows of picks, bids and waivers, done one after another with the positions that a host
-//! answers, and what is told of the league behind them.
+//! The command for draft leagues: rows of comma-separated values, picks, bids and waivers, done one after another with the
+//! positions that a host answers, and what is told of the league behind them.
 #![tactic(auto)]
 
 mod drafting;
+mod row;
+mod rows;
 mod scoring;
 mod steps;
 mod telling;
+mod texts;
+mod totals;
 
 pub use drafting::drafted;
+pub use row::DraftRow;
+pub use rows::{RowFault, draft_rows};
 pub use telling::undrafted;
+pub use texts::{outcomes_text, picks_text};
+pub use totals::{Told, questions_of, table_of};

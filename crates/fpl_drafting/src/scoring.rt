@@ -6,12 +6,12 @@ ghost use Rattle.season_book.specs.declared.request.Request.TheVariants as reque
 ghost use Rattle.season_book.specs.declared.request.View.TheVariants as view_of;
 ghost use Rattle.request_handler.specs.Kept.{Leads, kept_as};
 ghost use Rattle.draft_league.specs.Leagues.{is_over};
-ghost use Rattle.draft_sheet.specs.Totals.{IsTableText};
+ghost use Rattle.fpl_drafting.specs.Totals.{IsTableText};
 ghost use Rattle.local_requests.specs.Printing.{PrintsOne};
 ghost use Rattle.fpl_drafting.specs.Drafting.{IsScored, IsTabled, IsTabledOver, PointsOn, locked_in, points_told, told_of};
 
+use crate::totals::{Told, questions_of, table_of};
 use draft_league::Draft;
-use draft_sheet::{Told, questions_of, table_of};
 use fpl_base::{Caller, Clock, Gw, Keeper, ListOf, Memory, PlayerId, ReadCount, Sink};
 use local_requests::status::{DONE, MEMORY};
 use local_requests::{ask, halted, print};

@@ -7,12 +7,12 @@ ghost use Rattle.season_book.specs.declared.request.View.TheVariants as view_of;
 ghost use Rattle.request_handler.specs.Kept.{Leads, kept_as};
 ghost use Rattle.draft_league.specs.Leagues.{picked};
 ghost use Rattle.draft_league.specs.Rules.{IsJudged, pick_refusal, waive_refusal};
-ghost use Rattle.draft_sheet.specs.Rows.{AreRowsOf, IsRowOf};
+ghost use Rattle.fpl_drafting.specs.Rows.{AreRowsOf, IsRowOf};
 ghost use Rattle.fpl_drafting.specs.Steps.{Changes, IsDone, IsStep, StepsOn, StopsBy, Waives, asked_of, position_in, refusal_of};
 
+use crate::row::DraftRow;
 use crate::telling::refused;
 use draft_league::{Draft, DraftRefused};
-use draft_sheet::DraftRow;
 use fpl_base::{Caller, Clock, Gw, Keeper, PlayerId, Position, ReadCount, Sink};
 use local_requests::status::MEMORY;
 use local_requests::{ask, halted};

@@ -2,12 +2,13 @@
 ghost use Rattle.std.specs.Prelude.{◌≡◌, ◌≤◌, ◌⊎◌, IfOk, string_bytes};
 ghost use Rattle.fpl_base.specs.Causes.{Rose};
 ghost use Rattle.draft_league.specs.RuleNumbers.{number_of};
-ghost use Rattle.draft_sheet.specs.Texts.{outcomes_text, picks_text};
+ghost use Rattle.fpl_drafting.specs.Texts.{outcomes_text, picks_text};
 ghost use Rattle.local_requests.specs.Printing.{Prints, PrintsOne};
 ghost use Rattle.fpl_drafting.specs.Telling.{TellsRowFault, refused_text, row_text};
 
+use crate::rows::RowFault;
+use crate::texts::{outcomes_text, picks_text};
 use draft_league::{DraftRule, Outcome};
-use draft_sheet::{RowFault, outcomes_text, picks_text};
 use fpl_base::{Memory, Sink};
 use local_requests::print;
 use local_requests::status::{DONE, MEMORY, REFUSED_ROW, WRITE_FAULT, WRONG_ROW};

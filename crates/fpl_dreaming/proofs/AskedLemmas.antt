@@ -15,13 +15,13 @@ use Rattle.season_book.specs.declared.request.Request.{Request}
 use Rattle.season_book.specs.declared.request.Request.TheVariants as request
 use Rattle.season_book.specs.declared.request.View.TheVariants as view
 use Rattle.season_running.specs.Standing.{StandsIn, players_in}
-use Rattle.reply_laws.specs.Replying.{Served}
+use Rattle.request_handler.specs.Replying.{Served}
 use Rattle.request_handler.specs.Kept.{Kept, Leads}
 use Rattle.request_handler.proofs.KeptLemmas.{leads_on, leads_same}
 use Rattle.local_requests.proofs.AskingLemmas.{leads_then}
 use Rattle.local_requests.specs.Asking.{IsHeard}
 use Rattle.local_requests.specs.Printing.{EndsBy, Prints, unknown_text}
-use Rattle.dream_team.specs.Elevens.{Row}
+use Rattle.squad_rules.specs.Elevens.{Row}
 use Rattle.fpl_dreaming.specs.Dreaming.{AsksOn, IsDreamed, IsDreamedIn, TellsDream}
 use Rattle.fpl_dreaming.specs.Rows.{ArePointsAsked, IsRowAsked, figures_in, locked_in, position_in, row_of, with_row}
 

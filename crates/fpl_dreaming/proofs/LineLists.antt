@@ -1,7 +1,7 @@
 -- The lines of players, one more at a time.
 use Rattle.std.proofs.Common.{◌≡◌, ◌∙◌, ◌<◌, ◌+◌, ℕ, List, [], ◌∷◌, ◌++◌, length, get_or, take, ap, sym}
 use Rattle.std.proofs.lemmas.List.{flat_map_more, take_more}
-use Rattle.dream_team.specs.Elevens.{Row}
+use Rattle.squad_rules.specs.Elevens.{Row}
 use Rattle.fpl_dreaming.specs.Texts.{line_of, lines_of}
 
 pub lines_more : (rows : List Row) (players : List ℕ) (at player : ℕ) (old new line : List ℕ) → at < length players → player ≡ get_or players at player

@@ -5,7 +5,7 @@ use Rattle.std.proofs.lemmas.List.Elements.{All-push, All-weaker}
 use Rattle.std.proofs.lemmas.List.Quantifiers.{all_pairs_push}
 use Rattle.rule_book.specs.FigureRange.{IsWithin}
 use Rattle.rule_book.specs.Ranks.{AllDiffer}
-use Rattle.dream_team.specs.Elevens.{Row}
+use Rattle.squad_rules.specs.Elevens.{Row}
 use Rattle.fpl_dreaming.specs.Rows.{with_row}
 
 -- rows of some of the first so many players

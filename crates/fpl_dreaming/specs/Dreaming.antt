@@ -6,12 +6,12 @@ use Rattle.season_book.specs.declared.answer.Answer.{Answer}
 use Rattle.season_book.specs.declared.request.Request.TheVariants as request
 use Rattle.season_book.specs.declared.request.View.TheVariants as view
 use Rattle.season_running.specs.Standing.{players_in}
-use Rattle.reply_laws.specs.Replying.{Served}
+use Rattle.request_handler.specs.Replying.{Served}
 use Rattle.local_requests.specs.Asking.{IsHeard}
 use Rattle.local_requests.specs.Printing.{EndsBy, Prints, PrintsOne, unknown_text}
-use Rattle.dream_team.specs.Dreams.{HasNoEleven, IsDream}
-use Rattle.dream_team.specs.Elevens.{Row}
-use Rattle.dream_team.specs.declared.dream.Dream.{Dream}
+use Rattle.squad_rules.specs.Dreams.{HasNoEleven, IsDream}
+use Rattle.squad_rules.specs.Elevens.{Row}
+use Rattle.squad_rules.specs.declared.dream.Dream.{Dream}
 use Rattle.fpl_dreaming.specs.Rows.{IsRowAsked, locked_in, with_row}
 use Rattle.fpl_dreaming.specs.Texts.{dream_text, no_eleven_text}
 

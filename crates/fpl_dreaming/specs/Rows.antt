@@ -8,9 +8,9 @@ use Rattle.season_book.specs.declared.answer.Answer.TheVariants as answer
 use Rattle.season_book.specs.declared.request.Request.TheVariants as request
 use Rattle.season_book.specs.declared.request.View.TheVariants as view
 use Rattle.season_book.specs.declared.shown.Shown.TheVariants as shown
-use Rattle.reply_laws.specs.Replying.{Served}
+use Rattle.request_handler.specs.Replying.{Served}
 use Rattle.local_requests.specs.Asking.{IsHeard}
-use Rattle.dream_team.specs.Elevens.{Row}
+use Rattle.squad_rules.specs.Elevens.{Row}
 
 -- how many gameweeks are locked, by an answer that shows the season
 abbrev pub locked_in : Answer → Option ℕ

@@ -4,8 +4,8 @@ use Rattle.std.specs.Fmt.{decimal, signed_decimal}
 use Rattle.std.specs.List.{flat_map}
 use Rattle.std.specs.Option.{option_map_or}
 use Rattle.fpl_base.specs.Letters.{letter_of}
-use Rattle.dream_team.specs.Elevens.{Row}
-use Rattle.dream_team.specs.declared.dream.Dream.{Dream}
+use Rattle.squad_rules.specs.Elevens.{Row}
+use Rattle.squad_rules.specs.declared.dream.Dream.{Dream}
 
 -- the line of a row: the player, the letter of his position, and his points
 abbrev pub row_text : Row → List ℕ

@@ -12,12 +12,12 @@ ghost use Rattle.fpl_dreaming.specs.Texts.{dream_text};
 
 use crate::rows::{ask_row, locked_in};
 use crate::text::dream_text;
-use dream_team::{Dream, dream_team};
 use fpl_base::{Caller, Clock, Gw, Keeper, Memory, PlayerId, Position, ReadCount, Sink};
 use local_requests::status::{DECLINED, DONE, MEMORY};
 use local_requests::{ask, halted, print};
 use season_book::{Request, View};
 use season_keeping::Host;
+use squad_rules::{Dream, dream_team};
 use std::alloc::Global;
 use std::sync::ledger::Ledger;
 

@@ -2,8 +2,8 @@
 ghost use Rattle.std.specs.Prelude.{◌≡◌, ◌==◌, IfOk, find, option_copied, string_bytes};
 ghost use Rattle.fpl_dreaming.specs.Texts.{dream_text, line_of, lines_of, row_text};
 
-use dream_team::Dream;
 use fpl_base::{Memory, PlayerId, Position};
+use squad_rules::Dream;
 use std::alloc::{AllocError, Global};
 
 // A header, the lines of the eleven in their order, and their total.

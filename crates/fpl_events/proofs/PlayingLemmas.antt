@@ -11,7 +11,7 @@ use Rattle.match_events.specs.declared.event.Event.{Event}
 use Rattle.match_events.specs.declared.refusal.EventRefused.{EventRefused}
 use Rattle.match_events.specs.declared.refusal.EventRefused.TheVariants as refused
 use Rattle.match_events.specs.declared.refusal.EventRule.{EventRule}
-use Rattle.reply_laws.specs.Replying.{Served}
+use Rattle.request_handler.specs.Replying.{Served}
 use Rattle.request_handler.specs.Kept.{Kept, Leads}
 use Rattle.request_handler.proofs.KeptLemmas.{leads_same}
 use Rattle.local_requests.proofs.AskingLemmas.{leads_then}

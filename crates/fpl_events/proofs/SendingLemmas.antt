@@ -12,7 +12,7 @@ use Rattle.season_book.specs.declared.answer.Answer.TheVariants as answer
 use Rattle.season_book.specs.declared.command.Command.{Command}
 use Rattle.season_book.specs.declared.request.Request.TheVariants as request
 use Rattle.season_running.specs.Standing.{HostRows, StandsIn, number_at}
-use Rattle.reply_laws.specs.Replying.{Served}
+use Rattle.request_handler.specs.Replying.{Served}
 use Rattle.request_handler.specs.Kept.{Kept, Leads}
 use Rattle.request_handler.proofs.KeptLemmas.{leads_same}
 use Rattle.local_requests.proofs.AskingLemmas.{leads_then}

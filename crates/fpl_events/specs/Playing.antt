@@ -7,7 +7,7 @@ use Rattle.match_events.specs.Sheets.{Sheet, insert_refusal, remove_refusal, wit
 use Rattle.match_events.specs.declared.refusal.EventRefused.{EventRefused}
 use Rattle.match_events.specs.declared.refusal.EventRefused.TheVariants as refused
 use Rattle.match_events.specs.declared.refusal.EventRule.{EventRule}
-use Rattle.reply_laws.specs.Replying.{Served}
+use Rattle.request_handler.specs.Replying.{Served}
 use Rattle.local_requests.specs.Printing.{PrintsOne}
 use Rattle.fpl_events.specs.Sending.{SendsChanged}
 use Rattle.fpl_events.specs.Telling.{refused_text, sent_text}

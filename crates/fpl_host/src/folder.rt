@@ -2,7 +2,7 @@
 use crate::causes;
 use crate::files::{Unread, front_of};
 use fpl_base::{Bytes, Text};
-use fpl_pages::{Pages, Unfit};
+use listener::{Pages, Unfit};
 use local_requests::status::{MEMORY, SHELF};
 use std::alloc::Global;
 use std::fs::read_dir;

@@ -5,3 +5,9 @@ pub mod PartsLemmas
 pub mod StoredLemmas
 pub mod HeldLemmas
 pub mod ResponsesLemmas
+mod LiftLemmas
+pub mod RunLemmas
+mod ServedLemmas
+mod SessionLemmas
+mod SplitLemmas
+mod StayLemmas

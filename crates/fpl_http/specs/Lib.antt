@@ -9,3 +9,11 @@ pub mod Seen
 pub mod Framing
 pub mod Responses
 pub mod Laws
+pub mod Lifts
+pub mod Replies
+pub mod Runs
+pub mod Stops
+pub mod Sessions
+pub mod Splits
+pub mod Stays
+pub mod Turns

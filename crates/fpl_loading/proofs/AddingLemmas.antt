@@ -12,7 +12,7 @@ use Rattle.season_book.specs.declared.request.Request.TheVariants as request
 use Rattle.season_book.specs.Verdict.{Failures}
 use Rattle.season_keeping.specs.Answering.{IsCaused}
 use Rattle.season_running.specs.Standing.{StandsIn, number_at}
-use Rattle.reply_laws.specs.Replying.{Served}
+use Rattle.request_handler.specs.Replying.{Served}
 use Rattle.request_handler.specs.Kept.{Kept, Leads}
 use Rattle.request_handler.proofs.KeptLemmas.{leads_on, leads_same}
 use Rattle.local_requests.proofs.AskingLemmas.{leads_then, rose_behind}

@@ -10,7 +10,7 @@ use Rattle.season_book.specs.declared.answer.Answer.{Answer}
 use Rattle.season_book.specs.declared.answer.Answer.TheVariants as answer
 use Rattle.season_book.specs.declared.command.Command.{Command}
 use Rattle.season_book.specs.declared.request.Request.TheVariants as request
-use Rattle.reply_laws.specs.Replying.{Served}
+use Rattle.request_handler.specs.Replying.{Served}
 use Rattle.local_requests.specs.Asking.{IsHeard}
 use Rattle.local_requests.specs.Printing.{EndsBy, PrintsOne}
 use Rattle.fpl_loading.specs.Faults.{row_text}

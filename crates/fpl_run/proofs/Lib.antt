@@ -1,3 +1,10 @@
+pub mod CourseLemmas
+pub mod LookingLemmas
+pub mod OnceLemmas
+pub mod PipeLemmas
+pub mod ReadingLemmas
+pub mod ServeLemmas
+pub mod WholeLemmas
 pub mod RequestLemmas
 pub mod RunLemmas
 pub mod Taken

@@ -4,10 +4,10 @@ use Rattle.std.specs.Prelude.{false}
 use Rattle.fpl_base.specs.Keeping.{Map}
 use Rattle.season_keeping.specs.Opening.{Opens}
 use Rattle.request_handler.specs.Kept.{IsStoodByRows, IsStoodByStops, Kept, Leads, LeadsAll}
-use Rattle.reply_laws.specs.Replying.{Served}
-use Rattle.fpl_serving.specs.Keeping.{Runs}
+use Rattle.request_handler.specs.Replying.{Served}
+use Rattle.fpl_run.specs.Keeping.{Runs}
 use Rattle.fpl_run.specs.Requests.{Through}
-use Rattle.fpl_serving.proofs.CourseLemmas.{runs_of}
+use Rattle.fpl_run.proofs.CourseLemmas.{runs_of}
 
 module _ (K : Type 0) (tells serves : K → Type 0) (holds passes : K → Map → Type 0) where
   module _ (first last : Kept K) (how : Served → Served → Type 0) (leads : Leads tells serves holds passes first last how) where

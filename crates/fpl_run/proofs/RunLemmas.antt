@@ -10,7 +10,7 @@ use Rattle.command_line.specs.declared.words.Words.{Words}
 use Rattle.command_line.specs.declared.words.Words.TheVariants as order
 use Rattle.season_opening.specs.declared.loading.OpenFault.TheVariants as fault
 use Rattle.fpl_loading.specs.declared.files.LoadFault.TheVariants as load_fault
-use Rattle.fpl_serving.proofs.PipeLemmas.{holds_still}
+use Rattle.fpl_run.proofs.PipeLemmas.{holds_still}
 use Rattle.fpl_run.proofs.Taken.{none_taken}
 use Rattle.fpl_run.specs.Run.{Ends, IsNotReadDue, IsScoreDue, IsUnread, LeavesHost, LeavesInput, Outside, RunsAs, not_read_text, row_text}
 

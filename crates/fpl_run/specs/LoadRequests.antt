@@ -11,7 +11,7 @@ use Rattle.fpl_loading.specs.More.{LoadsBy}
 use Rattle.fpl_loading.specs.declared.files.LoadFault.{LoadFault}
 use Rattle.fpl_loading.specs.declared.notes.Note.{Note}
 use Rattle.fpl_run.specs.Requests.{Through}
-use Rattle.fpl_serving.specs.Keeping.{IsUnopened, Runs}
+use Rattle.fpl_run.specs.Keeping.{IsUnopened, Runs}
 
 -- a host was opened and commands were loaded, from the books that the keeper's records tell; or it was not opened, no moment was
 -- told, and nothing is noted

@@ -6,7 +6,7 @@ use Rattle.command_line.specs.declared.words.What.{What}
 use Rattle.command_line.specs.declared.words.What.TheVariants as what
 use Rattle.season_book.specs.declared.request.View.{View}
 use Rattle.season_book.specs.declared.request.View.TheVariants as view
-use Rattle.reply_laws.specs.Replying.{Served}
+use Rattle.request_handler.specs.Replying.{Served}
 use Rattle.local_requests.specs.Printing.{IsReported}
 use Rattle.season_generator.specs.Generating.{IsGenerated}
 use Rattle.fpl_dreaming.specs.Dreaming.{IsDreamed}
@@ -15,12 +15,12 @@ use Rattle.fpl_events.specs.declared.row.EventRow.{EventRow}
 use Rattle.fpl_events.specs.declared.sheet.RowFault.{RowFault}
 use Rattle.fpl_events.specs.Playing.{IsPlayed}
 use Rattle.fpl_events.specs.Telling.{TellsRowFault}
-use Rattle.draft_sheet.specs.Rows.{ExplainsRows as ExplainsDraft, HasDraftRows}
-use Rattle.draft_sheet.specs.declared.row.DraftRow.{DraftRow}
-use Rattle.draft_sheet.specs.declared.rows.RowFault.{RowFault as DraftFault}
+use Rattle.fpl_drafting.specs.Rows.{ExplainsRows as ExplainsDraft, HasDraftRows}
+use Rattle.fpl_drafting.specs.declared.row.DraftRow.{DraftRow}
+use Rattle.fpl_drafting.specs.declared.rows.RowFault.{RowFault as DraftFault}
 use Rattle.fpl_drafting.specs.Drafting.{IsDrafted}
 use Rattle.fpl_drafting.specs.Telling.{TellsRowFault as TellsDraftFault}
-use Rattle.fpl_serving.specs.Keeping.{IsUnopened, Runs}
+use Rattle.fpl_run.specs.Keeping.{IsUnopened, Runs}
 
 -- what is asked leads from each book to one: the keeper is not read again on the way
 abbrev pub Through : (Served → Served → Type 0) → Option Served → Option Served → Type 0

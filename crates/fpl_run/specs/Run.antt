@@ -11,10 +11,10 @@ use Rattle.command_line.specs.declared.words.Words.{Words}
 use Rattle.command_line.specs.declared.words.Words.TheVariants as order
 use Rattle.score_sheet.specs.Sheets.{Scores, HasWrongRow}
 use Rattle.fpl_run.specs.Input.{TakesAtMost}
-use Rattle.fpl_serving.specs.Pipe.{Pipes}
+use Rattle.fpl_run.specs.Pipe.{Pipes}
 use Rattle.fpl_run.specs.Requests.{Dreams, Generates, Reports}
-use Rattle.fpl_serving.specs.Reading.{PipeCounts, ServeCounts}
-use Rattle.fpl_serving.specs.Serve.{DoorState, Serves}
+use Rattle.fpl_run.specs.Reading.{PipeCounts, ServeCounts}
+use Rattle.fpl_run.specs.Serve.{DoorState, Serves}
 use Rattle.fpl_run.specs.Drafts.{Drafted}
 use Rattle.fpl_run.specs.Events.{Recorded}
 use Rattle.fpl_run.specs.Loads.{Handed, Loaded}

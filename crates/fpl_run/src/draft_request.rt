@@ -1,14 +1,13 @@
 // The command for draft leagues.
 ghost use Rattle.std.specs.Prelude.{◌≡◌, ◌≤◌, ◌⊎◌};
 ghost use Rattle.fpl_base.specs.Causes.{Rose};
-ghost use Rattle.draft_sheet.specs.Rows.{AreRowsOf};
+ghost use Rattle.fpl_drafting.specs.Rows.{AreRowsOf};
 ghost use Rattle.fpl_drafting.specs.Drafting.{IsDrafted};
 ghost use Rattle.fpl_run.specs.Requests.{Drafts, RunsThrough};
 
-use draft_sheet::{DraftRow, draft_rows};
+use crate::opening::unopened;
 use fpl_base::{Clock, Keeper, Key, ReadCount, Sink};
-use fpl_drafting::{drafted, undrafted};
-use fpl_serving::unopened;
+use fpl_drafting::{DraftRow, draft_rows, drafted, undrafted};
 use season_keeping::Host;
 use std::alloc::Global;
 use std::sync::ledger::Ledger;

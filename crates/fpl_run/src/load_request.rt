@@ -4,9 +4,9 @@ ghost use Rattle.fpl_base.specs.Causes.{Rose};
 ghost use Rattle.season_book.specs.Commands.{IsCommand};
 ghost use Rattle.fpl_run.specs.LoadRequests.{Loads, LoadsAll};
 
+use crate::opening::unopened;
 use fpl_base::{Clock, Keeper, Key, Profile, ReadCount, Sink, Text};
 use fpl_loading::{LoadEnd, loaded_by, ordered_by, unloaded};
-use fpl_serving::unopened;
 use season_book::Command;
 use season_folder::AskedShelf;
 use season_keeping::Host;

@@ -7,11 +7,11 @@ ghost use Rattle.fpl_events.specs.Playing.{IsPlayed};
 ghost use Rattle.season_generator.specs.Generating.{IsGenerated};
 ghost use Rattle.fpl_run.specs.Requests.{Dreams, Generates, Plays, Reports, RunsThrough, made_up_key, view_of};
 
+use crate::opening::unopened;
 use command_line::What;
 use fpl_base::{Clock, Gw, Keeper, Key, Memory, ReadCount, Sink};
 use fpl_dreaming::dreamed;
 use fpl_events::{EventRow, event_rows, played, unplayed};
-use fpl_serving::unopened;
 use local_requests::reported;
 use local_requests::status::MEMORY;
 use season_book::View;

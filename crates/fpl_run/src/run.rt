@@ -3,20 +3,20 @@ ghost use Rattle.std.specs.Prelude.{◌≡◌, ◌≤◌, ◌⊎◌, IfSome, Mat
 ghost use Rattle.std.specs.Io.KnownBytes.{IsAtEnd, Keeps};
 ghost use Rattle.fpl_base.specs.Causes.{Rose};
 ghost use Rattle.command_line.specs.Orders.{ordered};
-ghost use Rattle.fpl_serving.specs.Serve.{doors_as};
+ghost use Rattle.fpl_run.specs.Serve.{doors_as};
 ghost use Rattle.fpl_run.specs.Input.{TakesAtMost};
 ghost use Rattle.fpl_run.specs.Run.{Ends, IsScoreDue, RunsAs, connections_in};
 
 use crate::drafts::draft;
 use crate::events::events;
 use crate::loads::load;
+use crate::pipe::pipe;
 use crate::requests::{dream, generate, report};
 use crate::score::{Halt, score_due};
+use crate::serve::serve;
 use command_line::{WordFault, Words, words_of};
 use fpl_base::{Clock, Doors, Keeper, Profile, ReadCount, Sink, Source, Text};
 use fpl_loading::Note;
-use fpl_serving::pipe::pipe;
-use fpl_serving::serve::serve;
 use local_requests::print;
 use local_requests::status::{MEMORY, READ_FAULT, WORDS};
 use season_folder::AskedShelf;

@@ -2,7 +2,7 @@
 ghost use Rattle.std.specs.Prelude.{◌≡◌, ◌<◌};
 
 use fpl_base::{Keeper, Key, Memory, Moment, ReadCount, Sink, Source};
-use fpl_session::{Buffers, Ending, session};
+use fpl_http::{Buffers, Ending, session};
 use request_handler::opened;
 use season_opening::OpenFault;
 use std::alloc::Global;

@@ -12,9 +12,9 @@ use Rattle.rule_book.specs.UpTo.{start_of}
 use Rattle.season_book.specs.Book.{Book, EntryFacts, Facts}
 use Rattle.season_book.specs.LeagueCommands.{is_issued, is_registered}
 use Rattle.season_book.specs.LeagueViews.{first_of}
-use Rattle.record_codec.specs.declared.item.Item.{Item}
-use Rattle.record_codec.specs.declared.slot.Slot.{Slot}
-use Rattle.record_codec.specs.declared.slot.Slot.TheVariants as slot
+use Rattle.season_records.specs.declared.item.Item.{Item}
+use Rattle.season_records.specs.declared.slot.Slot.{Slot}
+use Rattle.season_records.specs.declared.slot.Slot.TheVariants as slot
 use Rattle.season_records.specs.Records.{entry_item, records, told, told_in}
 use Rattle.season_records.specs.Told.{TellsItems}
 use Rattle.stored_records.specs.EntryTold.{first_in, first_told}

@@ -7,10 +7,10 @@ use Rattle.std.proofs.lemmas.List.{length-map}
 use Rattle.fpl_base.specs.Keeping.{Map, is_same_key, map_of, precedes}
 use Rattle.fpl_base.proofs.KeyLemmas.{precedes_self, same_key_self}
 use Rattle.season_book.specs.Book.{Book}
-use Rattle.record_codec.specs.Keys.{key_of}
-use Rattle.record_codec.specs.declared.item.Item.{Item}
-use Rattle.record_codec.specs.declared.slot.Slot.{Slot}
-use Rattle.record_codec.specs.declared.slot.Slot.TheVariants as slot
+use Rattle.season_records.specs.Keys.{key_of}
+use Rattle.season_records.specs.declared.item.Item.{Item}
+use Rattle.season_records.specs.declared.slot.Slot.{Slot}
+use Rattle.season_records.specs.declared.slot.Slot.TheVariants as slot
 use Rattle.season_records.specs.Records.{records, told}
 use Rattle.stored_records.specs.Stored.{Rows, between, is_within}
 use Rattle.lawful_books.specs.Telling.{AreFamilies, HaveKeys, IsFamily, NoneIsFull}

@@ -9,7 +9,7 @@ use Rattle.rule_book.specs.History.{kept}
 use Rattle.rule_book.specs.HistoryRules.{times}
 use Rattle.rule_book.specs.HistorySquad.{armbands_of, bought_at, order_of}
 use Rattle.rule_book.specs.PlayerFigures.{position_in}
-use Rattle.record_codec.specs.Commands.{differ}
+use Rattle.season_records.specs.Commands.{differ}
 use Rattle.season_book.specs.Book.{Book, Facts}
 use Rattle.season_ledger.proofs.Lists.{map_map}
 use Rattle.store_validation.specs.TeamRules.{has_players, is_distinct, is_fit, is_lined_up, is_priced, position_told, positions_told}

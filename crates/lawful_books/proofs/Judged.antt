@@ -14,13 +14,13 @@ use Rattle.rule_book.specs.History.{is_touched}
 use Rattle.rule_book.specs.TeamOfHistory.{team_of}
 use Rattle.rule_book.specs.UpTo.{start_of}
 use Rattle.season_book.specs.Book.{Book, EntryFacts, Facts, Last}
-use Rattle.record_codec.specs.ItemReading.{item_of}
-use Rattle.record_codec.specs.Items.{body_of}
-use Rattle.record_codec.specs.Keys.{key_of}
-use Rattle.record_codec.specs.declared.item.Item.{Item}
-use Rattle.record_codec.specs.declared.slot.Slot.{Slot}
-use Rattle.record_codec.specs.declared.slot.Slot.TheVariants as slot
-use Rattle.record_codec.proofs.ItemLaws.{item_back}
+use Rattle.season_records.specs.ItemReading.{item_of}
+use Rattle.season_records.specs.Items.{body_of}
+use Rattle.season_records.specs.Keys.{key_of}
+use Rattle.season_records.specs.declared.item.Item.{Item}
+use Rattle.season_records.specs.declared.slot.Slot.{Slot}
+use Rattle.season_records.specs.declared.slot.Slot.TheVariants as slot
+use Rattle.season_records.proofs.ItemLaws.{item_back}
 use Rattle.season_records.specs.Records.{cup_item, entry_item, last_item, league_item, member_told, no_position, pick_told, records, team_item, team_told as team_told_of, told, told_in, transfer_item, transfer_told}
 use Rattle.season_records.proofs.Finds.{none_in}
 use Rattle.season_records.proofs.Slots.{slots_tell_of_themselves}

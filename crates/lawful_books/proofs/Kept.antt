@@ -36,8 +36,8 @@ use Rattle.season_book.specs.declared.part.Part.{Part}
 use Rattle.season_book.specs.declared.part.Part.TheVariants as part
 use Rattle.season_book.specs.declared.request.Request.{Request}
 use Rattle.season_book.specs.declared.request.Request.TheVariants as request
-use Rattle.record_codec.specs.Ranges.{HasRanges}
-use Rattle.record_codec.specs.declared.slot.Slot.TheVariants as slot
+use Rattle.season_records.specs.Ranges.{HasRanges}
+use Rattle.season_records.specs.declared.slot.Slot.TheVariants as slot
 use Rattle.season_records.specs.Records.{last_item}
 use Rattle.season_records.specs.Keeping.{AreEarly}
 use Rattle.season_records.specs.Told.{IsInOrder, TellsItems}

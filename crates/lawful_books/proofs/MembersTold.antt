@@ -14,10 +14,10 @@ use Rattle.rule_book.specs.Entries.{entry_in}
 use Rattle.rule_book.specs.LeagueCalls.{is_member}
 use Rattle.rule_book.specs.Leagues.{LeagueFacts}
 use Rattle.season_book.specs.Book.{Book}
-use Rattle.record_codec.specs.Keys.{key, key_of}
-use Rattle.record_codec.specs.declared.item.Item.TheVariants as item
-use Rattle.record_codec.specs.declared.slot.Slot.{Slot}
-use Rattle.record_codec.specs.declared.slot.Slot.TheVariants as slot
+use Rattle.season_records.specs.Keys.{key, key_of}
+use Rattle.season_records.specs.declared.item.Item.TheVariants as item
+use Rattle.season_records.specs.declared.slot.Slot.{Slot}
+use Rattle.season_records.specs.declared.slot.Slot.TheVariants as slot
 use Rattle.season_records.specs.Records.{member_told, records}
 use Rattle.season_records.proofs.Determined.{Rise, members_determined}
 use Rattle.season_records.proofs.Orders.{pairs_of}

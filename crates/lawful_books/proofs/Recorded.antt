@@ -18,7 +18,7 @@ use Rattle.season_ledger.proofs.Legality.{headed, none_each}
 use Rattle.season_book.specs.Book.{Book, EntryFacts, Facts}
 use Rattle.season_book.specs.Commands.{has_player}
 use Rattle.season_book.specs.EntryViews.{gameweek_seen}
-use Rattle.record_codec.specs.declared.slot.Slot.TheVariants as slot
+use Rattle.season_records.specs.declared.slot.Slot.TheVariants as slot
 use Rattle.season_records.specs.Records.{entry_item, no_position, player_item, season_item, team_item, told_in, transfer_told}
 use Rattle.season_records.specs.Records as records
 use Rattle.season_records.specs.Touched.{gameweek_of}

@@ -19,12 +19,12 @@ use Rattle.rule_book.specs.Players.{most_players, player_of}
 use Rattle.season_book.specs.Book.{Book, Facts}
 use Rattle.season_book.specs.Commands.{has_club, has_fixture, has_player}
 use Rattle.record_fields.specs.Ranges.{is_between}
-use Rattle.record_codec.specs.ItemReading.{item_of}
-use Rattle.record_codec.specs.Keys.{key_of}
-use Rattle.record_codec.specs.declared.item.Item.{Item}
-use Rattle.record_codec.specs.declared.item.Item.TheVariants as item
-use Rattle.record_codec.specs.declared.slot.Slot.{Slot}
-use Rattle.record_codec.specs.declared.slot.Slot.TheVariants as slot
+use Rattle.season_records.specs.ItemReading.{item_of}
+use Rattle.season_records.specs.Keys.{key_of}
+use Rattle.season_records.specs.declared.item.Item.{Item}
+use Rattle.season_records.specs.declared.item.Item.TheVariants as item
+use Rattle.season_records.specs.declared.slot.Slot.{Slot}
+use Rattle.season_records.specs.declared.slot.Slot.TheVariants as slot
 use Rattle.season_records.specs.Records.{fixture_item, player_item, season_item, told, told_in}
 use Rattle.season_records.proofs.Determined.{found_id}
 use Rattle.stored_records.specs.SeasonRules.{calendar_told, is_crowded, is_full, misses, misses_place, place_in, place_told, standing_before, stands_in as row_stands}

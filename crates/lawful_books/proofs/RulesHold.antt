@@ -22,12 +22,12 @@ use Rattle.season_book.specs.LeagueCommands.{is_issued, is_registered}
 use Rattle.season_book.specs.declared.command.Command.{Command}
 use Rattle.season_book.specs.declared.command.Command.TheVariants as command
 use Rattle.season_book.specs.declared.made.Made.{Made}
-use Rattle.record_codec.specs.ItemReading.{item_of}
-use Rattle.record_codec.specs.Keys.{key_of}
-use Rattle.record_codec.specs.declared.item.Item.{Item}
-use Rattle.record_codec.specs.declared.item.Item.TheVariants as item
-use Rattle.record_codec.specs.declared.slot.Slot.{Slot}
-use Rattle.record_codec.specs.declared.slot.Slot.TheVariants as slot
+use Rattle.season_records.specs.ItemReading.{item_of}
+use Rattle.season_records.specs.Keys.{key_of}
+use Rattle.season_records.specs.declared.item.Item.{Item}
+use Rattle.season_records.specs.declared.item.Item.TheVariants as item
+use Rattle.season_records.specs.declared.slot.Slot.{Slot}
+use Rattle.season_records.specs.declared.slot.Slot.TheVariants as slot
 use Rattle.season_records.specs.Records.{cup_item, entry_item, last_item, league_item, made_id, member_told, records, status_of, told}
 use Rattle.season_records.specs.Told.{IsInOrder, TellsItems, made_by}
 use Rattle.season_records.proofs.Finds.{at_number}

@@ -14,7 +14,7 @@ use Rattle.rule_book.specs.History.Deed.{First, Swap, Lineup, Play, Cancel}
 use Rattle.rule_book.specs.HistoryRules.{GoesOn, is_first, is_started}
 use Rattle.rule_book.specs.HistorySquad.{earned, spent}
 use Rattle.rule_book.specs.HistoryTransfers.{is_swap, makes_free, swaps_in}
-use Rattle.record_codec.specs.declared.slot.Slot.TheVariants as slot
+use Rattle.season_records.specs.declared.slot.Slot.TheVariants as slot
 use Rattle.season_book.specs.Book.{Book, EntryFacts}
 use Rattle.season_ledger.proofs.InOrder.{events_of}
 use Rattle.season_records.specs.Records.{transfer_item}

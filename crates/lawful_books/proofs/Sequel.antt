@@ -13,7 +13,7 @@ use Rattle.rule_book.specs.HistoryRules.{IsHistory, is_first}
 use Rattle.rule_book.specs.HistorySquad.{bought_at, earned, earned_by, holdings_of, order_of, paid_by, spent}
 use Rattle.rule_book.specs.TeamOfHistory.{CanPay}
 use Rattle.rule_book.specs.UpTo.{start_of}
-use Rattle.record_codec.specs.declared.slot.Slot.TheVariants as slot
+use Rattle.season_records.specs.declared.slot.Slot.TheVariants as slot
 use Rattle.season_book.specs.Book.{Facts}
 use Rattle.season_ledger.proofs.Carry.{touched_each}
 use Rattle.season_ledger.proofs.Counted.{KeptFrom}

@@ -5,13 +5,13 @@ use Rattle.std.specs.Option.{option_map, option_and_then}
 use Rattle.std.proofs.lemmas.Option.{none-some}
 use Rattle.fpl_base.specs.declared.records.RecordKey.{RecordKey}
 use Rattle.season_book.specs.Book.{Book}
-use Rattle.record_codec.specs.ItemReading.{item_of}
-use Rattle.record_codec.specs.Items.{body_of}
-use Rattle.record_codec.specs.Keys.{key_of, slot_of}
-use Rattle.record_codec.specs.declared.item.Item.{Item}
-use Rattle.record_codec.specs.declared.slot.Slot.{Slot}
-use Rattle.record_codec.proofs.ItemLaws.{item_back}
-use Rattle.record_codec.proofs.KeyLaws.{named, own_slot}
+use Rattle.season_records.specs.ItemReading.{item_of}
+use Rattle.season_records.specs.Items.{body_of}
+use Rattle.season_records.specs.Keys.{key_of, slot_of}
+use Rattle.season_records.specs.declared.item.Item.{Item}
+use Rattle.season_records.specs.declared.slot.Slot.{Slot}
+use Rattle.season_records.proofs.ItemLaws.{item_back}
+use Rattle.season_records.proofs.KeyLaws.{named, own_slot}
 use Rattle.season_records.specs.Records.{records, told}
 use Rattle.season_records.proofs.Slots.{slots_tell_of_themselves}
 use Rattle.lawful_books.specs.Telling.{RecordsAreThere, RecordsAreTold}

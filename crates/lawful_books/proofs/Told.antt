@@ -14,9 +14,9 @@ use Rattle.rule_book.specs.HistoryTeam.{is_begun}
 use Rattle.rule_book.specs.TeamOfHistory.{team_of}
 use Rattle.rule_book.specs.PlayerFigures.{position_in}
 use Rattle.rule_book.specs.Players.{player_of}
-use Rattle.record_codec.specs.ItemReading.{item_of}
-use Rattle.record_codec.specs.Keys.{key_of}
-use Rattle.record_codec.specs.declared.slot.Slot.TheVariants as slot
+use Rattle.season_records.specs.ItemReading.{item_of}
+use Rattle.season_records.specs.Keys.{key_of}
+use Rattle.season_records.specs.declared.slot.Slot.TheVariants as slot
 use Rattle.season_book.specs.Book.{Book, EntryFacts, Facts}
 use Rattle.season_book.specs.Commands.{has_player}
 use Rattle.season_ledger.proofs.Legality.{headed}

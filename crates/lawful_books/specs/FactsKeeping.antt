@@ -7,7 +7,7 @@ use Rattle.season_book.specs.Doing.{IsGranted}
 use Rattle.season_book.specs.PlayerCommands.{Amendment, facts_amended}
 use Rattle.season_book.specs.Verdict.{locked_at}
 use Rattle.season_book.specs.declared.command.Command.{Command}
-use Rattle.record_codec.specs.Ranges.{HasRanges}
+use Rattle.season_records.specs.Ranges.{HasRanges}
 use Rattle.season_records.specs.Told.{AreInOrder}
 use Rattle.lawful_books.specs.Facts.{AreLawful}
 

@@ -2,9 +2,9 @@
 use Rattle.std.specs.Prelude.{◌≡◌, ⊤, true, false, Some}
 use Rattle.fpl_base.specs.Keeping.{KeysRise, map_of}
 use Rattle.season_book.specs.Book.{Book, Facts}
-use Rattle.record_codec.specs.declared.item.Item.{Item}
-use Rattle.record_codec.specs.declared.slot.Slot.{Slot}
-use Rattle.record_codec.specs.declared.slot.Slot.TheVariants as slot
+use Rattle.season_records.specs.declared.item.Item.{Item}
+use Rattle.season_records.specs.declared.slot.Slot.{Slot}
+use Rattle.season_records.specs.declared.slot.Slot.TheVariants as slot
 use Rattle.season_records.specs.Records.{records, told}
 use Rattle.season_records.specs.Told.{TellsItems}
 use Rattle.stored_records.specs.Stored.{Rows}

@@ -3,9 +3,9 @@ use Rattle.std.specs.Prelude.{◌≡◌, ◌-◌, ℕ, true, false, List, Option
 use Rattle.fpl_base.specs.Keeping.{KeysRise, map_of}
 use Rattle.rule_book.specs.Entries.{entry_in, most_entries}
 use Rattle.season_book.specs.Book.{Book, EntryFacts, Facts}
-use Rattle.record_codec.specs.declared.item.Item.{Item}
-use Rattle.record_codec.specs.declared.slot.Slot.{Slot}
-use Rattle.record_codec.specs.declared.slot.Slot.TheVariants as slot
+use Rattle.season_records.specs.declared.item.Item.{Item}
+use Rattle.season_records.specs.declared.slot.Slot.{Slot}
+use Rattle.season_records.specs.declared.slot.Slot.TheVariants as slot
 use Rattle.season_records.specs.Records.{records, told}
 use Rattle.season_records.specs.Told.{IsInOrder, TellsItems}
 use Rattle.stored_records.specs.SeasonRules.{is_full}

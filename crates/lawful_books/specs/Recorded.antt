@@ -6,7 +6,7 @@ use Rattle.rule_book.specs.Entries.{entry_in}
 use Rattle.rule_book.specs.History.{chip_at, is_touched}
 use Rattle.rule_book.specs.HistoryRules.{IsHistory, NoneAfter}
 use Rattle.season_book.specs.Book.{Book, EntryFacts, Facts}
-use Rattle.record_codec.specs.declared.slot.Slot.{Slot}
+use Rattle.season_records.specs.declared.slot.Slot.{Slot}
 use Rattle.season_records.specs.Records as records
 use Rattle.season_records.specs.Touched.{gameweek_of}
 use Rattle.stored_records.specs.EntryTold.{first_told, is_in_time, sale_told}

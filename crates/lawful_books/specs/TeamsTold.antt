@@ -6,7 +6,7 @@ use Rattle.rule_book.specs.Entries.{entry_in}
 use Rattle.rule_book.specs.History.{is_touched}
 use Rattle.rule_book.specs.HistoryRules.{IsHistory}
 use Rattle.rule_book.specs.TeamOfHistory.{CanPay}
-use Rattle.record_codec.specs.declared.slot.Slot.{Slot}
+use Rattle.season_records.specs.declared.slot.Slot.{Slot}
 use Rattle.season_book.specs.Book.{Book, EntryFacts, Facts}
 use Rattle.season_records.specs.Records.{told as told_of}
 use Rattle.stored_records.specs.EntryTold.{chip_in, team_told}

@@ -4,10 +4,10 @@ use Rattle.std.specs.List.{list_any}
 use Rattle.fpl_base.specs.Keeping.{KeysRise, is_same_key, map_of}
 use Rattle.fpl_base.specs.declared.records.RecordKey.{RecordKey}
 use Rattle.season_book.specs.Book.{Book}
-use Rattle.record_codec.specs.Keys.{key_of}
-use Rattle.record_codec.specs.declared.item.Item.{Item}
-use Rattle.record_codec.specs.declared.slot.Slot.{Slot}
-use Rattle.record_codec.specs.declared.slot.Slot.TheVariants as slot
+use Rattle.season_records.specs.Keys.{key_of}
+use Rattle.season_records.specs.declared.item.Item.{Item}
+use Rattle.season_records.specs.declared.slot.Slot.{Slot}
+use Rattle.season_records.specs.declared.slot.Slot.TheVariants as slot
 use Rattle.season_records.specs.Records.{records, told}
 use Rattle.season_records.specs.Told.{TellsItem}
 use Rattle.stored_records.specs.SeasonRules.{is_full}

@@ -9,8 +9,8 @@ use Rattle.fpl_http.specs.Stream.{IsFront, Request, Whole}
 use Rattle.fpl_http.specs.declared.decoder.Next.{Next}
 use Rattle.fpl_http.specs.declared.decoder.Next.TheVariants as next
 use Rattle.fpl_http.proofs.StreamLemmas.{front_more}
-use Rattle.fpl_pages.specs.Replies.{page_answer}
-use Rattle.fpl_pages.specs.declared.pages.Page.{Page}
+use Rattle.listener.specs.Replies.{page_answer}
+use Rattle.listener.specs.declared.pages.Page.{Page}
 use Rattle.listener.specs.Fates.{AsksForNone, AsksForPage}
 
 -- what stands in front of the first bytes stands in front of all

@@ -1,1 +1,2 @@
+pub mod PagesLemmas
 mod FateFacts

@@ -1,8 +1,8 @@
 -- What becomes of a client's message beside pages.
 use Rattle.std.specs.Prelude.{◌≡◌, ℕ, List, Some, None}
 use Rattle.fpl_http.specs.Stream.{IsFront, Request, Whole}
-use Rattle.fpl_pages.specs.Replies.{page_answer}
-use Rattle.fpl_pages.specs.declared.pages.Page.{Page}
+use Rattle.listener.specs.Replies.{page_answer}
+use Rattle.listener.specs.declared.pages.Page.{Page}
 use Rattle.listener.specs.declared.shown.Fate.{Fate}
 use Rattle.listener.specs.declared.shown.Fate.TheVariants as fate
 

@@ -1,2 +1,5 @@
+pub mod Kinds
+pub mod Pages
+pub mod Replies
 pub mod Forms
 pub mod Fates

@@ -3,9 +3,9 @@ ghost use Rattle.std.specs.Prelude.{◌≡◌, [], None, IfOk};
 
 use crate::ends::{Asked, Told};
 use crate::hall::Hall;
+use crate::pages::Pages;
 use crate::shown::Shown;
 use fpl_base::{Doors, Failed};
-use fpl_pages::Pages;
 use std::alloc::Global;
 use std::io;
 use std::io::ErrorKind;

@@ -4,9 +4,9 @@ ghost use Rattle.listener.specs.Fates.{AsksForNone, AsksForPage, ShowsPage};
 ghost use Rattle.listener.specs.declared.shown.Fate.TheVariants as fate;
 
 use crate::ends::Asked;
+use crate::pages::Pages;
 use fpl_base::Memory;
 use fpl_http::{Decoder, Next};
-use fpl_pages::Pages;
 use std::alloc::Global;
 
 #[derive(Drop)]

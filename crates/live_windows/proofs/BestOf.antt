@@ -6,8 +6,8 @@ use Rattle.fpl_base.specs.declared.kinds.Position.{Position}
 use Rattle.fpl_base.specs.declared.kinds.Position.TheVariants.{Keeper, Defender, Midfielder, Forward}
 use Rattle.rule_book.specs.Positions.{is_keeper, is_defender, is_midfielder, is_forward}
 use Rattle.rule_book.specs.Scoring.{by_position}
-use Rattle.dream_team.specs.Dreams.{place_of}
-use Rattle.dream_team.specs.Elevens.{Row, IsEven, chosen, count_in, is_better}
+use Rattle.squad_rules.specs.Dreams.{place_of}
+use Rattle.squad_rules.specs.Elevens.{Row, IsEven, chosen, count_in, is_better}
 use Rattle.season_book.specs.TeamOfTheWeek.{Formation, best_in, number_better, wanted}
 use Rattle.live_windows.proofs.Better.{not_better_itself, one_is_better, place_same}
 use Rattle.live_windows.proofs.Counts.{Within, count_alike, count_kept, count_le, count_less, kept_alike}

@@ -8,8 +8,8 @@ use Rattle.std.proofs.lemmas.List.{get_or-map, get_or_default, length-map}
 use Rattle.fpl_base.specs.declared.kinds.Position.{Position}
 use Rattle.fpl_base.specs.declared.kinds.Position.TheVariants.{Keeper, Defender, Midfielder, Forward}
 use Rattle.rule_book.specs.Ranks.{AllDiffer}
-use Rattle.dream_team.specs.Dreams.{place_of, stands_before}
-use Rattle.dream_team.specs.Elevens.{Row, is_better}
+use Rattle.squad_rules.specs.Dreams.{place_of, stands_before}
+use Rattle.squad_rules.specs.Elevens.{Row, is_better}
 
 not_less_both : (x y : ℤ) → int_lt x y ≡ true → int_lt y x ≡ true → ⊥
 not_less_both x y e f = grind (arith, ints)

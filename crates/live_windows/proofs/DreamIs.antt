@@ -19,9 +19,9 @@ use Rattle.rule_book.specs.Positions.{is_defender, is_midfielder}
 use Rattle.rule_book.specs.Ranks.{AllDiffer, by_rank, rank_among}
 use Rattle.rule_book.proofs.OrderFacts.{only_order}
 use Rattle.rule_book.proofs.RankLemmas.{count_prefix, rank_among-IsPermutation}
-use Rattle.dream_team.specs.Dreams.{HasNoEleven, IsDream, is_among, stands_before}
-use Rattle.dream_team.specs.Elevens.{IsLegalEleven, Row, chosen, count_in, is_better, total_points}
-use Rattle.dream_team.specs.declared.dream.Dream.{Dream}
+use Rattle.squad_rules.specs.Dreams.{HasNoEleven, IsDream, is_among, stands_before}
+use Rattle.squad_rules.specs.Elevens.{IsLegalEleven, Row, chosen, count_in, is_better, total_points}
+use Rattle.squad_rules.specs.declared.dream.Dream.{Dream}
 use Rattle.season_book.specs.TeamOfTheWeek.{Formation, best_in, by_place, dream_formation, fills, formation, formations, has_enough, is_top, makes_most, team_of_the_week, top_of, total_in}
 use Rattle.live_windows.proofs.Better.{not_before_itself, not_both_before, one_is_better, same_row}
 use Rattle.live_windows.proofs.BestOf.{IsShaped, best_is}

@@ -11,7 +11,7 @@ use Rattle.fpl_base.specs.declared.kinds.Position.TheVariants.{Keeper, Defender,
 use Rattle.rule_book.specs.Lineups.{is_formation}
 use Rattle.rule_book.specs.Positions.{is_keeper, is_defender, is_midfielder, is_forward}
 use Rattle.rule_book.specs.Ranks.{AllDiffer}
-use Rattle.dream_team.specs.Elevens.{Row, IsLegalEleven, chosen, count_in}
+use Rattle.squad_rules.specs.Elevens.{Row, IsLegalEleven, chosen, count_in}
 use Rattle.season_book.specs.TeamOfTheWeek.{Formation, best_in, fills, formations, has_enough, number_better, wanted}
 use Rattle.live_windows.proofs.Better.{same_row}
 use Rattle.live_windows.proofs.BestOf.{IsShaped}

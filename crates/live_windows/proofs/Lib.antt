@@ -8,3 +8,9 @@ pub mod Members
 pub mod PlayedRows
 pub mod ShownOnce
 pub mod Tops
+pub mod ExplainLaw
+pub mod GatheredFacts
+pub mod ItemsWritten
+pub mod LinesHeld
+pub mod PlayersAre
+pub mod RowsAdded

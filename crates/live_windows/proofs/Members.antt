@@ -7,8 +7,8 @@ use Rattle.std.proofs.lemmas.List.Elements.{Contains-get_or}
 use Rattle.std.proofs.lemmas.List.Sorted.{Contains-permutation, IsPermutation-sym}
 use Rattle.rule_book.specs.Ranks.{AllDiffer, rank_among}
 use Rattle.rule_book.proofs.OrderFacts.{in_order_moves}
-use Rattle.dream_team.specs.Dreams.{stands_before}
-use Rattle.dream_team.specs.Elevens.{Row}
+use Rattle.squad_rules.specs.Dreams.{stands_before}
+use Rattle.squad_rules.specs.Elevens.{Row}
 use Rattle.season_book.specs.TeamOfTheWeek.{Formation, best_in, by_place, dream_formation, number_better, team_of_the_week, wanted}
 use Rattle.live_windows.proofs.Better.{same_row}
 use Rattle.live_windows.proofs.Counts.{from_kept, only_one}

@@ -14,7 +14,7 @@ use Rattle.rule_book.specs.declared.player.Player.{Player}
 use Rattle.rule_book.specs.Calendar.{is_locked}
 use Rattle.rule_book.specs.Players.{ArePlayers, player_of}
 use Rattle.rule_book.specs.Ranks.{AllDiffer}
-use Rattle.dream_team.specs.Elevens.{Row}
+use Rattle.squad_rules.specs.Elevens.{Row}
 use Rattle.season_book.specs.Book.{Facts}
 use Rattle.season_nodes.specs.Season.{SeasonFacts, is_live}
 use Rattle.season_nodes.specs.declared.nodes.Node.TheVariants as node

@@ -7,7 +7,7 @@ use Rattle.std.proofs.lemmas.Int.{ints}
 use Rattle.std.proofs.lemmas.List.{get_or_default, take_more, take_all}
 use Rattle.std.proofs.lemmas.List.Elements.{All-push, Contains-get_or}
 use Rattle.rule_book.specs.Ranks.{AllDiffer}
-use Rattle.dream_team.specs.Elevens.{Row, is_better}
+use Rattle.squad_rules.specs.Elevens.{Row, is_better}
 use Rattle.season_book.specs.TeamOfTheWeek.{top_of}
 use Rattle.live_windows.proofs.Better.{not_better_itself}
 use Rattle.live_windows.proofs.DreamIs.{top_is}

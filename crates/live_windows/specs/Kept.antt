@@ -1,6 +1,6 @@
 -- Rows that are kept one after another.
 use Rattle.std.specs.Prelude.{List, [], ◌∷◌, ◌++◌, Option, Some, None}
-use Rattle.dream_team.specs.Elevens.{Row}
+use Rattle.squad_rules.specs.Elevens.{Row}
 
 -- rows, and one more if there is one
 abbrev pub with_row : List Row → Option Row → List Row

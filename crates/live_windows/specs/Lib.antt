@@ -1,1 +1,4 @@
 pub mod Kept
+pub mod Gathered
+pub mod ItemTokens
+pub mod LiveLaws

@@ -5,15 +5,15 @@ ghost use Rattle.json_members.specs.Tokens.{Appends, tokens_of};
 ghost use Rattle.fpl_base.specs.declared.kinds.Position.{Position};
 ghost use Rattle.rule_book.specs.FigureRange.{IsWithin};
 ghost use Rattle.rule_book.specs.Ranks.{AllDiffer};
-ghost use Rattle.dream_team.specs.Elevens.{Row, is_better};
+ghost use Rattle.squad_rules.specs.Elevens.{Row, is_better};
 ghost use Rattle.season_book.specs.Windows.{listed, numbered};
 ghost use Rattle.season_book.specs.DreamTeamWindow.{dream_row, dream_team_data, top_data};
 ghost use Rattle.season_book.specs.TeamOfTheWeek.{team_of_the_week, top_of};
 
-use dream_team::dream_team;
 use fpl_base::{Memory, PlayerId, Position};
 use json::Writer;
 use json_members::{write_count, write_integer};
+use squad_rules::dream_team;
 use std::alloc::{AllocError, Global};
 
 /// The players of the team of the week of rows, in their order; nobody where there is none.

@@ -14,7 +14,7 @@ use Rattle.season_records.specs.Commits.{HoldsLeft}
 use Rattle.season_records.specs.Records.{records}
 use Rattle.season_running.specs.Standing.{StandsIn}
 use Rattle.season_keeping.specs.Answering.{Answers, IsCaused, StopsLeave, WouldChange}
-use Rattle.reply_laws.specs.Replying.{IsLeftAt, Served}
+use Rattle.request_handler.specs.Replying.{IsLeftAt, Served}
 use Rattle.request_handler.specs.Kept.{Agrees, Kept, Leads, StandsByRows}
 use Rattle.request_handler.proofs.KeptLemmas.{agrees_with, served_is, stale_from, stale_is, with_book}
 use Rattle.local_requests.specs.Asking.{IsHeard, IsHeardAt, IsStaleAfter}

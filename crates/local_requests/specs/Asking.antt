@@ -9,7 +9,7 @@ use Rattle.season_book.specs.declared.answer.Answer.{Answer}
 use Rattle.season_book.specs.declared.answer.Answer.TheVariants as answer
 use Rattle.season_book.specs.declared.request.Request.{Request}
 use Rattle.season_keeping.specs.Answering.{IsCaused, WouldChange}
-use Rattle.reply_laws.specs.Replying.{Served, failures_in}
+use Rattle.request_handler.specs.Replying.{Served, failures_in}
 
 -- what is stale behind an answer to a request that was asked in a book: where the keeper failed the host is, from this book
 -- on; where memory was wanting it may be; behind every other answer it is not

@@ -10,7 +10,7 @@ use Rattle.season_book.specs.declared.answer.Answer.TheVariants as answer
 use Rattle.season_book.specs.declared.request.Request.TheVariants as request
 use Rattle.season_book.specs.declared.request.View.{View}
 use Rattle.fpl_reports.specs.Reports.{IsReport}
-use Rattle.reply_laws.specs.Replying.{Served}
+use Rattle.request_handler.specs.Replying.{Served}
 use Rattle.local_requests.specs.Asking.{IsHeard}
 
 -- a text was written, and the status is the one that was due; or the output failed, with status 3

@@ -15,7 +15,7 @@ use Rattle.rule_book.specs.Batch.{is_held, place_taken, place_given, GoOneByOne,
 use Rattle.rule_book.specs.EntryRecords.{swapped, after_sales, paid_for, earned_for}
 use Rattle.rule_book.specs.History.{Event}
 use Rattle.rule_book.specs.HistoryTeam.{TeamTold, holding_of, holdings, is_held as is_holding}
-use Rattle.transfer_book.specs.Bounds.{IsCheap}
+use Rattle.player_market.specs.Bounds.{IsCheap}
 use Rattle.season_ledger.specs.declared.row.Row.{Row}
 use Rattle.season_ledger.specs.declared.row.Standing.{Standing}
 use Rattle.season_ledger.specs.Rows.{FitsIn, IsFitTeam, standing_at, team_in, used_by}

@@ -14,10 +14,9 @@ ghost use Rattle.manager_book.specs.Calls.{limit_by, transfer_broken, with_gamew
 use crate::chips::{is_first, waives};
 use crate::entry_sales::EntrySales;
 use fpl_base::{Gw, Memory, Refused, Rule};
-use player_prices::Players;
+use player_market::{Players, Sales, apply};
 use rule_book::{Sale, Swap, Team};
 use season_ledger::Entry;
-use transfer_book::{Sales, apply};
 
 // How many transfers the gameweek may have.
 fn limit(season: &Entry, g: Gw) -> u16

@@ -27,14 +27,13 @@ use crate::lineup::line_up;
 use crate::manager::Manager;
 use crate::register::register;
 use fpl_base::{Chip, EntryId, Gw, Key, Memory, Name, PlayerId, Profile, ReadCount, Refused, Rule};
-use player_prices::Players;
+use player_market::{Players, Sales};
 use rule_book::{Sale, Swap, Team};
 use season_ledger::Entry;
 use std::alloc::Global;
 use std::collections::BTreeMap;
 use std::marker::Model;
 use std::sync::ledger::Ledger;
-use transfer_book::Sales;
 
 /// The entries of a season, numbered from 1 in the order of issue, at most 2,048. An entry is registered once its first
 /// squad was accepted.

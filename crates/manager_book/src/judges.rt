@@ -15,7 +15,7 @@ use crate::chips::{judge_cancel, judge_chip};
 use crate::lineup::judge_lineup;
 use crate::register::judge_squad;
 use fpl_base::{Chip, EntryId, Gw, Key, PlayerId, Rule};
-use player_prices::Players;
+use player_market::Players;
 use rule_book::Swap;
 
 // So many entries are in a season at most.

@@ -15,5 +15,5 @@ pub use book::ManagerBook;
 pub use entry_sales::EntrySales;
 pub use laws::rows_refuse_alike;
 pub use manager::Manager;
+pub use player_market::Sales;
 pub use rule_book::{Pick, Sale, Swap, Team};
-pub use transfer_book::Sales;

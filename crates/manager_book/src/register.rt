@@ -14,7 +14,7 @@ ghost use Rattle.manager_book.specs.Calls.{register_broken, squad_broken, IsFirs
 
 use crate::lineup::slot_of;
 use fpl_base::{Chip, ClubId, Gw, PlayerId, Refused, Rule, Tenths};
-use player_prices::Players;
+use player_market::Players;
 use rule_book::{Pick, Team};
 use season_ledger::Entry;
 use squad_rules::{check_lineup, check_squad, positions_of};

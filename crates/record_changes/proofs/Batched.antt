@@ -5,9 +5,9 @@ use Rattle.std.specs.Prelude.{IfSome}
 use Rattle.std.proofs.lemmas.List.{map-append, take_all, take_more}
 use Rattle.std.proofs.lemmas.List.Elements.{All-more, recursion_from_All}
 use Rattle.fpl_base.specs.declared.records.Op.{Op}
-use Rattle.record_codec.specs.Ranges.{IsItem}
-use Rattle.record_codec.specs.declared.item.Item.{Item}
-use Rattle.record_codec.specs.declared.slot.Slot.{Slot}
+use Rattle.season_records.specs.Ranges.{IsItem}
+use Rattle.season_records.specs.declared.item.Item.{Item}
+use Rattle.season_records.specs.declared.slot.Slot.{Slot}
 use Rattle.season_records.specs.Touched.{batch, op_of}
 use Rattle.record_changes.specs.Batches.{Keeps}
 

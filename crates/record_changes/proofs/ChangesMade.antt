@@ -20,7 +20,7 @@ use Rattle.season_book.specs.LeagueViews.{history_of}
 use Rattle.season_entries.specs.Entries.{AreEntries, IsEntry}
 use Rattle.season_entries.specs.EntryLaws.{EntriesAreIssued}
 use Rattle.season_entries.proofs.Placing.{have_positions}
-use Rattle.record_codec.specs.declared.slot.Slot.{Slot}
+use Rattle.season_records.specs.declared.slot.Slot.{Slot}
 use Rattle.record_changes.proofs.Found.{none_within, there_within}
 
 one_sold : (b : Bool) (d : Deed) (n : ℕ) (more : List Rattle.rule_book.specs.declared.transfers.Sale.Sale) → n ≡ length more

@@ -19,7 +19,7 @@ use Rattle.season_ledger.proofs.Season.{rows_tell}
 use Rattle.manager_book.specs.declared.manager.Manager.{Manager}
 use Rattle.season_book.specs.Book.{EntryFacts}
 use Rattle.season_entries.specs.Entries.{AreEntries, IsEntry}
-use Rattle.record_codec.specs.declared.item.Item.TheVariants as item
+use Rattle.season_records.specs.declared.item.Item.TheVariants as item
 use Rattle.season_records.specs.Records.{entry_item, no_position, pick_told, team_item, team_told, transfer_item, transfer_told}
 use Rattle.season_records.proofs.Finds.{at_number}
 use Rattle.record_changes.specs.RowsTold.{manager_item, team_by, transfer_by}

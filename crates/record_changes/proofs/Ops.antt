@@ -10,11 +10,11 @@ use Rattle.rule_book.specs.Players.{player_of}
 use Rattle.rule_book.specs.declared.player.Player.{Player}
 use Rattle.rule_book.specs.declared.season.Fixture.{Fixture}
 use Rattle.season_book.specs.Book.{Facts}
-use Rattle.record_codec.specs.Items.{slot_of_item}
-use Rattle.record_codec.specs.declared.item.Item.{Item}
-use Rattle.record_codec.specs.declared.item.Item.TheVariants as item
-use Rattle.record_codec.specs.declared.slot.Slot.{Slot}
-use Rattle.record_codec.specs.declared.slot.Slot.TheVariants as slot
+use Rattle.season_records.specs.Items.{slot_of_item}
+use Rattle.season_records.specs.declared.item.Item.{Item}
+use Rattle.season_records.specs.declared.item.Item.TheVariants as item
+use Rattle.season_records.specs.declared.slot.Slot.{Slot}
+use Rattle.season_records.specs.declared.slot.Slot.TheVariants as slot
 use Rattle.season_records.specs.Records.{fixture_item, player_item}
 use Rattle.record_changes.specs.Batches.{Keeps, KeepsOfFacts}
 use Rattle.record_changes.proofs.Found.{fixture_found, player_found}

@@ -10,7 +10,7 @@ use Rattle.season_book.specs.declared.command.Command.{Command}
 use Rattle.season_book.specs.declared.command.Command.TheVariants as command
 use Rattle.record_fields.specs.Fields.{chip_number}
 use Rattle.record_fields.specs.Ranges.{is_between}
-use Rattle.record_codec.specs.Commands.{club_ids, differ, is_command}
+use Rattle.season_records.specs.Commands.{club_ids, differ, is_command}
 
 at_most : (n most : ℕ) → n ≤ most → nat_le n most ≡ true
 at_most n most le = grind (arith, nat_tests, le)

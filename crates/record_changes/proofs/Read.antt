@@ -2,14 +2,14 @@
 use Rattle.std.proofs.Common.{◌≡◌, Option, Some, None, refl, sym, ap, ◌∙◌}
 use Rattle.std.specs.Option.{option_map, option_and_then}
 use Rattle.fpl_base.specs.Keeping.{Map}
-use Rattle.record_codec.specs.ItemReading.{item_of}
-use Rattle.record_codec.specs.Items.{body_of, slot_of_item}
-use Rattle.record_codec.specs.Keys.{key_of}
-use Rattle.record_codec.specs.Ranges.{IsItem}
-use Rattle.record_codec.specs.declared.item.Item.{Item}
-use Rattle.record_codec.specs.declared.slot.Slot.{Slot}
-use Rattle.record_codec.proofs.ItemLaws.{item_back}
-use Rattle.record_codec.proofs.KeyLaws.{own_slot}
+use Rattle.season_records.specs.ItemReading.{item_of}
+use Rattle.season_records.specs.Items.{body_of, slot_of_item}
+use Rattle.season_records.specs.Keys.{key_of}
+use Rattle.season_records.specs.Ranges.{IsItem}
+use Rattle.season_records.specs.declared.item.Item.{Item}
+use Rattle.season_records.specs.declared.slot.Slot.{Slot}
+use Rattle.season_records.proofs.ItemLaws.{item_back}
+use Rattle.season_records.proofs.KeyLaws.{own_slot}
 use Rattle.season_records.specs.Records.{told}
 use Rattle.season_records.proofs.Slots.{slots_tell_of_themselves}
 use Rattle.record_changes.specs.Laws.{RecordsAreRead, RestoredRowsStand, read_in}

@@ -29,8 +29,8 @@ use Rattle.season_ledger.specs.declared.row.Standing.{Standing}
 use Rattle.manager_book.specs.declared.manager.Manager.{Manager}
 use Rattle.season_book.specs.Book.{EntryFacts}
 use Rattle.season_entries.specs.Entries.{AreSold, IsEntry}
-use Rattle.record_codec.specs.declared.item.Item.{Item}
-use Rattle.record_codec.specs.declared.item.Item.TheVariants as item
+use Rattle.season_records.specs.declared.item.Item.{Item}
+use Rattle.season_records.specs.declared.item.Item.TheVariants as item
 use Rattle.season_records.specs.Records.{entry_item, no_position, pick_told, team_item, team_told, transfer_item, transfer_told}
 use Rattle.season_records.proofs.Determined.{numbers_determined}
 use Rattle.season_records.proofs.FactsTold.{unmapped}

@@ -8,7 +8,7 @@ use Rattle.rule_book.specs.Entries.{entry_in}
 use Rattle.manager_book.specs.declared.manager.Manager.{Manager}
 use Rattle.season_book.specs.Book.{Book, EntryFacts}
 use Rattle.season_entries.specs.Entries.{AreEntries, IsEntry}
-use Rattle.record_codec.specs.declared.slot.Slot.TheVariants as slot
+use Rattle.season_records.specs.declared.slot.Slot.TheVariants as slot
 use Rattle.season_records.specs.Records.{at_keys, entry_item, records, team_told, transfer_told}
 use Rattle.season_records.specs.Told.{IsInOrder, SameBook, TellTheSame, TellsItems}
 use Rattle.season_records.proofs.BooksTold.{records_tell_books}

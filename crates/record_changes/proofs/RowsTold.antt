@@ -14,7 +14,7 @@ use Rattle.manager_book.specs.declared.manager.Manager.{Manager}
 use Rattle.season_book.specs.Book.{Book, EntryFacts, Facts, Last}
 use Rattle.season_entries.specs.Entries.{IsEntry}
 use Rattle.season_entries.proofs.Placing.{have_positions}
-use Rattle.record_codec.specs.declared.slot.Slot.TheVariants as slot
+use Rattle.season_records.specs.declared.slot.Slot.TheVariants as slot
 use Rattle.season_records.specs.Records.{at_keys, cup_item, entry_item, last_item, league_item, member_told, team_told, told_in, transfer_told}
 use Rattle.season_running.specs.EntryLaws.{IsOrderly}
 use Rattle.season_running.specs.Standing.{HostRows, StandsIn, players_in}

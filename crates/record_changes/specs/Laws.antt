@@ -3,11 +3,11 @@ use Rattle.std.specs.Prelude.{◌≡◌, Option, Some}
 use Rattle.std.specs.Option.{option_and_then}
 use Rattle.fpl_base.specs.Keeping.{Map}
 use Rattle.season_book.specs.Book.{Book}
-use Rattle.record_codec.specs.ItemReading.{item_of}
-use Rattle.record_codec.specs.Keys.{key_of}
-use Rattle.record_codec.specs.Ranges.{IsItem}
-use Rattle.record_codec.specs.declared.item.Item.{Item}
-use Rattle.record_codec.specs.declared.slot.Slot.{Slot}
+use Rattle.season_records.specs.ItemReading.{item_of}
+use Rattle.season_records.specs.Keys.{key_of}
+use Rattle.season_records.specs.Ranges.{IsItem}
+use Rattle.season_records.specs.declared.item.Item.{Item}
+use Rattle.season_records.specs.declared.slot.Slot.{Slot}
 use Rattle.season_records.specs.Records.{at_keys, records, told}
 use Rattle.season_records.specs.Told.{IsInOrder, TellsItem, TellsItems}
 use Rattle.season_running.specs.EntryLaws.{IsOrderlyHost}

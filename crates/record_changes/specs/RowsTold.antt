@@ -6,10 +6,10 @@ use Rattle.rule_book.specs.EntryRecords.{sales_in}
 use Rattle.season_ledger.specs.Rows.{first_in, row_at}
 use Rattle.manager_book.specs.declared.manager.Manager.{Manager}
 use Rattle.season_book.specs.Book.{Book}
-use Rattle.record_codec.specs.declared.item.Item.{Item}
-use Rattle.record_codec.specs.declared.item.Item.TheVariants as item
-use Rattle.record_codec.specs.declared.slot.Slot.{Slot}
-use Rattle.record_codec.specs.declared.slot.Slot.TheVariants as slot
+use Rattle.season_records.specs.declared.item.Item.{Item}
+use Rattle.season_records.specs.declared.item.Item.TheVariants as item
+use Rattle.season_records.specs.declared.slot.Slot.{Slot}
+use Rattle.season_records.specs.declared.slot.Slot.TheVariants as slot
 use Rattle.season_records.specs.Records.{team_item, told, transfer_item}
 use Rattle.season_running.specs.Standing.{HostRows}
 

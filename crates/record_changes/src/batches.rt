@@ -7,7 +7,7 @@ use crate::competitions::{cup_op, last_op, league_op, member_op};
 use crate::entries::{entry_op, team_op, transfer_op};
 use crate::facts::{club_op, fixture_op, line_op, player_op, season_op};
 use fpl_base::{Memory, Op};
-use record_codec::Slot;
+use season_records::Slot;
 use season_running::{Lasts, RunningSeason};
 use std::alloc::Global;
 

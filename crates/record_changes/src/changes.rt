@@ -1,11 +1,11 @@
 // The change of one record.
 ghost use Rattle.std.specs.Prelude.{◌≡◌, ◌<◌, None, Some, IfOk, IsTrue, OnErr};
-ghost use Rattle.record_codec.specs.Items.{is_item, slot_of_item};
+ghost use Rattle.season_records.specs.Items.{is_item, slot_of_item};
 ghost use Rattle.record_changes.specs.Batches.{Keeps};
 ghost use Rattle.season_records.specs.Touched.{op_of};
 
 use fpl_base::{Memory, Op, Tenths};
-use record_codec::{Item, Slot, encode};
+use season_records::{Item, Slot, encode};
 use std::alloc::Global;
 
 // What is kept of an item from now on.

@@ -3,7 +3,7 @@ ghost use Rattle.std.specs.Prelude.{◌≡◌, Some, IfOk};
 ghost use Rattle.std.specs.Option.{option_map, option_and_then};
 ghost use Rattle.rule_book.specs.ById.{at_id};
 ghost use Rattle.rule_book.specs.Entries.{entry_in};
-ghost use Rattle.record_codec.specs.declared.slot.Slot.TheVariants as slot;
+ghost use Rattle.season_records.specs.declared.slot.Slot.TheVariants as slot;
 ghost use Rattle.season_book.specs.Book.{caller_number};
 ghost use Rattle.season_book.specs.Commands.{IsCommand};
 ghost use Rattle.season_records.specs.Records.{cup_item, last_item, league_item, made_id, member_told, status_of};
@@ -14,8 +14,8 @@ use crate::seeking::member_at;
 use classic_leagues::{League, Leagues};
 use cup_rounds::Cups;
 use fpl_base::{Caller, CupId, EntryId, LeagueId, Memory, Op};
-use record_codec::{Item, Slot, encode_last};
 use season_book::{Command, Made, Order};
+use season_records::{Item, Slot, encode_last};
 use season_running::Lasts;
 use std::alloc::Global;
 

@@ -3,7 +3,7 @@ ghost use Rattle.std.specs.Prelude.{◌≡◌, Some, IfOk, IfSome, map, option_c
 ghost use Rattle.std.specs.Option.{option_map, option_and_then};
 ghost use Rattle.rule_book.specs.Entries.{entry_in};
 ghost use Rattle.rule_book.specs.EntryRecords.{sales_in};
-ghost use Rattle.record_codec.specs.declared.slot.Slot.TheVariants as slot;
+ghost use Rattle.season_records.specs.declared.slot.Slot.TheVariants as slot;
 ghost use Rattle.season_records.specs.Records.{pick_told, team_item};
 ghost use Rattle.record_changes.specs.Batches.{Keeps};
 ghost use Rattle.record_changes.specs.RowsTold.{manager_item, team_by, transfer_by};
@@ -11,8 +11,8 @@ ghost use Rattle.record_changes.specs.RowsTold.{manager_item, team_by, transfer_
 use crate::changes::{delete, price_told, put};
 use fpl_base::{EntryId, Gw, Memory, Op, PlayerId};
 use manager_book::{Manager, ManagerBook};
-use record_codec::{Item, Slot};
 use rule_book::{Pick, Sale, Team};
+use season_records::{Item, Slot};
 use std::alloc::Global;
 
 // Of an entry.

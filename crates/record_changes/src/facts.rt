@@ -2,18 +2,18 @@
 ghost use Rattle.std.specs.Prelude.{◌≡◌, ◌<◌, ◌≤◌, Some, IfOk, IfSome, length, slice_get, option_copied};
 ghost use Rattle.std.specs.Option.{option_map};
 ghost use Rattle.rule_book.specs.ById.{at_id};
-ghost use Rattle.record_codec.specs.declared.slot.Slot.TheVariants as slot;
-ghost use Rattle.record_codec.specs.declared.item.Item.TheVariants as item;
+ghost use Rattle.season_records.specs.declared.slot.Slot.TheVariants as slot;
+ghost use Rattle.season_records.specs.declared.item.Item.TheVariants as item;
 ghost use Rattle.record_changes.specs.Batches.{Keeps, KeepsOfFacts};
 
 use crate::changes::{delete, price_told, put};
 use crate::seeking::line_at;
 use fpl_base::{ClubId, Gw, Memory, Moment, Name, Op};
-use record_codec::{Item, Slot, encode_player};
 use rule_book::Player;
 use season_book::Moments;
 use season_calendar::Calendar;
 use season_facts::Season;
+use season_records::{Item, Slot, encode_player};
 use std::alloc::Global;
 
 // Of the season itself.

@@ -3,12 +3,12 @@ ghost use Rattle.std.specs.Prelude.{◌≡◌, ◌==◌, ◌<◌, ◌+◌, ◌++
 ghost use Rattle.std.specs.List.{list_any, range_with_len};
 ghost use Rattle.rule_book.specs.MatchFacts.{players_in};
 ghost use Rattle.season_book.specs.Commands.{club_ids};
-ghost use Rattle.record_codec.specs.declared.slot.Slot.TheVariants as slot;
+ghost use Rattle.season_records.specs.declared.slot.Slot.TheVariants as slot;
 ghost use Rattle.season_records.specs.Touched.{players_left};
 
 use fpl_base::{ClubId, Memory, Name, PlayerId};
-use record_codec::Slot;
 use rule_book::Line;
+use season_records::Slot;
 use std::alloc::Global;
 
 // Most commands touch so many slots at most.

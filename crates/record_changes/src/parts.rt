@@ -11,7 +11,7 @@ ghost use Rattle.season_book.specs.EntryViews.{gameweek_seen};
 ghost use Rattle.season_book.specs.LeagueViews.{history_of};
 ghost use Rattle.season_book.specs.declared.part.Part.TheVariants as part;
 ghost use Rattle.season_entries.specs.Entries.{AreEntries};
-ghost use Rattle.record_codec.specs.declared.slot.Slot.TheVariants as slot;
+ghost use Rattle.season_records.specs.declared.slot.Slot.TheVariants as slot;
 ghost use Rattle.season_records.specs.Touched as records;
 
 use crate::listing::{add_clubs, add_left, add_lines, add_transfers, one, three, two};
@@ -21,11 +21,11 @@ use cup_rounds::Cups;
 use fpl_base::{EntryId, Gw, Memory, PlayerId};
 use manager_book::ManagerBook;
 use match_facts::MatchFacts;
-use record_codec::Slot;
 use season_book::{Clubs, Command, Lines, Swaps};
 use season_calendar::Calendar;
 use season_entries::entries_are_issued;
 use season_facts::Season;
+use season_records::Slot;
 use std::alloc::Global;
 
 // Those of a command on the facts.

@@ -11,8 +11,8 @@ use crate::parts::{
     season_slots,
 };
 use fpl_base::{Caller, Memory};
-use record_codec::Slot;
 use season_book::{Command, Part};
+use season_records::Slot;
 use season_running::RunningSeason;
 use std::alloc::Global;
 

@@ -10,13 +10,13 @@ use Rattle.fpl_answers.specs.MemberData.{error_data}
 use Rattle.fpl_http.specs.Seen.{reply_seen}
 use Rattle.fpl_http.specs.Stream.{Request as Message}
 use Rattle.fpl_http.specs.declared.responses.Reply.{Reply}
-use Rattle.fpl_routes.specs.Targets.{IsFound}
-use Rattle.fpl_routes.specs.declared.route.Found.{Found}
-use Rattle.fpl_routes.specs.declared.route.Found.TheVariants as found
-use Rattle.fpl_routes.specs.declared.route.Route.{Route}
-use Rattle.fpl_session.specs.Lifts.{LiftsWhile}
-use Rattle.fpl_session.specs.Replies.{answer_in}
-use Rattle.fpl_session.specs.Splits.{Both}
+use Rattle.fpl_requests.specs.Targets.{IsFound}
+use Rattle.fpl_requests.specs.declared.route.Found.{Found}
+use Rattle.fpl_requests.specs.declared.route.Found.TheVariants as found
+use Rattle.fpl_requests.specs.declared.route.Route.{Route}
+use Rattle.fpl_http.specs.Lifts.{LiftsWhile}
+use Rattle.fpl_http.specs.Replies.{answer_in}
+use Rattle.fpl_http.specs.Splits.{Both}
 use Rattle.season_book.specs.Book.{Book}
 use Rattle.season_records.specs.Records.{records}
 use Rattle.season_running.specs.Standing.{StandsIn}
@@ -27,8 +27,8 @@ use Rattle.season_keeping.specs.Housed.{Backs}
 use Rattle.season_keeping.specs.Opening.{Withholds}
 use Rattle.request_handler.specs.Handlers.{IsFaultReply, RepliesAs}
 use Rattle.request_handler.specs.Kept.{IsStoodByRows, IsStoodByStops, Kept, Leads, StandsByRecords, StandsByRows, StandsByStops, asked_in}
-use Rattle.reply_laws.specs.Replying.{Asking, Goes, IsAsked, IsRebuildFault, IsReply, IsReplyUntil, RepliesAlong, RepliesTo, Served, asked_by, caller_of, error_reply, way_of}
-use Rattle.reply_laws.specs.Whole.{CanBeJudged, IsKept, IsKeptReply}
+use Rattle.request_handler.specs.Replying.{Asking, Goes, IsAsked, IsRebuildFault, IsReply, IsReplyUntil, RepliesAlong, RepliesTo, Served, asked_by, caller_of, error_reply, way_of}
+use Rattle.request_handler.specs.Whole.{CanBeJudged, IsKept, IsKeptReply}
 use Rattle.request_handler.proofs.KeptLemmas.{caller_stood, is_from, is_none}
 
 -- what is replied, by each of the three

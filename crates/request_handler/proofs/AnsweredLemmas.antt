@@ -4,12 +4,12 @@ use Rattle.std.specs.Prelude.{Option}
 use Rattle.std.specs.Io.KnownBytes.{Consumes}
 use Rattle.fpl_http.specs.Stream.{Begins, Closed, End, Open, Reads, Refused, Request}
 use Rattle.fpl_http.proofs.StreamLemmas.{begins_more, begins_reads, begins_then}
-use Rattle.fpl_session.specs.declared.ending.Ending.TheVariants as Ends
+use Rattle.fpl_http.specs.declared.ending.Ending.TheVariants as Ends
 use Rattle.request_handler.specs.Answered.{Answered, SessionsAnswer}
-use Rattle.fpl_session.specs.Replies.{Speaks}
-use Rattle.fpl_session.specs.Sessions.{Heard}
-use Rattle.fpl_session.specs.Stops.{IsDueBehind, LastFailed, Leads}
-use Rattle.fpl_session.proofs.RunLemmas.{run_then}
+use Rattle.fpl_http.specs.Replies.{Speaks}
+use Rattle.fpl_http.specs.Sessions.{Heard}
+use Rattle.fpl_http.specs.Stops.{IsDueBehind, LastFailed, Leads}
+use Rattle.fpl_http.proofs.RunLemmas.{run_then}
 
 -- messages that a stream is stand at its front
 reads_lead : (s : List ℕ) (ms : List Request) (e : End) → Reads s ms e → Leads s ms

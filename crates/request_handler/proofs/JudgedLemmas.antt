@@ -7,7 +7,7 @@ use Rattle.fpl_base.specs.Moments.{Tells}
 use Rattle.fpl_answers.specs.Answers.{done_status, status_of}
 use Rattle.fpl_http.specs.Seen.{reply_seen}
 use Rattle.fpl_http.specs.declared.responses.Reply.{Reply}
-use Rattle.fpl_session.specs.Replies.{answer_in}
+use Rattle.fpl_http.specs.Replies.{answer_in}
 use Rattle.season_book.specs.Book.{Book}
 use Rattle.season_book.specs.declared.made.Made.{Made}
 use Rattle.season_book.specs.declared.made.Made.TheVariants as made
@@ -21,7 +21,7 @@ use Rattle.season_records.specs.Records.{records}
 use Rattle.season_running.specs.Standing.{StandsIn}
 use Rattle.season_keeping.specs.Answering.{Answers, IsCaused, StopsLeave, WouldChange}
 use Rattle.request_handler.specs.Kept.{Kept, Leads}
-use Rattle.reply_laws.specs.Replying.{IsJudged, IsLeftAt, IsStaleBehind, Judges, Served, reply_of}
+use Rattle.request_handler.specs.Replying.{IsJudged, IsLeftAt, IsStaleBehind, Judges, Served, reply_of}
 use Rattle.request_handler.proofs.KeptLemmas.{agrees_with, served_is, stale_from, stale_is, with_book}
 
 -- behind each answer stands a book that may be left where memory ran out

@@ -14,7 +14,7 @@ use Rattle.season_keeping.specs.Housed.{Housed}
 use Rattle.request_handler.specs.Handlers.{RepliesAs}
 use Rattle.request_handler.specs.Kept.{Agrees, Kept, Leads, caller_in}
 use Rattle.season_book.specs.declared.request.Request.{Request}
-use Rattle.reply_laws.specs.Replying.{Asking, Judges, Reply, Served, caller_of, shown_by}
+use Rattle.request_handler.specs.Replying.{Asking, Judges, Reply, Served, caller_of, shown_by}
 
 -- ---- the keys are the same
 

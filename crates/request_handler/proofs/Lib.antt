@@ -1,3 +1,8 @@
+pub mod FaultFacts
+pub mod IsolationFacts
+pub mod OnceFacts
+pub mod StorelessFacts
+pub mod WholeFacts
 mod AnsweredLemmas
 pub mod KeptLemmas
 pub mod JudgedLemmas

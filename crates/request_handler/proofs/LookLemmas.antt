@@ -7,11 +7,11 @@ use Rattle.fpl_base.specs.Moments.{Moments, Tells}
 use Rattle.fpl_base.specs.declared.kinds.Caller.{Caller}
 use Rattle.rule_book.specs.Calendar.{after_pass}
 use Rattle.fpl_http.specs.Stream.{Request as Message}
-use Rattle.fpl_session.specs.Replies.{Speaks}
-use Rattle.fpl_session.specs.Runs.{Run}
-use Rattle.fpl_routes.specs.Targets.{IsFound}
-use Rattle.fpl_routes.specs.declared.route.Found.TheVariants as found
-use Rattle.fpl_routes.specs.declared.route.Route.{Route}
+use Rattle.fpl_http.specs.Replies.{Speaks}
+use Rattle.fpl_http.specs.Runs.{Run}
+use Rattle.fpl_requests.specs.Targets.{IsFound}
+use Rattle.fpl_requests.specs.declared.route.Found.TheVariants as found
+use Rattle.fpl_requests.specs.declared.route.Route.{Route}
 use Rattle.season_book.specs.Book.{Book, Facts}
 use Rattle.season_book.specs.Verdict.{locked_at, pass}
 use Rattle.season_book.specs.declared.request.Request.{Request}
@@ -21,7 +21,7 @@ use Rattle.season_keeping.specs.Answering.{LeavesAll, PassesAlone, ReadsFew}
 use Rattle.season_keeping.specs.Housed.{Housed}
 use Rattle.season_running.specs.Standing.{HostRows, StandsIn, passed}
 use Rattle.season_views.specs.Reads.{view_reads}
-use Rattle.reply_laws.specs.Replying.{Asking, IsAsked, Reply, asked_by}
+use Rattle.request_handler.specs.Replying.{Asking, IsAsked, Reply, asked_by}
 use Rattle.request_handler.specs.Kept.{Kept, asked_in}
 use Rattle.request_handler.specs.Looks.{AllOrderNone, AreLooks, AsksNoCommand, Counted, CountsAs, CountsLooks, IsLook, IsNoCommand, LockNone, LooksOn, MayRead, OrdersNone, RunsReadFew, TellsOn, host_with, passed_on}
 use Rattle.request_handler.proofs.KeptLemmas.{caller_stood}

@@ -2,11 +2,11 @@
 use Rattle.std.specs.Prelude.{ℕ, List, Option}
 use Rattle.std.specs.Io.KnownBytes.{Consumes}
 use Rattle.fpl_http.specs.Stream.{Request}
-use Rattle.fpl_session.specs.declared.ending.Ending.{Ending}
-use Rattle.fpl_session.specs.Replies.{Speaks}
-use Rattle.fpl_session.specs.Runs.{Run}
-use Rattle.fpl_session.specs.Sessions.{SessionOf}
-use Rattle.fpl_session.specs.Stops.{Leads}
+use Rattle.fpl_http.specs.declared.ending.Ending.{Ending}
+use Rattle.fpl_http.specs.Replies.{Speaks}
+use Rattle.fpl_http.specs.Runs.{Run}
+use Rattle.fpl_http.specs.Sessions.{SessionOf}
+use Rattle.fpl_http.specs.Stops.{Leads}
 
 -- messages at the front of the bytes that were taken were answered, one after another
 pub record Answered {S : Type 0} (answers : S → Request → ℕ × List ℕ → S → Type 0) (left now : Option (List ℕ)) (old new : S) : Type 0 where

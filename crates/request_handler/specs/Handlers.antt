@@ -8,8 +8,8 @@ use Rattle.season_opening.specs.declared.loading.OpenFault.{OpenFault}
 use Rattle.season_opening.specs.declared.loading.OpenFault.TheVariants as fault
 use Rattle.request_handler.specs.declared.handler.Asked.{Asked}
 use Rattle.request_handler.specs.declared.handler.Asked.TheVariants as asked
-use Rattle.reply_laws.specs.Replying.{Asking, RepliesTo, Reply, Served, reply_of}
-use Rattle.reply_laws.specs.Whole.{CanBeJudged}
+use Rattle.request_handler.specs.Replying.{Asking, RepliesTo, Reply, Served, reply_of}
+use Rattle.request_handler.specs.Whole.{CanBeJudged}
 
 -- who asks what, or the reply that refuses it
 abbrev pub asking_in : Asked → Asking

@@ -4,10 +4,10 @@ use Rattle.fpl_base.specs.Keeping.{Map}
 use Rattle.fpl_base.specs.Moments.{Moments}
 use Rattle.fpl_base.specs.declared.kinds.Caller.{Caller}
 use Rattle.fpl_http.specs.Stream.{Request}
-use Rattle.fpl_routes.specs.declared.route.Route.{Route}
+use Rattle.fpl_requests.specs.declared.route.Route.{Route}
 use Rattle.season_running.specs.Standing.{HostRows, StandsIn, keys_in}
 use Rattle.season_keeping.specs.Housed.{Backs, Housed}
-use Rattle.reply_laws.specs.Replying.{Asking, IsLeftAt, Served, asked_by, shown_by}
+use Rattle.request_handler.specs.Replying.{Asking, IsLeftAt, Served, asked_by, shown_by}
 
 -- what goes from message to message as it is kept: the host with its rows, the moments that the clock has left, if it
 -- tells them, how often the keeper has failed, and the keeper

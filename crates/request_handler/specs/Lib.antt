@@ -1,3 +1,8 @@
+pub mod Faults
+pub mod Isolation
+pub mod Once
+pub mod Replying
+pub mod Whole
 pub mod Answered
 pub mod Handlers
 pub mod Kept

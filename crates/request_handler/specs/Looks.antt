@@ -4,12 +4,12 @@ use Rattle.std.specs.Io.KnownBytes.{Consumes}
 use Rattle.fpl_base.specs.Moments.{Moments, Tells}
 use Rattle.fpl_base.specs.declared.kinds.Caller.{Caller}
 use Rattle.fpl_http.specs.Stream.{Request as Message}
-use Rattle.fpl_routes.specs.Targets.{IsFound}
-use Rattle.fpl_routes.specs.declared.route.Found.TheVariants as found
-use Rattle.fpl_routes.specs.declared.route.Route.{Route}
-use Rattle.fpl_session.specs.Replies.{Speaks}
-use Rattle.fpl_session.specs.Runs.{Run}
-use Rattle.fpl_session.specs.Stops.{Leads}
+use Rattle.fpl_requests.specs.Targets.{IsFound}
+use Rattle.fpl_requests.specs.declared.route.Found.TheVariants as found
+use Rattle.fpl_requests.specs.declared.route.Route.{Route}
+use Rattle.fpl_http.specs.Replies.{Speaks}
+use Rattle.fpl_http.specs.Runs.{Run}
+use Rattle.fpl_http.specs.Stops.{Leads}
 use Rattle.season_book.specs.Book.{Book}
 use Rattle.season_book.specs.Hosts.{HostState}
 use Rattle.season_book.specs.declared.request.Request.{Request}
@@ -17,7 +17,7 @@ use Rattle.season_book.specs.declared.request.Request.TheVariants as request
 use Rattle.season_host.specs.Accepted.{locks_more}
 use Rattle.season_running.specs.Standing.{HostRows, StandsIn, passed}
 use Rattle.season_views.specs.Reads.{view_reads}
-use Rattle.reply_laws.specs.Replying.{Asking, IsAsked, Reply}
+use Rattle.request_handler.specs.Replying.{Asking, IsAsked, Reply}
 use Rattle.request_handler.specs.Kept.{Kept, asked_in}
 
 -- what goes from message to message as it is kept, and how many reads were counted

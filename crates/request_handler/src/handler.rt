@@ -3,10 +3,10 @@ ghost use Rattle.std.specs.Prelude.{◌≡◌, ◌≢◌, ◌<◌, ◌≤◌, Er
 ghost use Rattle.fpl_base.specs.declared.kinds.Caller.{Caller};
 ghost use Rattle.fpl_http.specs.Responses.{is_answer_status};
 ghost use Rattle.fpl_http.specs.Seen.{reply_seen, request_seen};
-ghost use Rattle.fpl_session.specs.Lifts.{LiftsWhile};
-ghost use Rattle.fpl_session.specs.Splits.{Both};
-ghost use Rattle.fpl_session.specs.Replies.{answer_in};
-ghost use Rattle.fpl_bodies.specs.Requests.{request_of};
+ghost use Rattle.fpl_http.specs.Lifts.{LiftsWhile};
+ghost use Rattle.fpl_http.specs.Splits.{Both};
+ghost use Rattle.fpl_http.specs.Replies.{answer_in};
+ghost use Rattle.fpl_requests.specs.Requests.{request_of};
 ghost use Rattle.season_book.specs.Hosts.{IsRequest};
 ghost use Rattle.season_keeping.specs.Opening.{HoldsOn, Opens, Withholds};
 ghost use Rattle.season_opening.specs.declared.loading.OpenFault.{OpenFault};
@@ -14,15 +14,13 @@ ghost use Rattle.season_opening.specs.declared.loading.OpenFault.TheVariants as 
 ghost use Rattle.request_handler.specs.Handlers.{Asks, IsFaultReply, RepliesAs};
 ghost use Rattle.request_handler.specs.Kept.{IsStoodByRows, IsStoodByStops, Leads, StandsByRecords, asked_in, caller_in, kept_as};
 ghost use Rattle.request_handler.specs.Looks.{Counted, CountsAs, CountsLooks, counted_as};
-ghost use Rattle.reply_laws.specs.Replying.{IsReplyUntil, Judges, asked_by, reply_of, unless_malformed};
-ghost use Rattle.reply_laws.specs.Whole.{IsKeptReply};
+ghost use Rattle.request_handler.specs.Replying.{IsReplyUntil, Judges, asked_by, reply_of, unless_malformed};
+ghost use Rattle.request_handler.specs.Whole.{IsKeptReply};
 
 use fpl_answers::{answer_text, caller_text, key_text, malformed_text, method_text, unknown_text};
 use fpl_base::{Caller, Clock, Keeper, Key, Memory, ReadCount};
-use fpl_bodies::{ReadFault, Scratch, read_request};
-use fpl_http::{Message, Reply};
-use fpl_routes::{Found, Route, Routes};
-use fpl_session::Service;
+use fpl_http::{Message, Reply, Service};
+use fpl_requests::{Found, ReadFault, Route, Routes, Scratch, read_request};
 use season_book::{Answer, Request};
 use season_keeping::Host;
 use season_opening::OpenFault;

@@ -3,7 +3,7 @@ ghost use Rattle.request_handler.specs.Answered.{SessionsAnswer};
 ghost use Rattle.request_handler.specs.Looks.{RunsReadFew};
 
 use fpl_base::Keeper;
-use fpl_session::Answering;
+use fpl_http::Answering;
 
 /// A law on the definitions: however a session ends, it answered messages at the front of the bytes that it took, one after
 /// another, and left the state behind the last of them.

@@ -2,13 +2,13 @@
 ghost use Rattle.std.specs.Prelude.{Option, ⊤};
 ghost use Rattle.request_handler.specs.Kept.{IsStoodByRows, IsStoodByStops, StandsByRecords};
 ghost use Rattle.request_handler.specs.Looks.{Counted, CountsLooks};
-ghost use Rattle.reply_laws.specs.Replying.{IsReplyUntil, Served};
-ghost use Rattle.reply_laws.specs.Whole.{IsKeptReply};
-ghost use Rattle.fpl_session.specs.Lifts.{LiftsWhile};
-ghost use Rattle.fpl_session.specs.Splits.{Both};
+ghost use Rattle.request_handler.specs.Replying.{IsReplyUntil, Served};
+ghost use Rattle.request_handler.specs.Whole.{IsKeptReply};
+ghost use Rattle.fpl_http.specs.Lifts.{LiftsWhile};
+ghost use Rattle.fpl_http.specs.Splits.{Both};
 
 use fpl_base::Keeper;
-use fpl_session::{Answering, Standing};
+use fpl_http::{Answering, Standing};
 
 /// Over any keeper, by the host's rows, up to the first message for which the keeper is read again.
 #[derive(Drop)]

@@ -1,1 +1,20 @@
 mod OnceFacts
+pub mod AgainstSame
+pub mod BootstrapAlike
+pub mod BothWays
+pub mod CommandFacts
+pub mod CupWindowAlike
+pub mod EntriesFacts
+pub mod EntriesInAlike
+pub mod EntryWindowAlike
+pub mod EntryWindowsAlike
+pub mod HeadMatchesAlike
+pub mod LockFacts
+pub mod OtherFacts
+pub mod ReplyFacts
+pub mod SidesAlike
+pub mod StandingsAlike
+pub mod TableFacts
+pub mod TransfersWindowAlike
+pub mod ViewFacts
+pub mod WindowFacts

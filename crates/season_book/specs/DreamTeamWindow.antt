@@ -5,7 +5,7 @@ use Rattle.json_members.specs.Members.{count, integer}
 use Rattle.rule_book.specs.declared.team_score.Figures.{Figures}
 use Rattle.rule_book.specs.Calendar.{CalendarFacts, is_locked}
 use Rattle.rule_book.specs.PlayerFigures.{figures_in}
-use Rattle.dream_team.specs.Elevens.{Row}
+use Rattle.squad_rules.specs.Elevens.{Row}
 use Rattle.season_book.specs.Book.{Facts}
 use Rattle.season_book.specs.Windows.{listed, numbered}
 use Rattle.season_book.specs.TeamOfTheWeek.{team_of_the_week, top_of}

@@ -41,3 +41,5 @@ pub mod TransfersWindow
 pub mod Verdict
 pub mod Views
 pub mod Windows
+pub mod Agree
+pub mod Isolation

@@ -7,7 +7,7 @@ use Rattle.rule_book.specs.declared.line.Line.{Line}
 use Rattle.rule_book.specs.declared.player.Player.{Player}
 use Rattle.rule_book.specs.Calendar.{is_locked}
 use Rattle.rule_book.specs.PlayerFigures.{position_in}
-use Rattle.dream_team.specs.Elevens.{Row}
+use Rattle.squad_rules.specs.Elevens.{Row}
 use Rattle.season_book.specs.Book.{Facts}
 use Rattle.season_book.specs.Windows.{listed}
 use Rattle.season_book.specs.DreamTeamWindow.{has_gameweek, rows_of_gameweek}

@@ -8,8 +8,8 @@ use Rattle.rule_book.specs.Positions.{is_keeper, is_defender, is_midfielder, is_
 use Rattle.rule_book.specs.Ranks.{rank_among}
 use Rattle.rule_book.specs.RowsInOrder.{in_order}
 use Rattle.rule_book.specs.Scoring.{by_position}
-use Rattle.dream_team.specs.Dreams.{place_of, stands_before}
-use Rattle.dream_team.specs.Elevens.{Row, count_in, is_better, total_points}
+use Rattle.squad_rules.specs.Dreams.{place_of, stands_before}
+use Rattle.squad_rules.specs.Elevens.{Row, count_in, is_better, total_points}
 
 -- how many of each position stand before the goalkeeper
 pub record Formation : Type 0 where

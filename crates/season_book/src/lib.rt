@@ -1,11 +1,13 @@
 //! The season as its definitions have it: what can be asked, what is answered and shown, the book, the verdict on each
-//! request, and that no command acts twice. No call of this crate changes a season.
+//! request, that no command acts twice, and that no reply hangs on what another manager did in an open gameweek
+//! (docs/RULES.md, "What a manager sees"). No call of this crate changes a season.
 #![tactic(auto)]
 
 mod answer;
 mod clubs;
 mod command;
 mod copies;
+mod isolation;
 mod laws;
 mod lists;
 mod made;
@@ -17,6 +19,10 @@ mod shown;
 pub use answer::Answer;
 pub use clubs::SharedClubs;
 pub use command::Command;
+pub use isolation::{
+    agreeing_is_an_equivalence, answers_are_isolated, commands_are_isolated, others_are_unseen,
+    replies_are_isolated, views_are_isolated,
+};
 pub use laws::commands_act_once;
 pub use lists::{Clubs, Lines, Moments, Order, Swaps};
 pub use made::Made;

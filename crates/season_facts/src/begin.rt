@@ -7,7 +7,7 @@ ghost use Rattle.season_book.specs.Verdict.{begun};
 use crate::Season;
 use fpl_base::{ClubId, Memory, Name, Profile, Refused};
 use match_facts::MatchFacts;
-use player_prices::Players;
+use player_market::Players;
 use season_book::{Answer, Clubs, Moments, SharedClubs};
 use season_calendar::Calendar;
 use std::alloc::Global;

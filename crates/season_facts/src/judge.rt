@@ -8,7 +8,7 @@ ghost use Rattle.season_facts.specs.Judged.{CountsJudged};
 use crate::Season;
 use fpl_base::{ClubId, Gw, Moment, PlayerId, ReadCount, Rule, Tenths};
 use match_facts::{judge_lock, judge_sheet};
-use player_prices::judge_price;
+use player_market::judge_price;
 use rule_book::{Fixture, Line};
 use season_book::{Answer, Command};
 use std::sync::ledger::Ledger;

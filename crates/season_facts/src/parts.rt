@@ -5,7 +5,7 @@ ghost use Rattle.season_facts.specs.Kept.{AreFacts};
 use crate::Season;
 use fpl_base::Profile;
 use match_facts::MatchFacts;
-use player_prices::Players;
+use player_market::Players;
 use season_book::SharedClubs;
 use season_calendar::Calendar;
 

@@ -10,7 +10,7 @@ ghost use Rattle.rule_book.specs.Uses.{has_lines};
 use crate::Season;
 use fpl_base::{FixtureId, Memory, PlayerId, Profile, ReadCount};
 use match_facts::MatchFacts;
-use player_prices::Players;
+use player_market::Players;
 use rule_book::{Fixture, Line, Player};
 use season_book::SharedClubs;
 use season_calendar::Calendar;

@@ -1,6 +1,6 @@
 use fpl_base::Profile;
 use match_facts::MatchFacts;
-use player_prices::Players;
+use player_market::Players;
 use season_book::SharedClubs;
 use season_calendar::Calendar;
 use std::marker::Model;

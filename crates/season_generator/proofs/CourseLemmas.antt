@@ -12,7 +12,7 @@ use Rattle.season_generator.specs.declared.made.Step.{Step}
 use Rattle.local_requests.specs.Asking.{IsHeardAt}
 use Rattle.local_requests.specs.Printing.{EndsBy, PrintsOne}
 use Rattle.request_handler.specs.Kept.{Kept, Leads}
-use Rattle.reply_laws.specs.Replying.{Served}
+use Rattle.request_handler.specs.Replying.{Served}
 use Rattle.season_generator.specs.Generating.{IsCorrected, IsGenerated, IsPlayed, IsTabled, PlaysOn, TabledBehind, is_done}
 use Rattle.season_generator.specs.Summaries.{summary_text, table_of}
 use Rattle.season_generator.specs.declared.table.Table.{Table}

@@ -7,7 +7,7 @@ use Rattle.season_book.specs.declared.request.Request.TheVariants as request
 use Rattle.season_book.specs.declared.request.View.TheVariants as view
 use Rattle.season_generator.specs.Made.{step_of}
 use Rattle.season_generator.specs.declared.made.Step.{Step}
-use Rattle.reply_laws.specs.Replying.{Served}
+use Rattle.request_handler.specs.Replying.{Served}
 use Rattle.local_requests.specs.Asking.{IsHeardAt}
 use Rattle.local_requests.specs.Printing.{EndsBy, PrintsOne}
 use Rattle.season_generator.specs.Summaries.{summary_text, table_of}

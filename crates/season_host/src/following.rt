@@ -17,10 +17,10 @@ ghost use Rattle.season_host.specs.declared.change.Change.TheVariants as change_
 use crate::change::Change;
 use crate::house::House;
 use fpl_base::{Caller, Memory, Moment, ReadCount};
-use record_codec::Slot;
 use season_book::{Answer, Command};
 use season_cells::{KeptCells, Plan};
 use season_graph::calendar_changes;
+use season_records::Slot;
 use season_running::RunningSeason;
 use std::alloc::Global;
 use std::sync::ledger::Ledger;

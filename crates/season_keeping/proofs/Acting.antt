@@ -4,7 +4,7 @@ use Rattle.std.proofs.lemmas.Bool.Decides.{nat_tests}
 use Rattle.fpl_base.specs.Keeping.{Map}
 use Rattle.fpl_base.specs.declared.kinds.Caller.{Caller}
 use Rattle.fpl_base.specs.declared.outside.KeeperFault.{KeeperFault}
-use Rattle.record_codec.specs.declared.slot.Slot.{Slot}
+use Rattle.season_records.specs.declared.slot.Slot.{Slot}
 use Rattle.season_book.specs.Book.{Book, caller_number, last_number}
 use Rattle.season_book.specs.Doing.{IsGrantedIn}
 use Rattle.season_book.specs.Verdict.{IsVerdictIn, Outcome, accepted, number_refusal, pass, ruled}

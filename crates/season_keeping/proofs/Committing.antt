@@ -4,7 +4,7 @@ use Rattle.fpl_base.specs.Keeping.{Map, applied}
 use Rattle.fpl_base.specs.declared.outside.KeeperFault.{KeeperFault}
 use Rattle.fpl_base.specs.declared.outside.KeeperFault.TheVariants as fault
 use Rattle.fpl_base.specs.declared.records.Op.{Op}
-use Rattle.record_codec.specs.declared.slot.Slot.{Slot}
+use Rattle.season_records.specs.declared.slot.Slot.{Slot}
 use Rattle.season_host.specs.Accepted.{TellItemsBy}
 use Rattle.season_records.specs.Touched.{batch}
 use Rattle.record_changes.specs.RowsTold.{told_by}

@@ -3,7 +3,7 @@ use Rattle.std.proofs.Common.{◌≡◌, ◌∙◌, ◌⊎◌, Bool, true≢fals
 use Rattle.fpl_base.specs.Keeping.{Map, applied}
 use Rattle.fpl_base.specs.declared.outside.KeeperFault.{KeeperFault}
 use Rattle.fpl_base.specs.declared.outside.KeeperFault.TheVariants as fault
-use Rattle.record_codec.specs.declared.slot.Slot.{Slot}
+use Rattle.season_records.specs.declared.slot.Slot.{Slot}
 use Rattle.season_book.specs.Book.{Book}
 use Rattle.season_records.specs.Keeping.{Leads}
 use Rattle.season_records.specs.Records.{records, told}

@@ -9,7 +9,7 @@ ghost use Rattle.season_book.specs.Hosts.{IsRequest, owner_of};
 ghost use Rattle.season_book.specs.Verdict.{MayAnswer, pass};
 ghost use Rattle.season_book.specs.declared.answer.Answer.TheVariants as answer_of;
 ghost use Rattle.season_book.specs.declared.request.Request.TheVariants as request_of;
-ghost use Rattle.season_isolation.specs.Isolation.{ToldAlike};
+ghost use Rattle.season_book.specs.Isolation.{ToldAlike};
 ghost use Rattle.season_running.specs.EntryLaws.{IsOrderlyHost};
 ghost use Rattle.season_running.specs.Standing.{StandsIn, keys_in, number_at, passed, players_in};
 ghost use Rattle.season_opening.specs.declared.loading.OpenFault.TheVariants as fault;
@@ -21,15 +21,13 @@ ghost use Rattle.season_keeping.specs.Opening.{HoldsOn, Opens, Withholds};
 
 use fpl_base::{Caller, Keeper, KeeperFault, Key, Memory, Moment, PlayerId, ReadCount};
 use record_changes::rows_tell_records;
-use record_codec::Slot;
-use season_book::{Answer, Command, Request};
+use season_book::{Answer, Command, Request, answers_are_isolated};
 use season_cells::KeptCells;
 use season_host::{House, answer_command, cells_of, pass};
-use season_isolation::answers_are_isolated;
 use season_opening::{OpenFault, loaded, loaded_rows_stand};
 use season_records::{
-    books_are_early, books_are_in_order, commands_keep_records, items_stay, locks_keep_records,
-    slots_tell_items,
+    Slot, books_are_early, books_are_in_order, commands_keep_records, items_stay,
+    locks_keep_records, slots_tell_items,
 };
 use std::alloc::Global;
 use std::marker::Model;

@@ -15,7 +15,7 @@ use cup_rounds::Cups;
 use fpl_base::{EntryId, FixtureId, Gw, LeagueId, PlayerId, Position, Profile, ReadCount};
 use manager_book::ManagerBook;
 use match_facts::MatchFacts;
-use player_prices::Players;
+use player_market::Players;
 use rule_book::Team;
 use season_calendar::Calendar;
 use season_ledger::Entry;

@@ -2,7 +2,7 @@
 use Rattle.std.specs.Prelude.{◌≡◌, None, Option, Some}
 use Rattle.fpl_base.specs.Keeping.{KeysRise, Map, map_of}
 use Rattle.fpl_base.specs.declared.records.RecordKey.{RecordKey}
-use Rattle.record_codec.specs.declared.slot.Slot.{Slot}
+use Rattle.season_records.specs.declared.slot.Slot.{Slot}
 use Rattle.season_book.specs.Book.{Book, empty_book}
 use Rattle.stored_records.specs.Stored.{Rows, told}
 use Rattle.store_validation.specs.Lawful.{judged}

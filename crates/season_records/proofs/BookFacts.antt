@@ -16,9 +16,9 @@ use Rattle.season_book.specs.declared.command.Command.TheVariants as command
 use Rattle.season_book.specs.Verdict.{Outcome, accepted, begun, judged, ruled_by, unless_refused}
 use Rattle.season_book.specs.declared.answer.Answer.{Answer}
 use Rattle.season_book.specs.declared.answer.Answer.TheVariants as answer
-use Rattle.record_codec.specs.Keys.{key_of}
-use Rattle.record_codec.specs.declared.slot.Slot.{Slot}
-use Rattle.record_codec.specs.declared.slot.Slot.TheVariants as slot
+use Rattle.season_records.specs.Keys.{key_of}
+use Rattle.season_records.specs.declared.slot.Slot.{Slot}
+use Rattle.season_records.specs.declared.slot.Slot.TheVariants as slot
 use Rattle.season_records.specs.Records.{last_item, told, told_in}
 use Rattle.season_records.specs.Touched.{players_left, touched_by}
 use Rattle.season_records.proofs.FactCommands.{FactsKeep, amend_fixture_keeps, club_keeps, deadline_keeps, drop_keeps, finished_keeps, fixture_keeps, gone_keeps, line_keeps, move_keeps, player_keeps, price_keeps, season_begins, sheet_keeps}

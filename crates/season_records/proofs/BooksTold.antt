@@ -10,9 +10,9 @@ use Rattle.rule_book.specs.Entries.{entry_in}
 use Rattle.rule_book.specs.LeagueCalls.{is_member}
 use Rattle.rule_book.specs.Leagues.{LeagueFacts}
 use Rattle.season_book.specs.Book.{Book, EntryFacts, Facts, Last}
-use Rattle.record_codec.specs.declared.item.Item.{Item}
-use Rattle.record_codec.specs.declared.item.Item.TheVariants as item
-use Rattle.record_codec.specs.declared.slot.Slot.TheVariants as slot
+use Rattle.season_records.specs.declared.item.Item.{Item}
+use Rattle.season_records.specs.declared.item.Item.TheVariants as item
+use Rattle.season_records.specs.declared.slot.Slot.TheVariants as slot
 use Rattle.season_records.specs.Records.{cup_item, entry_item, last_item, league_item, made_id, member_told, team_told, told, transfer_told}
 use Rattle.season_records.specs.Told.{BothAre, IsInOrder, RecordsTellBooks, RecordsTellFacts, SameBook, SameEntry, SameFacts, TellTheSame, made_by}
 use Rattle.season_records.proofs.Determined.{members_determined, numbers_determined, rows_determined}

@@ -5,7 +5,7 @@ use Rattle.fpl_base.specs.declared.kinds.Caller.{Caller}
 use Rattle.season_book.specs.Book.{Book}
 use Rattle.season_book.specs.Verdict.{IsVerdict, Verdict, pass}
 use Rattle.season_book.specs.declared.request.Request.{Request}
-use Rattle.record_codec.specs.declared.slot.Slot.{Slot}
+use Rattle.season_records.specs.declared.slot.Slot.{Slot}
 use Rattle.season_records.specs.Commits.{CommitsHoldOne, HoldsLeft, HoldsOne, MayCommit, RequestsCommit}
 use Rattle.season_records.specs.Keeping.{Leads}
 use Rattle.season_records.specs.Records.{records, told}

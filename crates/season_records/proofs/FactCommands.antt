@@ -18,11 +18,11 @@ use Rattle.rule_book.proofs.AtId.{one_other, placed_other}
 use Rattle.season_book.specs.Book.{Facts}
 use Rattle.season_book.specs.Commands.{changed_by, club_ids, new_season}
 use Rattle.season_book.specs.declared.command.Command.TheVariants as command
-use Rattle.record_codec.specs.Keys.{key_of}
-use Rattle.record_codec.specs.declared.item.Item.{Item}
-use Rattle.record_codec.specs.declared.item.Item.TheVariants as item
-use Rattle.record_codec.specs.declared.slot.Slot.{Slot}
-use Rattle.record_codec.specs.declared.slot.Slot.TheVariants as slot
+use Rattle.season_records.specs.Keys.{key_of}
+use Rattle.season_records.specs.declared.item.Item.{Item}
+use Rattle.season_records.specs.declared.item.Item.TheVariants as item
+use Rattle.season_records.specs.declared.slot.Slot.{Slot}
+use Rattle.season_records.specs.declared.slot.Slot.TheVariants as slot
 use Rattle.season_records.specs.Records.{fixture_item, player_item, told_in}
 use Rattle.season_records.specs.Touched.{players_left}
 use Rattle.season_records.proofs.Finds.{found_beside, found_unchanged}

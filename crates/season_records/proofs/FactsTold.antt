@@ -15,10 +15,10 @@ use Rattle.rule_book.specs.MatchFacts.{MatchFacts, Sheet, bare_sheet, is_finishe
 use Rattle.rule_book.specs.Players.{player_of}
 use Rattle.season_book.specs.Book.{Book, Facts}
 use Rattle.season_book.specs.Commands.{has_fixture}
-use Rattle.record_codec.specs.declared.item.Item.{Item}
-use Rattle.record_codec.specs.declared.item.Item.TheVariants as item
-use Rattle.record_codec.specs.declared.slot.Slot.{Slot}
-use Rattle.record_codec.specs.declared.slot.Slot.TheVariants as slot
+use Rattle.season_records.specs.declared.item.Item.{Item}
+use Rattle.season_records.specs.declared.item.Item.TheVariants as item
+use Rattle.season_records.specs.declared.slot.Slot.{Slot}
+use Rattle.season_records.specs.declared.slot.Slot.TheVariants as slot
 use Rattle.season_records.specs.Records.{fixture_item, player_item, season_item, told_in}
 use Rattle.season_records.specs.Told.{AreInOrder, BothAre, SameFacts, TellTheSame}
 use Rattle.season_records.proofs.Determined.{determined, found_id, rise_of, rows_determined}

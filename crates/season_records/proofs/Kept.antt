@@ -11,9 +11,9 @@ use Rattle.season_book.specs.declared.command.Command.TheVariants as command
 use Rattle.season_book.specs.Verdict.{Outcome, Verdict, accepted, fresh_verdict, locked_at, number_refusal, pass, ruled, settled, unless_misnumbered}
 use Rattle.season_book.specs.declared.answer.Answer.{Answer}
 use Rattle.season_book.specs.declared.request.Request.TheVariants as request
-use Rattle.record_codec.specs.Keys.{key_of}
-use Rattle.record_codec.specs.declared.slot.Slot.{Slot}
-use Rattle.record_codec.specs.declared.slot.Slot.TheVariants as slot
+use Rattle.season_records.specs.Keys.{key_of}
+use Rattle.season_records.specs.declared.slot.Slot.{Slot}
+use Rattle.season_records.specs.declared.slot.Slot.TheVariants as slot
 use Rattle.season_records.specs.Keeping.{CommandsKeepRecords, IsInTime, Leads, LocksKeepRecords, NoLockLeavesBook, RestsKeepRecords, VerdictsKeepRecords}
 use Rattle.season_records.specs.Records.{told, told_in}
 use Rattle.season_records.specs.Touched.{locked_slots, touched, touched_by}

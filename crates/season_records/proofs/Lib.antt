@@ -1,3 +1,7 @@
+pub mod CommandLaws
+pub mod ItemLaws
+pub mod KeyLaws
+pub mod CodecWorked
 pub mod BookFacts
 pub mod BookOrder
 pub mod BooksTold
@@ -18,7 +22,7 @@ pub mod RunFacts
 pub mod Sheets
 pub mod Slots
 pub mod TeamsTold
-pub mod Worked
+pub mod BookWorked
 pub mod LockFacts
 pub mod ReadFacts
 pub mod StayFacts

@@ -5,11 +5,11 @@ use Rattle.std.specs.Option.{option_map, option_and_then}
 use Rattle.std.proofs.lemmas.Bool.Decides.{nat_tests}
 use Rattle.fpl_base.specs.Keeping.{Map, applied, applied_one, is_same_key}
 use Rattle.fpl_base.specs.declared.records.RecordKey.{RecordKey}
-use Rattle.record_codec.specs.Items.{body_of}
-use Rattle.record_codec.specs.Keys.{key_of, slot_of}
-use Rattle.record_codec.specs.declared.item.Item.{Item}
-use Rattle.record_codec.specs.declared.slot.Slot.{Slot}
-use Rattle.record_codec.proofs.KeyLaws.{named, own_slot}
+use Rattle.season_records.specs.Items.{body_of}
+use Rattle.season_records.specs.Keys.{key_of, slot_of}
+use Rattle.season_records.specs.declared.item.Item.{Item}
+use Rattle.season_records.specs.declared.slot.Slot.{Slot}
+use Rattle.season_records.proofs.KeyLaws.{named, own_slot}
 use Rattle.season_records.specs.Records.{at_keys}
 use Rattle.season_records.specs.Touched.{batch, op_of}
 

@@ -5,11 +5,11 @@ use Rattle.std.specs.Option.{option_and_then}
 use Rattle.std.proofs.lemmas.Option.{none-some, same_Some}
 use Rattle.fpl_base.specs.Keeping.{is_same_key, map_of}
 use Rattle.fpl_base.specs.declared.records.RecordKey.{RecordKey}
-use Rattle.record_codec.specs.ItemReading.{item_of}
-use Rattle.record_codec.specs.Keys.{key_of}
-use Rattle.record_codec.specs.Laws.{IsBytes}
-use Rattle.record_codec.specs.Ranges.{IsItem}
-use Rattle.record_codec.proofs.ItemLaws.{item_found}
+use Rattle.season_records.specs.ItemReading.{item_of}
+use Rattle.season_records.specs.Keys.{key_of}
+use Rattle.season_records.specs.Laws.{IsBytes}
+use Rattle.season_records.specs.Ranges.{IsItem}
+use Rattle.season_records.proofs.ItemLaws.{item_found}
 use Rattle.season_records.specs.Read.{BytesTellItems, HasBytes, RowsTellItems}
 
 pub bytes_tell_items : BytesTellItems

@@ -9,16 +9,16 @@ use Rattle.rule_book.specs.EntryRecords.{sold_in}
 use Rattle.rule_book.specs.History.{is_touched}
 use Rattle.rule_book.specs.LeagueCalls.{is_member}
 use Rattle.rule_book.specs.TeamOfHistory.{team_of}
-use Rattle.record_codec.specs.ItemReading.{item_of}
-use Rattle.record_codec.specs.Items.{body_of, key_of_item, slot_of_item}
-use Rattle.record_codec.specs.Keys.{key_of, slot_of}
-use Rattle.record_codec.specs.Ranges.{IsItem}
-use Rattle.record_codec.specs.declared.item.Item.{Item}
-use Rattle.record_codec.specs.declared.item.Item.TheVariants as item
-use Rattle.record_codec.specs.declared.slot.Slot.{Slot}
-use Rattle.record_codec.specs.declared.slot.Slot.TheVariants as slot
-use Rattle.record_codec.proofs.ItemLaws.{item_back}
-use Rattle.record_codec.proofs.KeyLaws.{own_slot}
+use Rattle.season_records.specs.ItemReading.{item_of}
+use Rattle.season_records.specs.Items.{body_of, key_of_item, slot_of_item}
+use Rattle.season_records.specs.Keys.{key_of, slot_of}
+use Rattle.season_records.specs.Ranges.{IsItem}
+use Rattle.season_records.specs.declared.item.Item.{Item}
+use Rattle.season_records.specs.declared.item.Item.TheVariants as item
+use Rattle.season_records.specs.declared.slot.Slot.{Slot}
+use Rattle.season_records.specs.declared.slot.Slot.TheVariants as slot
+use Rattle.season_records.proofs.ItemLaws.{item_back}
+use Rattle.season_records.proofs.KeyLaws.{own_slot}
 use Rattle.season_records.specs.Records.{cup_item, entry_item, fixture_item, last_item, league_item, member_told, no_position, player_item, records, team_item, team_told, told, told_in, transfer_item, transfer_told}
 use Rattle.season_records.proofs.Finds.{none_in}
 use Rattle.season_records.specs.Told.{EmptyTellsNothing, RecordsTellSlots, SlotsTellOfThemselves, TellsItem}

@@ -13,12 +13,12 @@ use Rattle.season_book.specs.Verdict.{Outcome, Verdict, accepted, fresh_verdict,
 use Rattle.season_book.specs.declared.answer.Answer.{Answer}
 use Rattle.season_book.specs.declared.command.Command.{Command}
 use Rattle.season_book.specs.declared.request.Request.TheVariants as request
-use Rattle.record_codec.specs.Items.{body_of}
-use Rattle.record_codec.specs.Keys.{key_of, slot_of}
-use Rattle.record_codec.specs.Ranges.{IsItem}
-use Rattle.record_codec.specs.declared.slot.Slot.{Slot}
-use Rattle.record_codec.specs.declared.slot.Slot.TheVariants as slot
-use Rattle.record_codec.proofs.KeyLaws.{own_slot}
+use Rattle.season_records.specs.Items.{body_of}
+use Rattle.season_records.specs.Keys.{key_of, slot_of}
+use Rattle.season_records.specs.Ranges.{IsItem}
+use Rattle.season_records.specs.declared.slot.Slot.{Slot}
+use Rattle.season_records.specs.declared.slot.Slot.TheVariants as slot
+use Rattle.season_records.proofs.KeyLaws.{own_slot}
 use Rattle.season_records.specs.Keeping.{IsInTime}
 use Rattle.season_records.specs.Records.{told, told_in}
 use Rattle.season_records.specs.Told.{TellsItem}

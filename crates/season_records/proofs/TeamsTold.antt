@@ -19,8 +19,8 @@ use Rattle.rule_book.specs.History.{Event, chip_at, chip_said_in, counts_in, is_
 use Rattle.rule_book.specs.HistorySquad.{armbands_of, bought_at, earned, order_of, picks_of, spent}
 use Rattle.rule_book.specs.TeamOfHistory.{team_of}
 use Rattle.rule_book.specs.UpTo.{start_of}
-use Rattle.record_codec.specs.declared.item.Item.{Item}
-use Rattle.record_codec.specs.declared.item.Item.TheVariants as item
+use Rattle.season_records.specs.declared.item.Item.{Item}
+use Rattle.season_records.specs.declared.item.Item.TheVariants as item
 use Rattle.season_records.specs.Records.{no_position, pick_told, team_item, team_told, transfer_item, transfer_told}
 use Rattle.season_records.specs.Told.{SameTeams}
 use Rattle.season_records.proofs.Determined.{numbers_determined}

@@ -6,7 +6,7 @@ use Rattle.fpl_base.specs.declared.records.Op.{Op}
 use Rattle.season_book.specs.Book.{Book}
 use Rattle.season_book.specs.Verdict.{IsVerdict, MayBeLeft, Verdict, pass}
 use Rattle.season_book.specs.declared.request.Request.{Request}
-use Rattle.record_codec.specs.declared.slot.Slot.{Slot}
+use Rattle.season_records.specs.declared.slot.Slot.{Slot}
 use Rattle.season_records.specs.Keeping.{AsksInTime, Leads}
 use Rattle.season_records.specs.Records.{records, told}
 use Rattle.season_records.specs.Touched.{batch, locked_slots, touched_in}

@@ -1,3 +1,10 @@
+pub mod CommandReading
+pub mod Commands
+pub mod ItemReading
+pub mod Items
+pub mod Keys
+pub mod Laws
+pub mod Ranges
 pub mod Commits
 pub mod Keeping
 pub mod Records

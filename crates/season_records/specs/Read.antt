@@ -5,11 +5,11 @@ use Rattle.std.specs.Option.{option_and_then}
 use Rattle.fpl_base.specs.Keeping.{Map, map_of}
 use Rattle.fpl_base.specs.declared.records.RecordKey.{RecordKey}
 use Rattle.season_book.specs.Book.{Book}
-use Rattle.record_codec.specs.ItemReading.{item_of}
-use Rattle.record_codec.specs.Keys.{key_of}
-use Rattle.record_codec.specs.Laws.{IsBytes}
-use Rattle.record_codec.specs.declared.item.Item.{Item}
-use Rattle.record_codec.specs.declared.slot.Slot.{Slot}
+use Rattle.season_records.specs.ItemReading.{item_of}
+use Rattle.season_records.specs.Keys.{key_of}
+use Rattle.season_records.specs.Laws.{IsBytes}
+use Rattle.season_records.specs.declared.item.Item.{Item}
+use Rattle.season_records.specs.declared.slot.Slot.{Slot}
 use Rattle.season_records.specs.Records.{told}
 use Rattle.season_records.specs.Told.{TellsItems}
 

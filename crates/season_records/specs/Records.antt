@@ -24,12 +24,12 @@ use Rattle.rule_book.specs.UpTo.{start_of}
 use Rattle.season_book.specs.Book.{Book, EntryFacts, Facts, Last}
 use Rattle.season_book.specs.declared.made.Made.{Made}
 use Rattle.season_book.specs.declared.made.Made.TheVariants as made
-use Rattle.record_codec.specs.Items.{body_of}
-use Rattle.record_codec.specs.Keys.{slot_of}
-use Rattle.record_codec.specs.declared.item.Item.{Item}
-use Rattle.record_codec.specs.declared.item.Item.TheVariants as item
-use Rattle.record_codec.specs.declared.slot.Slot.{Slot}
-use Rattle.record_codec.specs.declared.slot.Slot.TheVariants as slot
+use Rattle.season_records.specs.Items.{body_of}
+use Rattle.season_records.specs.Keys.{slot_of}
+use Rattle.season_records.specs.declared.item.Item.{Item}
+use Rattle.season_records.specs.declared.item.Item.TheVariants as item
+use Rattle.season_records.specs.declared.slot.Slot.{Slot}
+use Rattle.season_records.specs.declared.slot.Slot.TheVariants as slot
 
 -- What is told of each thing, under its numbers.
 

@@ -7,10 +7,10 @@ use Rattle.season_book.specs.Book.{Book, empty_book}
 use Rattle.season_book.specs.Verdict.{IsVerdictIn, Outcome, Verdict, accepted, pass, ruled}
 use Rattle.season_book.specs.declared.command.Command.{Command}
 use Rattle.season_book.specs.declared.request.Request.{Request}
-use Rattle.record_codec.specs.Keys.{key_of}
-use Rattle.record_codec.specs.Ranges.{IsItem}
-use Rattle.record_codec.specs.declared.item.Item.{Item}
-use Rattle.record_codec.specs.declared.slot.Slot.{Slot}
+use Rattle.season_records.specs.Keys.{key_of}
+use Rattle.season_records.specs.Ranges.{IsItem}
+use Rattle.season_records.specs.declared.item.Item.{Item}
+use Rattle.season_records.specs.declared.slot.Slot.{Slot}
 use Rattle.season_records.specs.Keeping.{AsksInTime, IsInTime}
 use Rattle.season_records.specs.Records.{told}
 use Rattle.season_records.specs.Told.{TellsItem, TellsItems}

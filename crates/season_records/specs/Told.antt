@@ -24,10 +24,10 @@ use Rattle.season_book.specs.declared.command.Command.TheVariants as command
 use Rattle.season_book.specs.declared.made.Made.{Made}
 use Rattle.season_book.specs.declared.made.Made.TheVariants as made
 use Rattle.season_book.specs.declared.request.Request.{Request}
-use Rattle.record_codec.specs.Items.{slot_of_item}
-use Rattle.record_codec.specs.Ranges.{IsItem}
-use Rattle.record_codec.specs.declared.item.Item.{Item}
-use Rattle.record_codec.specs.declared.slot.Slot.{Slot}
+use Rattle.season_records.specs.Items.{slot_of_item}
+use Rattle.season_records.specs.Ranges.{IsItem}
+use Rattle.season_records.specs.declared.item.Item.{Item}
+use Rattle.season_records.specs.declared.slot.Slot.{Slot}
 use Rattle.season_records.specs.Records.{made_id, records, told}
 
 -- what is told of a slot is an item of that slot

@@ -1,7 +1,7 @@
 // Laws on records: what is read of them has values in their ranges.
 ghost use Rattle.std.specs.List.{AllByRecursion};
 ghost use Rattle.fpl_base.specs.Keeping.{map_of};
-ghost use Rattle.record_codec.specs.Laws.{IsBytes};
+ghost use Rattle.season_records.specs.Laws.{IsBytes};
 ghost use Rattle.season_book.specs.Book.{Book};
 ghost use Rattle.season_records.specs.Read.{HasBytes, TellsAsRead};
 ghost use Rattle.season_records.specs.Told.{TellsItems};

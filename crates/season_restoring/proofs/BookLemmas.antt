@@ -5,16 +5,16 @@ use Rattle.std.specs.Option.{option_and_then, option_map}
 use Rattle.fpl_base.specs.Keeping.{Map, map_of, no_records}
 use Rattle.rule_book.specs.ById.{AreSorted, at_id}
 use Rattle.rule_book.specs.Entries.{entry_in}
-use Rattle.record_codec.specs.declared.slot.Slot.{Slot}
-use Rattle.record_codec.specs.declared.slot.Slot.TheVariants as slot
-use Rattle.record_codec.specs.declared.item.Item.{Item}
+use Rattle.season_records.specs.declared.slot.Slot.{Slot}
+use Rattle.season_records.specs.declared.slot.Slot.TheVariants as slot
+use Rattle.season_records.specs.declared.item.Item.{Item}
 use Rattle.manager_book.specs.declared.manager.Manager.{Manager}
 use Rattle.manager_book.specs.Managers.{Managers}
 use Rattle.rule_book.specs.Leagues.{LeagueFacts}
 use Rattle.season_book.specs.Book.{Facts, Last}
 use Rattle.season_competitions.specs.Leagues.{AreMembers}
 use Rattle.season_entries.specs.EntryLaws.{AreEarly}
-use Rattle.facts_restoring.specs.Restored.{TellsFacts}
+use Rattle.season_restoring.specs.Restored.{TellsFacts}
 use Rattle.season_records.specs.Records.{cup_item, last_item, league_item, made_id, member_told, told_in}
 use Rattle.season_records.specs.Told.{AreInOrder, made_by}
 use Rattle.stored_records.specs.Stored.{Rows, told}

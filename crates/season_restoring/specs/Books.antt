@@ -5,14 +5,14 @@ use Rattle.std.specs.Option.{option_map, option_and_then}
 use Rattle.fpl_base.specs.Keeping.{Map, map_of}
 use Rattle.rule_book.specs.Entries.{entry_in}
 use Rattle.rule_book.specs.Leagues.{LeagueFacts}
-use Rattle.record_codec.specs.declared.slot.Slot.TheVariants as slot
+use Rattle.season_records.specs.declared.slot.Slot.TheVariants as slot
 use Rattle.season_records.specs.Records.{cup_item, league_item, member_told}
 use Rattle.season_records.specs.Told.{AreInOrder}
 use Rattle.stored_records.specs.Stored.{Rows, told}
 use Rattle.season_running.specs.Standing.{Running}
 use Rattle.record_changes.specs.Ordered.{IsManagerInOrder}
 use Rattle.record_changes.specs.RowsTold.{manager_item, team_by, transfer_by}
-use Rattle.facts_restoring.specs.Restored.{TellsFacts}
+use Rattle.season_restoring.specs.Restored.{TellsFacts}
 
 -- at each slot it tells what the records tell
 pub record RunningTells (m : Map) (running : Running) : Type 0 where

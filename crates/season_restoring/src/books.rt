@@ -2,20 +2,22 @@
 ghost use Rattle.std.specs.Prelude.{◌≡◌, ℕ, List, [], IfOk, IfSome, None};
 ghost use Rattle.std.specs.Option.{IsNone};
 ghost use Rattle.fpl_base.specs.Keeping.{KeysRise, map_of};
-ghost use Rattle.record_codec.specs.declared.slot.Slot.{Slot};
+ghost use Rattle.season_records.specs.declared.slot.Slot.{Slot};
 ghost use Rattle.season_records.specs.Told.{AreInOrder};
 ghost use Rattle.stored_records.specs.Stored.{told};
 ghost use Rattle.store_validation.specs.Lawful.{judged};
 ghost use Rattle.season_running.specs.Standing.{host_rows};
 ghost use Rattle.record_changes.specs.Ordered.{AreRowsInOrder};
 ghost use Rattle.record_changes.specs.RowsTold.{told_by};
-ghost use Rattle.facts_restoring.specs.Restored.{TellsFacts};
+ghost use Rattle.season_restoring.specs.Restored.{TellsFacts};
 ghost use Rattle.season_restoring.specs.Books.{IsRunningInOrder, MayRun, RunningTells};
 
-use entries_restoring::managers_of;
-use facts_restoring::facts_of;
+use crate::cups::cups_of;
+use crate::last_commands::lasts_of;
+use crate::leagues::leagues_of;
+use crate::managers::managers_of;
+use crate::restoring::facts_of;
 use fpl_base::{Bytes, Memory, RecordKey};
-use leagues_restoring::{cups_of, lasts_of, leagues_of};
 use season_facts::Season;
 use season_running::{Lasts, RunningSeason};
 use std::alloc::Global;

@@ -25,7 +25,7 @@ use Rattle.rule_book.specs.PlayerFigures.{position_in}
 use Rattle.rule_book.specs.Refusals.{first_broken, unless}
 use Rattle.rule_book.specs.TeamOfHistory.{CanPay, told_team}
 use Rattle.rule_book.proofs.TeamFacts.{team_is_the_one}
-use Rattle.transfer_book.proofs.BatchLaws.{Distinct, distinct_from_none, one_by_one, placed_after}
+use Rattle.player_market.proofs.BatchLaws.{Distinct, distinct_from_none, one_by_one, placed_after}
 use Rattle.season_ledger.specs.Batches.{AfterBatch}
 use Rattle.season_ledger.specs.Rows.{AllUpTo, standing_at, team_in}
 use Rattle.season_ledger.specs.Stands.{IsPlaced, StandsFor}

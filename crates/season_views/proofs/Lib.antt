@@ -1,3 +1,4 @@
+pub mod MomentFacts
 pub mod Counted
 pub mod CupRounds
 pub mod EntryRows

@@ -18,7 +18,7 @@ use crate::reading::{score_held, total_held};
 use crate::seen::{Seen, SeenCells};
 use crate::views::locked_gameweek;
 use fpl_base::{EntryId, Gw, PlayerId, ReadCount, Tenths};
-use player_prices::selling_price;
+use player_market::selling_price;
 use rule_book::{Pick, Team};
 use season_book::{ShownEntryGameweek, ShownMe, ShownPick};
 use season_ledger::rows_tell;

@@ -6,6 +6,7 @@ mod cups;
 mod entries;
 mod head;
 mod leagues;
+mod moments;
 mod names;
 mod reading;
 mod seen;
@@ -17,6 +18,7 @@ pub use cups::{cup, is_played, ties, winners_held};
 pub use entries::{entry_gameweek, gameweek_of, issued, my_entry};
 pub use head::{head_rows, head_table};
 pub use leagues::league;
+pub use moments::write_moment;
 pub use names::name_of;
 pub use reading::{
     bonuses_held, gameweek_held, head_held, line_held, score_held, tie_held, total_held,

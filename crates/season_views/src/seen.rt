@@ -22,7 +22,7 @@ use classic_leagues::Leagues;
 use cup_rounds::Cups;
 use fpl_base::{EntryId, FixtureId, Gw, Memory, Name, PlayerId, Profile, ReadCount};
 use manager_book::ManagerBook;
-use player_prices::Players;
+use player_market::Players;
 use rule_book::{Fixture, Line, Player, Sale, Team};
 use season_book::SharedClubs;
 use season_calendar::Calendar;

@@ -21,23 +21,23 @@ ghost use Rattle.season_views.specs.Seen.{IsKept, OfEachSeen, ShowsEach, WritesE
 
 use bootstrap_window::write_bootstrap;
 use classic_leagues::League;
-use draw_windows::{write_cup_window, write_head_matches, write_transfers};
-use entry_windows::write_entry;
+use entry_windows::{write_entry, write_history, write_picks};
 use fixture_windows::{write_element_summary, write_fixtures};
 use fpl_base::{Caller, CupId, EntryId, Gw, LeagueId, Memory, Name, PlayerId, ReadCount};
-use history_windows::{write_history, write_picks};
 use json::Writer;
 use json_members::{
     code_text, text_of, write_count, write_count_or_null, write_text, write_text_or_null,
     write_truth,
 };
-use live_windows::write_dream_team;
-use play_windows::write_live;
+use league_windows::{
+    write_classic_standings, write_cup_window, write_head_matches, write_head_standings,
+    write_transfers,
+};
+use live_windows::{write_dream_team, write_live};
 use rule_book::{Bracket, Fixture, LeagueKind, Line};
 use season_book::{Page, Window};
 use season_entries::entries_are_issued;
 use season_views::{Seen, SeenCells};
-use standings_windows::{write_classic_standings, write_head_standings};
 use std::alloc::{AllocError, Global};
 use std::sync::ledger::Ledger;
 

@@ -7,13 +7,13 @@ use Rattle.fpl_base.specs.declared.kinds.Chip.{Chip}
 use Rattle.fpl_base.specs.declared.records.RecordKey.{RecordKey as Key}
 use Rattle.record_fields.specs.Ranges.{is_gameweek, is_id}
 use Rattle.record_fields.specs.Reading.{◌>>=◌, kept}
-use Rattle.record_codec.specs.ItemReading.{entry_in, item_of, team_in as team_read, transfer_in}
-use Rattle.record_codec.specs.Items.{is_item}
-use Rattle.record_codec.specs.Keys.{key, key_of}
-use Rattle.record_codec.specs.declared.item.Item.{Item}
-use Rattle.record_codec.specs.declared.item.Item.TheVariants as item
-use Rattle.record_codec.specs.declared.slot.Slot.{Slot}
-use Rattle.record_codec.specs.declared.slot.Slot.TheVariants as slot
+use Rattle.season_records.specs.ItemReading.{entry_in, item_of, team_in as team_read, transfer_in}
+use Rattle.season_records.specs.Items.{is_item}
+use Rattle.season_records.specs.Keys.{key, key_of}
+use Rattle.season_records.specs.declared.item.Item.{Item}
+use Rattle.season_records.specs.declared.item.Item.TheVariants as item
+use Rattle.season_records.specs.declared.slot.Slot.{Slot}
+use Rattle.season_records.specs.declared.slot.Slot.TheVariants as slot
 use Rattle.rule_book.specs.declared.transfers.Sale.{Sale}
 use Rattle.stored_records.specs.declared.entry_told.RecordedTeam.{RecordedTeam}
 use Rattle.stored_records.specs.EntryTold.{first_in, first_told, sale_in, sale_told, team_in, team_told}

@@ -5,12 +5,12 @@ use Rattle.std.proofs.lemmas.Bool.Decides.{nat_tests}
 use Rattle.std.proofs.lemmas.Slice.Eq.{bytes_eq-Decides}
 use Rattle.fpl_base.specs.declared.records.RecordKey.{RecordKey}
 use Rattle.record_fields.specs.Fields.{short_text}
-use Rattle.record_codec.specs.ItemReading.{item_of}
-use Rattle.record_codec.specs.Items.{body_of, entry_body}
-use Rattle.record_codec.specs.Laws.{IsBytes}
-use Rattle.record_codec.specs.declared.item.Item.{Item}
-use Rattle.record_codec.specs.declared.item.Item.TheVariants as item
-use Rattle.record_codec.proofs.ItemLaws.{item_found}
+use Rattle.season_records.specs.ItemReading.{item_of}
+use Rattle.season_records.specs.Items.{body_of, entry_body}
+use Rattle.season_records.specs.Laws.{IsBytes}
+use Rattle.season_records.specs.declared.item.Item.{Item}
+use Rattle.season_records.specs.declared.item.Item.TheVariants as item
+use Rattle.season_records.proofs.ItemLaws.{item_found}
 use Rattle.store_validation.specs.LeagueRules.{has_key, stands_at_two}
 
 -- the key of an entry stands behind two bytes of its body

@@ -6,10 +6,10 @@ use Rattle.fpl_base.specs.Keeping.{map_of}
 use Rattle.fpl_base.specs.declared.records.RecordKey.{RecordKey}
 use Rattle.rule_book.specs.Figures.{line_range}
 use Rattle.record_fields.specs.Ranges.{is_between}
-use Rattle.record_codec.specs.ItemReading.{item_of}
-use Rattle.record_codec.specs.declared.item.Item.{Item}
-use Rattle.record_codec.specs.declared.item.Item.TheVariants as item
-use Rattle.record_codec.specs.declared.slot.Slot.TheVariants as slot
+use Rattle.season_records.specs.ItemReading.{item_of}
+use Rattle.season_records.specs.declared.item.Item.{Item}
+use Rattle.season_records.specs.declared.item.Item.TheVariants as item
+use Rattle.season_records.specs.declared.slot.Slot.TheVariants as slot
 use Rattle.stored_records.specs.SeasonRules.{club_breaks, fixture_breaks, line_breaks, misses, player_breaks, season_breaks}
 use Rattle.stored_records.specs.Stored.{Rows}
 use Rattle.store_validation.specs.EntryRules.{team_breaks, transfer_breaks}

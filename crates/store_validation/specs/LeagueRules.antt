@@ -12,12 +12,12 @@ use Rattle.rule_book.specs.LeagueCalls.{is_head, most_leagues, most_leagues_of_o
 use Rattle.rule_book.specs.declared.league.LeagueKind.{LeagueKind}
 use Rattle.season_book.specs.declared.command.Command.{Command}
 use Rattle.season_book.specs.declared.command.Command.TheVariants as command
-use Rattle.record_codec.specs.ItemReading.{item_of}
-use Rattle.record_codec.specs.Keys.{key_of}
-use Rattle.record_codec.specs.declared.item.Item.{Item}
-use Rattle.record_codec.specs.declared.item.Item.TheVariants as item
-use Rattle.record_codec.specs.declared.slot.Slot.{Slot}
-use Rattle.record_codec.specs.declared.slot.Slot.TheVariants as slot
+use Rattle.season_records.specs.ItemReading.{item_of}
+use Rattle.season_records.specs.Keys.{key_of}
+use Rattle.season_records.specs.declared.item.Item.{Item}
+use Rattle.season_records.specs.declared.item.Item.TheVariants as item
+use Rattle.season_records.specs.declared.slot.Slot.{Slot}
+use Rattle.season_records.specs.declared.slot.Slot.TheVariants as slot
 use Rattle.stored_records.specs.SeasonRules.{is_full, misses}
 use Rattle.stored_records.specs.Stored.{Rows, deadlines_told, has_gameweek, is_member_of, is_there, is_within, told}
 use Rattle.store_validation.specs.EntryRules.{entry_breaks, first_told}

@@ -7,10 +7,10 @@ use Rattle.fpl_base.specs.declared.kinds.Chip.TheVariants.{None as NoChip}
 use Rattle.fpl_base.specs.declared.kinds.Position.{Position}
 use Rattle.fpl_base.specs.declared.kinds.Position.TheVariants.{Keeper}
 use Rattle.record_fields.specs.Ranges.{is_between}
-use Rattle.record_codec.specs.Commands.{differ}
-use Rattle.record_codec.specs.declared.item.Item.{Item}
-use Rattle.record_codec.specs.declared.item.Item.TheVariants as item
-use Rattle.record_codec.specs.declared.slot.Slot.TheVariants as slot
+use Rattle.season_records.specs.Commands.{differ}
+use Rattle.season_records.specs.declared.item.Item.{Item}
+use Rattle.season_records.specs.declared.item.Item.TheVariants as item
+use Rattle.season_records.specs.declared.slot.Slot.TheVariants as slot
 use Rattle.rule_book.specs.HistoryTransfers.{is_same_chip, makes_free, used_before}
 use Rattle.rule_book.specs.Lineups.{lineup_refusal}
 use Rattle.rule_book.specs.Squads.{has_squad_shape}

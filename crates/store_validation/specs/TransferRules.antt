@@ -2,7 +2,7 @@
 use Rattle.std.specs.Prelude.{◌≡◌, ℕ, ◌-◌, Bool, ◌&&◌, ◌||◌, ◌==◌, Option, Some, None, is_some, nat_le, nat_lt, ⊤}
 use Rattle.fpl_base.specs.Keeping.{Map}
 use Rattle.record_fields.specs.Ranges.{is_between}
-use Rattle.record_codec.specs.declared.slot.Slot.TheVariants as slot
+use Rattle.season_records.specs.declared.slot.Slot.TheVariants as slot
 use Rattle.rule_book.specs.declared.transfers.Sale.{Sale}
 use Rattle.rule_book.specs.EntryCalls.{transfer_limit}
 use Rattle.stored_records.specs.EntryTold.{chip_told, is_first_of, is_in_time, sale_told, team_told}

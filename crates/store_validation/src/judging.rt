@@ -11,8 +11,8 @@ use crate::league_rules::{cup_breaks, issue_breaks, last_breaks, league_breaks, 
 use crate::transfer_rules::Term;
 use fpl_base::{Bytes, Memory, RecordKey};
 use match_facts::line_ok;
-use record_codec::{Item, Slot, decode};
 use rule_book::Fixture;
+use season_records::{Item, Slot, decode};
 use std::alloc::Global;
 use stored_records::{
     Stored, Terms, club_breaks, fixture_breaks, line_breaks, misses, player_breaks, season_breaks,

@@ -6,18 +6,18 @@ ghost use Rattle.rule_book.specs.CupCalls.{entrants};
 ghost use Rattle.rule_book.specs.Cups.{is_cup};
 ghost use Rattle.rule_book.specs.HeadToHead.{is_draw};
 ghost use Rattle.rule_book.specs.LeagueCalls.{is_head, most_members};
-ghost use Rattle.record_codec.specs.ItemReading.{item_of};
-ghost use Rattle.record_codec.specs.Laws.{IsBytes};
-ghost use Rattle.record_codec.specs.declared.slot.Slot.TheVariants as slot;
+ghost use Rattle.season_records.specs.ItemReading.{item_of};
+ghost use Rattle.season_records.specs.Laws.{IsBytes};
+ghost use Rattle.season_records.specs.declared.slot.Slot.TheVariants as slot;
 ghost use Rattle.stored_records.specs.SeasonRules.{misses, terms_told};
 ghost use Rattle.store_validation.specs.LeagueRules.{cup_breaks, has_gap, has_key, has_other_key, is_answer, is_drawn_wrong, is_league_full, is_registered, issue_breaks, kind_in, last_breaks, league_breaks, leagues_before, member_breaks, plays_from, stands_at_two};
 
 use crate::entry_rules::entry_breaks;
 use cup_rounds::check_draw;
 use fpl_base::{Bytes, CupId, EntryId, Gw, Key, LeagueId, Memory, RecordKey};
-use record_codec::{Item, Slot, decode};
 use rule_book::LeagueKind;
 use season_book::Command;
+use season_records::{Item, Slot, decode};
 use std::alloc::Global;
 use stored_records::{Stored, Terms, first_of, has_gameweek, is_full, misses};
 

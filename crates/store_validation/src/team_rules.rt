@@ -8,8 +8,8 @@ ghost use Rattle.stored_records.specs.Stored.{split_told};
 ghost use Rattle.store_validation.specs.TeamRules.{has_players, is_distinct, is_fit, is_lined_up, is_playable, is_played_again, is_priced, position_in, position_told, positions_told, is_lawful_team};
 
 use fpl_base::{Chip, EntryId, Gw, Memory, Position};
-use player_prices::is_price;
-use record_codec::{Item, Slot};
+use player_market::is_price;
+use season_records::{Item, Slot};
 use squad_rules::{check_lineup, half_of, has_squad_shape, is_same_chip, makes_free};
 use std::alloc::Global;
 use stored_records::{

@@ -6,9 +6,9 @@ ghost use Rattle.stored_records.specs.SeasonRules.{terms_told};
 ghost use Rattle.store_validation.specs.TransferRules.{IsKnown, is_next_number, is_priced_sale, names_players, is_lawful_sale, term_told};
 
 use fpl_base::{EntryId, Gw, Memory};
-use player_prices::is_price;
-use record_codec::Slot;
+use player_market::is_price;
 use rule_book::Sale;
+use season_records::Slot;
 use squad_rules::transfer_limit;
 use std::alloc::Global;
 use stored_records::{Stored, Terms, chip_in, first_of, is_first, is_in_time, sale_of, team_of};

@@ -11,9 +11,9 @@ use Rattle.fpl_base.specs.Keeping.{KeysRise, Map, is_same_key, map_of, precedes}
 use Rattle.fpl_base.specs.Rows.{IsPlace}
 use Rattle.fpl_base.proofs.KeyLemmas.{precedes_trans}
 use Rattle.rule_book.specs.declared.transfers.Sale.{Sale}
-use Rattle.record_codec.specs.ItemReading.{item_of}
-use Rattle.record_codec.specs.Keys.{key_of}
-use Rattle.record_codec.specs.declared.slot.Slot.TheVariants as slot
+use Rattle.season_records.specs.ItemReading.{item_of}
+use Rattle.season_records.specs.Keys.{key_of}
+use Rattle.season_records.specs.declared.slot.Slot.TheVariants as slot
 use Rattle.stored_records.specs.EntryTold.{sale_in, sale_told}
 use Rattle.stored_records.specs.Sequels.{all_numbers, and_those, sales_since, sales_under}
 use Rattle.stored_records.specs.Stored.{NoneUnder, Rows, is_sale_of}

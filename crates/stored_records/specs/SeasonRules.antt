@@ -5,12 +5,12 @@ use Rattle.fpl_base.specs.declared.records.RecordKey.{RecordKey}
 use Rattle.rule_book.specs.declared.season.Fixture.{Fixture}
 use Rattle.rule_book.specs.Calendar.{CalendarFacts, first_out_of_order, is_gameweek, is_locked_place, kickoff_early}
 use Rattle.rule_book.specs.Players.{most_players, price_refusal}
-use Rattle.record_codec.specs.ItemReading.{item_of}
-use Rattle.record_codec.specs.Keys.{key_of}
-use Rattle.record_codec.specs.declared.item.Item.{Item}
-use Rattle.record_codec.specs.declared.item.Item.TheVariants as item
-use Rattle.record_codec.specs.declared.slot.Slot.{Slot}
-use Rattle.record_codec.specs.declared.slot.Slot.TheVariants as slot
+use Rattle.season_records.specs.ItemReading.{item_of}
+use Rattle.season_records.specs.Keys.{key_of}
+use Rattle.season_records.specs.declared.item.Item.{Item}
+use Rattle.season_records.specs.declared.item.Item.TheVariants as item
+use Rattle.season_records.specs.declared.slot.Slot.{Slot}
+use Rattle.season_records.specs.declared.slot.Slot.TheVariants as slot
 use Rattle.stored_records.specs.declared.terms.Terms.{Terms}
 use Rattle.stored_records.specs.Stored.{Rows, between, deadlines_told, has_gameweek, is_there, is_within, locked_told, split_told, told}
 

@@ -4,12 +4,12 @@ use Rattle.std.specs.Option.{option_and_then}
 use Rattle.fpl_base.specs.Keeping.{Map, precedes}
 use Rattle.fpl_base.specs.declared.records.RecordKey.{RecordKey}
 use Rattle.record_fields.specs.Ranges.{is_between}
-use Rattle.record_codec.specs.ItemReading.{item_of}
-use Rattle.record_codec.specs.Keys.{key_of}
-use Rattle.record_codec.specs.declared.item.Item.{Item}
-use Rattle.record_codec.specs.declared.item.Item.TheVariants as item
-use Rattle.record_codec.specs.declared.slot.Slot.{Slot}
-use Rattle.record_codec.specs.declared.slot.Slot.TheVariants as slot
+use Rattle.season_records.specs.ItemReading.{item_of}
+use Rattle.season_records.specs.Keys.{key_of}
+use Rattle.season_records.specs.declared.item.Item.{Item}
+use Rattle.season_records.specs.declared.item.Item.TheVariants as item
+use Rattle.season_records.specs.declared.slot.Slot.{Slot}
+use Rattle.season_records.specs.declared.slot.Slot.TheVariants as slot
 
 -- records, in the order of their keys
 abbrev pub Rows : Type 0

@@ -7,8 +7,8 @@ ghost use Rattle.stored_records.specs.EntryTold.{chip_in, chip_told, first_in, f
 use crate::stored::Stored;
 use crate::terms::Terms;
 use fpl_base::{Chip, EntryId, Gw, Memory, PlayerId, Tenths};
-use record_codec::{Item, Slot};
 use rule_book::Sale;
+use season_records::{Item, Slot};
 use std::alloc::Global;
 
 /// The team that a record tells: by slot the players, by number, with the prices at which they were bought, in tenths of

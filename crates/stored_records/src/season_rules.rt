@@ -8,8 +8,8 @@ ghost use Rattle.stored_records.specs.SeasonRules.{calendar_told, club_breaks, f
 use crate::stored::Stored;
 use crate::terms::{Terms, is_locked_place, misses_place};
 use fpl_base::{Bytes, ClubId, FixtureId, Gw, Memory, Moment, PlayerId, RecordKey};
-use record_codec::{Item, Slot, decode};
 use rule_book::Fixture;
+use season_records::{Item, Slot, decode};
 use std::alloc::Global;
 
 // Limits of a season, and the seconds from a deadline to a kick-off.

@@ -7,7 +7,7 @@ ghost use Rattle.fpl_base.specs.Rows.{IsPlace};
 ghost use Rattle.stored_records.specs.Stored.{NoneUnder, between, is_member_of, is_sale_of, is_there, is_within, stands_before, told};
 
 use fpl_base::{Bytes, EntryId, Gw, LeagueId, Memory, RecordKey};
-use record_codec::{Item, Slot, decode};
+use season_records::{Item, Slot, decode};
 use std::alloc::Global;
 use std::cell::Cell;
 use std::marker::Model;

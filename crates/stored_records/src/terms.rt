@@ -7,8 +7,8 @@ ghost use Rattle.stored_records.specs.Stored.{has_gameweek};
 
 use crate::stored::Stored;
 use fpl_base::{Gw, Memory};
-use record_codec::{Item, Slot};
 use season_book::Moments;
+use season_records::{Item, Slot};
 use std::alloc::Global;
 
 /// The terms of the season.

@@ -3,7 +3,7 @@ use Rattle.std.specs.List.{count_by}
 use Rattle.std.specs.Prelude.{IfSome}
 use Rattle.std.proofs.lemmas.List.{take_all}
 use Rattle.season_views.proofs.Numbered.{as_many, entry_numbered}
-use Rattle.history_windows.proofs.Places.{counted_more}
+use Rattle.entry_windows.proofs.Places.{counted_more}
 use Rattle.entry_windows.proofs.EventRanks.{event_rank_is, has_more}
 use Rattle.entry_windows.proofs.summary.event_rank.Goals as goal
 

@@ -1,6 +1,6 @@
 use Rattle.std.proofs.Common.{◌≤◌, ◌+◌, ◌*◌, ◌&&◌, Some, None, nat_le, arith, length, subst, sym, ap, ◌∙◌, if◌then◌else◌}
 use Rattle.season_book.specs.EntryTotals.{is_in}
-use Rattle.standings_windows.proofs.StandingsBefore.{is_behind, is_not_behind}
+use Rattle.league_windows.proofs.StandingsBefore.{is_behind, is_not_behind}
 use Rattle.entry_windows.specs.EntrySummary.{summary_of}
 use Rattle.entry_windows.proofs.summary.last_summary.Goals as goal
 

@@ -4,10 +4,10 @@ use Rattle.rule_book.specs.HistoryTeam.{is_begun}
 use Rattle.rule_book.specs.Players.{ArePlayers}
 use Rattle.season_views.proofs.Scores.{none_of}
 use Rattle.season_views.proofs.Told.{chosen, passed_over}
-use Rattle.history_windows.specs.declared.shapes.Played.{Played}
+use Rattle.entry_windows.specs.declared.shapes.Played.{Played}
 use Rattle.season_book.specs.EntryTotals.{overall_rank, total_through}
-use Rattle.history_windows.specs.Told.{played_by}
-use Rattle.history_windows.proofs.Own.{of_entry}
+use Rattle.entry_windows.specs.Told.{played_by}
+use Rattle.entry_windows.proofs.Own.{of_entry}
 use Rattle.entry_windows.specs.EntrySummary.{summary_of}
 use Rattle.entry_windows.proofs.summary.summary_in.Goals as goal
 

@@ -2,8 +2,8 @@ use Rattle.std.proofs.Common.{◌≤◌, ◌+◌, length, sym, subst, ap, ◌∙
 use Rattle.rule_book.specs.Entries.{entry_in}
 use Rattle.season_views.specs.Seen.{WritesShown}
 use Rattle.season_views.proofs.Numbered.{as_many}
-use Rattle.history_windows.proofs.Due.{nothing_shown}
-use Rattle.history_windows.proofs.Shown.{absent, one_of}
+use Rattle.entry_windows.proofs.Due.{nothing_shown}
+use Rattle.entry_windows.proofs.Shown.{absent, one_of}
 use Rattle.season_book.specs.EntryWindow.{entry_window}
 use Rattle.season_views.specs.EntryWindowReads.{reads_of_many}
 use Rattle.entry_windows.proofs.WindowShown.{no_entry}

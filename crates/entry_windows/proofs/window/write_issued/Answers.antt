@@ -5,8 +5,8 @@ use Rattle.rule_book.specs.Players.{ArePlayers}
 use Rattle.rule_book.specs.UpTo.{start_of}
 use Rattle.rule_book.proofs.TeamFacts.{first_is_the_start}
 use Rattle.season_views.specs.Seen.{WritesShown}
-use Rattle.history_windows.proofs.Due.{nothing_shown}
-use Rattle.history_windows.proofs.Own.{of_entry}
+use Rattle.entry_windows.proofs.Due.{nothing_shown}
+use Rattle.entry_windows.proofs.Own.{of_entry}
 use Rattle.season_book.specs.EntryWindow.{entry_window}
 use Rattle.entry_windows.proofs.WindowShown.{entry_is, not_yet}
 use Rattle.entry_windows.proofs.window.write_issued.Goals as goal

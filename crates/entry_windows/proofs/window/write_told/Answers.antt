@@ -4,7 +4,7 @@ use Rattle.json_members.proofs.AppendLemmas.{then}
 use Rattle.rule_book.specs.Players.{ArePlayers}
 use Rattle.season_book.specs.Book.{EntryFacts}
 use Rattle.season_views.proofs.Written.{retold}
-use Rattle.history_windows.proofs.Own.{of_entry}
+use Rattle.entry_windows.proofs.Own.{of_entry}
 use Rattle.entry_windows.specs.declared.summary.Summary.{Summary}
 use Rattle.entry_windows.specs.EntrySummary.{summary_of}
 use Rattle.season_book.specs.EntryWindow.{entry_leagues_told, is_in_last, transfers_after}

@@ -1,6 +1,6 @@
 use Rattle.std.proofs.Common.{ap, subst, sym, ℕ}
 use Rattle.draft_league.specs.Leagues.{League}
-use Rattle.draft_sheet.specs.Rows.{AreRowsOf}
+use Rattle.fpl_drafting.specs.Rows.{AreRowsOf}
 use Rattle.request_handler.specs.Kept.{Kept}
 use Rattle.fpl_drafting.proofs.StepLemmas.{rose_from, rose_since}
 use Rattle.fpl_drafting.proofs.TellLemmas.{drafted_end, drafted_stop}

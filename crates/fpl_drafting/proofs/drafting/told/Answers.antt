@@ -2,7 +2,7 @@ use Rattle.std.proofs.Common.{◌≡◌, ◌∙◌, List, subst, sym, ℕ}
 use Rattle.local_requests.specs.Printing.{PrintsOne}
 use Rattle.request_handler.specs.Kept.{Kept}
 use Rattle.draft_league.specs.declared.kinds.Outcome.{Outcome}
-use Rattle.draft_sheet.specs.Texts.{outcomes_text, picks_text}
+use Rattle.fpl_drafting.specs.Texts.{outcomes_text, picks_text}
 use Rattle.fpl_drafting.proofs.TellLemmas.{told_opens, told_stops, told_tables}
 use Rattle.fpl_drafting.proofs.drafting.told.Goals as goal
 

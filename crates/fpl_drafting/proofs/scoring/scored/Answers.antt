@@ -2,8 +2,8 @@ use Rattle.std.proofs.Common.{List, Option, ap, subst, ℕ}
 use Rattle.local_requests.specs.Printing.{PrintsOne}
 use Rattle.fpl_base.specs.Causes.{Rose}
 use Rattle.request_handler.specs.Kept.{Kept}
-use Rattle.draft_sheet.specs.Totals.{IsTableText}
-use Rattle.draft_sheet.specs.declared.totals.Told.{Told}
+use Rattle.fpl_drafting.specs.Totals.{IsTableText}
+use Rattle.fpl_drafting.specs.declared.totals.Told.{Told}
 use Rattle.fpl_drafting.proofs.StepLemmas.{rose_from}
 use Rattle.fpl_drafting.proofs.TellLemmas.{scored_end, scored_stop}
 use Rattle.fpl_drafting.proofs.scoring.scored.Goals as goal

@@ -1,6 +1,6 @@
 use Rattle.std.proofs.Common.{subst, sym}
 use Rattle.draft_league.specs.Rules.{IsJudged}
-use Rattle.draft_sheet.specs.declared.row.DraftRow.{DraftRow}
+use Rattle.fpl_drafting.specs.declared.row.DraftRow.{DraftRow}
 use Rattle.fpl_drafting.specs.Steps.{refusal_of}
 use Rattle.fpl_drafting.proofs.steps.change.Goals as goal
 

@@ -1,8 +1,8 @@
 use Rattle.std.proofs.Common.{◌≡◌, ◌+◌, ◌∙◌, ℕ, List, drop, ap, arith, refl, subst, sym}
 use Rattle.std.specs.Prelude.{Err, Result}
 use Rattle.std.proofs.lemmas.List.{drop_all}
-use Rattle.draft_sheet.specs.Rows.{AreRowsOf}
-use Rattle.draft_sheet.specs.declared.row.DraftRow.{DraftRow}
+use Rattle.fpl_drafting.specs.Rows.{AreRowsOf}
+use Rattle.fpl_drafting.specs.declared.row.DraftRow.{DraftRow}
 use Rattle.request_handler.specs.Kept.{Kept}
 use Rattle.fpl_drafting.proofs.StepLemmas.{next_of, rose_from, rose_since, underway_end, underway_more, underway_start, underway_stop}
 use Rattle.fpl_drafting.proofs.steps.steps_done.Goals as goal

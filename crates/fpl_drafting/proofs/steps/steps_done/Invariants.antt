@@ -1,5 +1,5 @@
 use Rattle.std.proofs.Common.{◌≡◌, ◌+◌, ◌≤◌, drop, false}
-use Rattle.draft_sheet.specs.Rows.{AreRowsOf}
+use Rattle.fpl_drafting.specs.Rows.{AreRowsOf}
 use Rattle.request_handler.specs.Kept.{Leads}
 use Rattle.fpl_drafting.proofs.StepLemmas.{IsUnderway}
 use Rattle.fpl_drafting.proofs.steps.steps_done.Given as goal

@@ -2,7 +2,7 @@ use Rattle.std.proofs.Common.{◌∙◌, ◌+◌, ℕ, List, Option, drop, ap, a
 use Rattle.std.proofs.lemmas.List.{drop_all, get_or_read}
 use Rattle.request_handler.specs.Kept.{Kept}
 use Rattle.local_requests.specs.Printing.{EndsBy}
-use Rattle.dream_team.specs.Elevens.{Row}
+use Rattle.squad_rules.specs.Elevens.{Row}
 use Rattle.fpl_dreaming.specs.Dreaming.{TellsDream}
 use Rattle.fpl_dreaming.proofs.AskedLemmas.{asks_end, asks_lack, asks_more, asks_stop, next_left, went_well}
 use Rattle.fpl_dreaming.proofs.RowLists.{one_player}

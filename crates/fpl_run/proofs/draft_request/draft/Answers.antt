@@ -1,6 +1,6 @@
 use Rattle.std.proofs.Common.{List, inl, inr, refl, subst, sym}
-use Rattle.draft_sheet.specs.Rows.{AreRowsOf}
-use Rattle.draft_sheet.specs.declared.row.DraftRow.{DraftRow}
+use Rattle.fpl_drafting.specs.Rows.{AreRowsOf}
+use Rattle.fpl_drafting.specs.declared.row.DraftRow.{DraftRow}
 use Rattle.fpl_drafting.specs.Drafting.{IsDrafted}
 use Rattle.fpl_run.specs.Requests.{RunsThrough}
 use Rattle.fpl_run.proofs.draft_request.draft.Goals as goal

@@ -1,7 +1,7 @@
 use Rattle.std.proofs.Common.{List, ℕ, inr, refl, subst}
 use Rattle.season_opening.specs.declared.loading.OpenFault.TheVariants as fault
 use Rattle.season_generator.specs.Generating.{IsGenerated}
-use Rattle.fpl_serving.proofs.PipeLemmas.{holds_still}
+use Rattle.fpl_run.proofs.PipeLemmas.{holds_still}
 use Rattle.fpl_run.specs.Requests.{RunsThrough}
 use Rattle.fpl_run.proofs.requests.generate.Goals as goal
 

@@ -2,7 +2,7 @@ use Rattle.std.proofs.Common.{◌≤◌, ◌∙◌, All, ap, length, map, refl, 
 use Rattle.json_members.specs.Tokens.{tokens_of}
 use Rattle.rule_book.specs.FigureRange.{IsWithin}
 use Rattle.rule_book.specs.Ranks.{AllDiffer}
-use Rattle.dream_team.specs.Elevens.{Row}
+use Rattle.squad_rules.specs.Elevens.{Row}
 use Rattle.season_views.proofs.Written.{retold}
 use Rattle.season_book.specs.DreamTeamWindow.{dream_team_data}
 use Rattle.season_book.specs.TeamOfTheWeek.{team_of_the_week}

@@ -6,7 +6,7 @@ use Rattle.rule_book.specs.declared.player.Player.{Player}
 use Rattle.rule_book.specs.FigureRange.{IsWithin}
 use Rattle.rule_book.specs.Players.{ArePlayers}
 use Rattle.rule_book.specs.Ranks.{AllDiffer}
-use Rattle.dream_team.specs.Elevens.{Row}
+use Rattle.squad_rules.specs.Elevens.{Row}
 use Rattle.season_views.specs.Cells.{books_seen}
 use Rattle.season_book.specs.DreamTeamWindow.{figures_of}
 use Rattle.live_windows.proofs.PlayedRows.{all_kept, kept_more, played_is_live, rows_differ, rows_few}

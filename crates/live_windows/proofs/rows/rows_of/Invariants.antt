@@ -1,7 +1,7 @@
 use Rattle.std.proofs.Common.{◌≡◌, ◌≤◌, ◌+◌, All, filter, map, take}
 use Rattle.rule_book.specs.declared.player.Player.{Player}
 use Rattle.rule_book.specs.FigureRange.{IsWithin}
-use Rattle.dream_team.specs.Elevens.{Row}
+use Rattle.squad_rules.specs.Elevens.{Row}
 use Rattle.season_book.specs.DreamTeamWindow.{figures_of}
 use Rattle.live_windows.proofs.rows.rows_of.Given as goal
 

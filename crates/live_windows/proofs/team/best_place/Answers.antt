@@ -1,5 +1,5 @@
 use Rattle.std.proofs.Common.{arith, pos}
-use Rattle.dream_team.specs.Elevens.{Row}
+use Rattle.squad_rules.specs.Elevens.{Row}
 use Rattle.fpl_base.specs.declared.kinds.Position.TheVariants.{Keeper}
 use Rattle.live_windows.proofs.Tops.{best_is_top, one_more}
 use Rattle.live_windows.proofs.team.best_place.Goals as goal

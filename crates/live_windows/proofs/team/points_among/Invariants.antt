@@ -1,6 +1,6 @@
 use Rattle.std.proofs.Common.{◌≡◌, ◌==◌, drop}
 use Rattle.std.specs.List.{find}
-use Rattle.dream_team.specs.Elevens.{Row}
+use Rattle.squad_rules.specs.Elevens.{Row}
 use Rattle.live_windows.proofs.team.points_among.Given as goal
 
 -- he has none of the rows so far

@@ -1,8 +1,8 @@
 use Rattle.std.proofs.Common.{◌≡◌, ◌∙◌, sym, map, subst}
 use Rattle.std.specs.Prelude.{IfNone, IfSome}
 use Rattle.std.proofs.lemmas.Result.{IfOk-weaker}
-use Rattle.dream_team.specs.Dreams.{HasNoEleven, IsDream}
-use Rattle.dream_team.specs.Elevens.{Row}
+use Rattle.squad_rules.specs.Dreams.{HasNoEleven, IsDream}
+use Rattle.squad_rules.specs.Elevens.{Row}
 use Rattle.season_book.specs.TeamOfTheWeek.{team_of_the_week}
 use Rattle.live_windows.proofs.DreamIs.{nobody, players_are}
 use Rattle.live_windows.proofs.team.team_of.Goals as goal

@@ -5,7 +5,7 @@ use Rattle.std.proofs.lemmas.Option.{slice_get-get_or}
 use Rattle.json_members.specs.Tokens.{tokens_of}
 use Rattle.json_members.proofs.ListLemmas.{numbered_more, rest_of}
 use Rattle.fpl_base.specs.declared.kinds.Position.TheVariants.{Keeper}
-use Rattle.dream_team.specs.Elevens.{Row}
+use Rattle.squad_rules.specs.Elevens.{Row}
 use Rattle.season_book.specs.Windows.{numbered}
 use Rattle.season_book.specs.DreamTeamWindow.{dream_row}
 use Rattle.season_book.specs.TeamOfTheWeek.{team_of_the_week}

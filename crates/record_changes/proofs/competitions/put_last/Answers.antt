@@ -1,7 +1,7 @@
 use Rattle.std.proofs.Common.{◌≡◌, ◌∙◌, ap, ℕ, List, arith}
 use Rattle.fpl_base.specs.declared.records.Op.TheVariants.{Put}
 use Rattle.fpl_base.specs.declared.records.RecordKey.{RecordKey}
-use Rattle.record_codec.specs.Items.{last_body}
+use Rattle.season_records.specs.Items.{last_body}
 use Rattle.season_records.specs.Records.{status_of}
 use Rattle.record_changes.proofs.Ordered.{has_bytes}
 use Rattle.record_changes.proofs.competitions.put_last.Goals as goal

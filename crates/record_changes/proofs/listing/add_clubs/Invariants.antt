@@ -1,6 +1,6 @@
 use Rattle.std.proofs.Common.{◌≡◌, ◌++◌, take, map}
 use Rattle.season_book.specs.Commands.{club_ids}
-use Rattle.record_codec.specs.declared.slot.Slot.TheVariants as slot
+use Rattle.season_records.specs.declared.slot.Slot.TheVariants as slot
 use Rattle.record_changes.proofs.listing.add_clubs.Given as goal
 
 abbrev pub invariant-clubs : goal.invariant-clubs

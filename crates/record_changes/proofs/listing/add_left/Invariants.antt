@@ -1,6 +1,6 @@
 use Rattle.std.proofs.Common.{◌≡◌, ◌++◌, take, map}
 use Rattle.rule_book.specs.MatchFacts.{players_in}
-use Rattle.record_codec.specs.declared.slot.Slot.TheVariants as slot
+use Rattle.season_records.specs.declared.slot.Slot.TheVariants as slot
 use Rattle.season_records.specs.Touched.{players_left}
 use Rattle.record_changes.proofs.listing.add_left.Given as goal
 

@@ -1,6 +1,6 @@
 use Rattle.std.proofs.Common.{◌≡◌, ◌++◌, take, map}
 use Rattle.rule_book.specs.MatchFacts.{players_in}
-use Rattle.record_codec.specs.declared.slot.Slot.TheVariants as slot
+use Rattle.season_records.specs.declared.slot.Slot.TheVariants as slot
 use Rattle.record_changes.proofs.listing.add_lines.Given as goal
 
 abbrev pub invariant-lines : goal.invariant-lines

@@ -1,5 +1,5 @@
 use Rattle.std.proofs.Common.{arith}
-use Rattle.record_codec.specs.declared.slot.Slot.TheVariants as slot
+use Rattle.season_records.specs.declared.slot.Slot.TheVariants as slot
 use Rattle.record_changes.proofs.ChangesMade.{added}
 use Rattle.record_changes.proofs.listing.add_transfers.Goals as goal
 

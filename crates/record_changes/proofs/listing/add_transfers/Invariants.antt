@@ -1,6 +1,6 @@
 use Rattle.std.proofs.Common.{◌≡◌, ◌≤◌, ◌++◌, ◌-◌, map}
 use Rattle.std.specs.List.{range_with_len}
-use Rattle.record_codec.specs.declared.slot.Slot.TheVariants as slot
+use Rattle.season_records.specs.declared.slot.Slot.TheVariants as slot
 use Rattle.record_changes.proofs.listing.add_transfers.Given as goal
 
 abbrev pub invariant-numbers : goal.invariant-numbers

@@ -1,7 +1,7 @@
 use Rattle.std.proofs.Common.{◌≡◌, ◌∷◌, ◌∙◌, List, length, ap, subst, sym}
 use Rattle.std.specs.Prelude.{IfOk}
 use Rattle.manager_book.specs.declared.manager.Manager.{Manager}
-use Rattle.record_codec.specs.declared.slot.Slot.TheVariants as slot
+use Rattle.season_records.specs.declared.slot.Slot.TheVariants as slot
 use Rattle.season_records.specs.Touched.{touched_by}
 use Rattle.season_running.proofs.RuledFacts.{same_many}
 use Rattle.record_changes.proofs.touching.touched.Goals as goal

@@ -1,6 +1,6 @@
 use Rattle.std.proofs.Common.{◌∙◌, Ok, ap, subst, sym}
 use Rattle.fpl_http.specs.Seen.{request_seen}
-use Rattle.fpl_session.specs.Replies.{answer_in}
+use Rattle.fpl_http.specs.Replies.{answer_in}
 use Rattle.request_handler.specs.Handlers.{CanFollow, asking_in}
 use Rattle.request_handler.specs.Kept.{asked_in}
 use Rattle.request_handler.specs.Looks.{Counted}

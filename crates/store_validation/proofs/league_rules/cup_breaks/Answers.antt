@@ -4,7 +4,7 @@ use Rattle.fpl_base.specs.Keeping.{map_of}
 use Rattle.rule_book.specs.declared.cup.Bracket.{Bracket}
 use Rattle.rule_book.specs.CupCalls.{entrants, most_cups}
 use Rattle.rule_book.specs.Cups.{is_cup}
-use Rattle.record_codec.specs.declared.slot.Slot.TheVariants as slot
+use Rattle.season_records.specs.declared.slot.Slot.TheVariants as slot
 use Rattle.stored_records.specs.SeasonRules.{is_full, misses}
 use Rattle.stored_records.specs.Stored.{deadlines_told, has_gameweek}
 use Rattle.store_validation.specs.LeagueRules.{has_gap, plays_from}

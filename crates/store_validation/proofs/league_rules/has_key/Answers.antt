@@ -1,5 +1,5 @@
 use Rattle.std.proofs.Common.{◌≡◌, ◌∙◌, false, subst, sym}
-use Rattle.record_codec.specs.Laws.{IsBytes}
+use Rattle.season_records.specs.Laws.{IsBytes}
 use Rattle.store_validation.specs.LeagueRules.{stands_at_two}
 use Rattle.store_validation.proofs.KeyPlaces.{key_stands}
 use Rattle.store_validation.proofs.league_rules.has_key.Goals as goal

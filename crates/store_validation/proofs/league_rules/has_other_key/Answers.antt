@@ -2,9 +2,9 @@ use Rattle.std.proofs.Common.{◌≡◌, ◌∙◌, Bool, List, ℕ, ap, filter,
 use Rattle.std.specs.List.{list_any}
 use Rattle.std.proofs.lemmas.List.Folds.{list_any_at}
 use Rattle.fpl_base.specs.declared.records.RecordKey.{RecordKey}
-use Rattle.record_codec.specs.ItemReading.{item_of}
-use Rattle.record_codec.specs.Keys.{key_of}
-use Rattle.record_codec.specs.declared.slot.Slot.TheVariants as slot
+use Rattle.season_records.specs.ItemReading.{item_of}
+use Rattle.season_records.specs.Keys.{key_of}
+use Rattle.season_records.specs.declared.slot.Slot.TheVariants as slot
 use Rattle.stored_records.specs.Stored.{is_within}
 use Rattle.stored_records.proofs.Loops.{any_kept, fail_more, none_passes}
 use Rattle.store_validation.specs.LeagueRules.{has_key}

@@ -1,5 +1,5 @@
 use Rattle.stored_records.proofs.Loops.{FailBefore}
-use Rattle.record_codec.specs.ItemReading.{item_of}
+use Rattle.season_records.specs.ItemReading.{item_of}
 use Rattle.store_validation.specs.LeagueRules.{has_key}
 use Rattle.store_validation.proofs.league_rules.has_other_key.Given as goal
 

@@ -1,5 +1,5 @@
 use Rattle.std.proofs.Common.{◌∙◌, ap, sym}
-use Rattle.record_codec.specs.declared.slot.Slot.TheVariants as slot
+use Rattle.season_records.specs.declared.slot.Slot.TheVariants as slot
 use Rattle.stored_records.specs.SeasonRules.{is_full}
 use Rattle.store_validation.specs.LeagueRules.{is_league_full}
 use Rattle.store_validation.proofs.league_rules.is_league_full.Goals as goal

@@ -2,7 +2,7 @@ use Rattle.std.proofs.Common.{◌≡◌, ◌∙◌, ◌-◌, ap, false, map, not
 use Rattle.std.specs.List.{list_any}
 use Rattle.fpl_base.specs.Keeping.{map_of}
 use Rattle.rule_book.specs.LeagueCalls.{most_leagues}
-use Rattle.record_codec.specs.declared.slot.Slot.TheVariants as slot
+use Rattle.season_records.specs.declared.slot.Slot.TheVariants as slot
 use Rattle.stored_records.specs.SeasonRules.{is_full, misses}
 use Rattle.stored_records.specs.Stored.{has_gameweek}
 use Rattle.store_validation.specs.LeagueRules.{has_gap, is_drawn_wrong, is_registered, members_of, plays_from}

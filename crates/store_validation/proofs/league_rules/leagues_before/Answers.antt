@@ -3,7 +3,7 @@ use Rattle.std.specs.List.{count_by, range_with_len}
 use Rattle.std.proofs.lemmas.List.Sums.{count_by-le-length}
 use Rattle.std.proofs.lemmas.List.FromFn.{length-range_with_len}
 use Rattle.fpl_base.specs.Keeping.{map_of}
-use Rattle.record_codec.specs.declared.slot.Slot.TheVariants as slot
+use Rattle.season_records.specs.declared.slot.Slot.TheVariants as slot
 use Rattle.stored_records.specs.Stored.{is_there}
 use Rattle.stored_records.proofs.Loops.{count_up}
 use Rattle.store_validation.proofs.league_rules.leagues_before.Goals.{then-has, else-has}

@@ -1,7 +1,7 @@
 use Rattle.std.proofs.Common.{◌≡◌, ◌-◌}
 use Rattle.std.specs.List.{count_by, range_with_len}
 use Rattle.fpl_base.specs.Keeping.{map_of}
-use Rattle.record_codec.specs.declared.slot.Slot.TheVariants as slot
+use Rattle.season_records.specs.declared.slot.Slot.TheVariants as slot
 use Rattle.stored_records.specs.Stored.{is_there}
 use Rattle.store_validation.proofs.league_rules.leagues_before.Given as goal
 

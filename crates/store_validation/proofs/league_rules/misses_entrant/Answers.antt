@@ -1,6 +1,6 @@
 use Rattle.std.proofs.Common.{◌∙◌, sym}
 use Rattle.fpl_base.specs.Keeping.{map_of}
-use Rattle.record_codec.specs.declared.slot.Slot.TheVariants as slot
+use Rattle.season_records.specs.declared.slot.Slot.TheVariants as slot
 use Rattle.stored_records.specs.SeasonRules.{misses}
 use Rattle.stored_records.proofs.Loops.{any_entrant}
 use Rattle.store_validation.proofs.league_rules.misses_entrant.Goals as goal

@@ -2,8 +2,8 @@ use Rattle.std.proofs.Common.{◌≡◌, ◌∙◌, Bool, List, ℕ, ap, arith, 
 use Rattle.std.specs.List.{count_by}
 use Rattle.std.proofs.lemmas.List.{take_all}
 use Rattle.fpl_base.specs.declared.records.RecordKey.{RecordKey}
-use Rattle.record_codec.specs.Keys.{key_of}
-use Rattle.record_codec.specs.declared.slot.Slot.TheVariants as slot
+use Rattle.season_records.specs.Keys.{key_of}
+use Rattle.season_records.specs.declared.slot.Slot.TheVariants as slot
 use Rattle.stored_records.specs.SeasonRules.{stands_in}
 use Rattle.stored_records.specs.Stored.{is_within}
 use Rattle.stored_records.proofs.Loops.{count_kept}

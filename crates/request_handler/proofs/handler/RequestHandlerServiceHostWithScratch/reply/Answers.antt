@@ -2,8 +2,8 @@ use Rattle.std.proofs.Common.{◌≡◌, false, refl}
 use Rattle.std.specs.Prelude.{codes}
 use Rattle.std.proofs.lemmas.Bool.{false≢true}
 use Rattle.fpl_http.specs.Seen.{request_seen}
-use Rattle.fpl_routes.specs.declared.route.Found.TheVariants as found
-use Rattle.fpl_session.specs.Replies.{answer_in}
+use Rattle.fpl_requests.specs.declared.route.Found.TheVariants as found
+use Rattle.fpl_http.specs.Replies.{answer_in}
 use Rattle.request_handler.specs.Looks.{Counted}
 use Rattle.request_handler.proofs.AlongLemmas.{asked_all, nowhere_all, unready_all}
 use Rattle.request_handler.proofs.KeptLemmas.{is_stale, kept_is}

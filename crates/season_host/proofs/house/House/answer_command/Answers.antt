@@ -1,5 +1,5 @@
 use Rattle.std.proofs.Common.{◌∙◌, List, ap, subst, sym}
-use Rattle.record_codec.specs.declared.slot.Slot.{Slot}
+use Rattle.season_records.specs.declared.slot.Slot.{Slot}
 use Rattle.season_book.specs.Book.{Book}
 use Rattle.season_book.specs.declared.answer.Answer.{Answer}
 use Rattle.season_running.proofs.HostFacts.{fresh_in, numbered_in}

@@ -1,5 +1,5 @@
 use Rattle.std.proofs.Common.{◌∙◌, ◌==◌, true, List, length, ap, refl, subst, sym}
-use Rattle.record_codec.specs.declared.slot.Slot.{Slot}
+use Rattle.season_records.specs.declared.slot.Slot.{Slot}
 use Rattle.season_book.specs.Book.{Book}
 use Rattle.season_book.specs.Doing.{IsOutLate}
 use Rattle.season_book.specs.Verdict.{Failures}

@@ -1,8 +1,8 @@
 use Rattle.std.proofs.Common.{◌≡◌, ◌∙◌, None, ap₂, subst}
 use Rattle.fpl_base.specs.Keeping.{KeysRise}
 use Rattle.fpl_base.specs.Rows.{IsPlace}
-use Rattle.record_codec.specs.Keys.{key_of}
-use Rattle.record_codec.specs.declared.slot.Slot.TheVariants as slot
+use Rattle.season_records.specs.Keys.{key_of}
+use Rattle.season_records.specs.declared.slot.Slot.TheVariants as slot
 use Rattle.stored_records.proofs.Numbers.{FoundAt, OtherAt, next_of, none_of}
 use Rattle.stored_records.proofs.stored.Stored.next_number.Goals as goal
 

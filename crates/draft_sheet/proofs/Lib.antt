@@ -1,3 +1,0 @@
-pub mod Elevens
-pub mod RowLemmas
-pub mod TotalLemmas

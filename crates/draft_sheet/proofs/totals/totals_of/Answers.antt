@@ -1,8 +1,0 @@
-use Rattle.std.proofs.Common.{rules}
-use Rattle.draft_sheet.proofs.TotalLemmas.{totals_more}
-use Rattle.draft_sheet.proofs.totals.totals_of.Goals as goal
-
-pub loop-place-preserved : goal.loop-place-preserved
-loop-place-preserved c =
-    totals_more c.args.draft.now c.args.told.now c.args.locked c.loop-place.place c.loop-place.totals.items c.push.new.self.items c.in_ok-total.total
-    c.loop-place.invariant c.in_ok-total.ensures (search rules)

@@ -1,5 +1,0 @@
-use Rattle.draft_sheet.specs.Totals.{AreTotals}
-use Rattle.draft_sheet.proofs.totals.totals_of.Given as goal
-
-abbrev pub invariant-loop-place : goal.invariant-loop-place
-invariant-loop-place l = AreTotals l.draft l.told l.locked l.place l.totals.items

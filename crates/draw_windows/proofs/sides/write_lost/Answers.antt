@@ -1,4 +1,0 @@
-use Rattle.draw_windows.proofs.sides.write_lost.Goals as goal
-
-pub returns : goal.returns
-returns c = rw (c.lost.ensures) at c.write_count.ensures

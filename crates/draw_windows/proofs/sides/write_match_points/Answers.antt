@@ -1,4 +1,0 @@
-use Rattle.draw_windows.proofs.sides.write_match_points.Goals as goal
-
-pub returns : goal.returns
-returns c = rw (c.match_points.ensures) at c.write_count.ensures

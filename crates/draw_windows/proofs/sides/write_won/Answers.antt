@@ -1,4 +1,0 @@
-use Rattle.draw_windows.proofs.sides.write_won.Goals as goal
-
-pub returns : goal.returns
-returns c = rw (c.won.ensures) at c.write_count.ensures

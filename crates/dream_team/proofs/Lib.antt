@@ -1,9 +1,0 @@
-mod Choosing
-mod Collecting
-mod Lined
-mod Places
-mod Putting
-mod Ranking
-mod Standing
-mod Trying
-mod Weekly

@@ -1,5 +1,0 @@
-use Rattle.dream_team.specs.Pools.{Finds, pool_of}
-use Rattle.dream_team.proofs.formations.with_defenders.Given as goal
-
-abbrev pub invariant-loop-midfielders : goal.invariant-loop-midfielders
-invariant-loop-midfielders l = Finds (pool_of l.pools) l.defenders l.midfielders l.best

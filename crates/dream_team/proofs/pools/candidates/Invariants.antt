@@ -1,7 +1,0 @@
-use Rattle.std.proofs.Common.{◌≡◌, map, take}
-use Rattle.dream_team.specs.Pools.{row_of}
-use Rattle.dream_team.proofs.Choosing.{part}
-use Rattle.dream_team.proofs.pools.candidates.Given as goal
-
-abbrev pub invariant-loop-row : goal.invariant-loop-row
-invariant-loop-row l = map (row_of l.position) l.found.items ≡ part l.position (take l.row-index l.rows)

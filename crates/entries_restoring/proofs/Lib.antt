@@ -1,7 +1,0 @@
-mod Through
-mod Numbers
-mod Told
-mod OneEntry
-mod Issued
-mod Whole
-mod Adding

@@ -1,8 +1,0 @@
-use Rattle.std.proofs.Common.{arith}
-use Rattle.entries_restoring.proofs.Whole.{full}
-use Rattle.entries_restoring.proofs.managers.restored.Goals as goal
-
-pub returns-clause-all : goal.returns-clause-all
-returns-clause-all c =
-    full c.args.stored.now c.requires.lawful c.args.players.now c.entries.book.managers c.entries.invariant.0
-    (omega (arith, c.entries.invariant.2, c.entries-test.false))

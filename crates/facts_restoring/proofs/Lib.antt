@@ -1,9 +1,0 @@
-mod Fitting
-mod Locks
-mod Room
-mod Rows
-mod Slots
-mod Sound
-mod Steps
-mod Told
-mod Whole

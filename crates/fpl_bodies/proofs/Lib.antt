@@ -1,5 +1,0 @@
-pub mod BodyLemmas
-pub mod DifferLemmas
-pub mod EntryLemmas
-pub mod ListLemmas
-pub mod MemberLemmas

@@ -1,3 +1,0 @@
-pub mod FieldNames
-pub mod Members
-pub mod Requests

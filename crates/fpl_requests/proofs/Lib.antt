@@ -1,0 +1,14 @@
+pub mod FitLemmas
+pub mod FoundFacts
+pub mod OneLemmas
+pub mod PatternTests
+pub mod PlaceFacts
+pub mod SegmentLemmas
+pub mod ShapeLemmas
+pub mod TableFacts
+pub mod TableLemmas
+pub mod BodyLemmas
+pub mod DifferLemmas
+pub mod EntryLemmas
+pub mod ListLemmas
+pub mod MemberLemmas

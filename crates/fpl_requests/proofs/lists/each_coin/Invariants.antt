@@ -1,0 +1,15 @@
+use Rattle.std.proofs.Common.{◌≡◌, length}
+use Rattle.fpl_requests.specs.declared.field.FieldName.TheVariants as field
+use Rattle.fpl_requests.specs.Members.{each, entry}
+use Rattle.json_tree.specs.Trees.{seen}
+use Rattle.fpl_requests.proofs.ListLemmas.{with_front}
+use Rattle.fpl_requests.proofs.lists.each_coin.Given as goal
+
+-- the coins so far and those of what is left are those of all
+abbrev pub invariant-items : goal.invariant-items
+invariant-items l =
+    with_front l.list (each (entry field.Coins 0 1) (seen l.rest))
+    ≡ each (entry field.Coins 0 1) (seen l.initial.rest)
+
+abbrev pub decreases-items : goal.decreases-items
+decreases-items l = length l.rest

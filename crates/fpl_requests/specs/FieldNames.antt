@@ -1,0 +1,42 @@
+-- The names of members.
+use Rattle.std.specs.Prelude.{ℕ, List, codes}
+use Rattle.fpl_requests.specs.declared.field.FieldName.{FieldName}
+use Rattle.fpl_requests.specs.declared.field.FieldName.TheVariants as field
+
+-- the name of a member in a body
+abbrev pub name_of : FieldName → List ℕ
+name_of field.Body = codes "body"
+name_of field.Number = codes "number"
+name_of field.Deadlines = codes "deadlines"
+name_of field.Split = codes "split"
+name_of field.Clubs = codes "clubs"
+name_of field.Profile = codes "profile"
+name_of field.Id = codes "id"
+name_of field.Name = codes "name"
+name_of field.Gameweek = codes "gameweek"
+name_of field.Deadline = codes "deadline"
+name_of field.Position = codes "position"
+name_of field.Club = codes "club"
+name_of field.Price = codes "price"
+name_of field.Player = codes "player"
+name_of field.Gone = codes "gone"
+name_of field.Home = codes "home"
+name_of field.Away = codes "away"
+name_of field.Kickoff = codes "kickoff"
+name_of field.Lines = codes "lines"
+name_of field.Figures = codes "figures"
+name_of field.Finished = codes "finished"
+name_of field.Key = codes "key"
+name_of field.Players = codes "players"
+name_of field.Captain = codes "captain"
+name_of field.Vice = codes "vice"
+name_of field.Swaps = codes "swaps"
+name_of field.Out = codes "out"
+name_of field.In = codes "in"
+name_of field.Chip = codes "chip"
+name_of field.Kind = codes "kind"
+name_of field.Code = codes "code"
+name_of field.Start = codes "start"
+name_of field.Order = codes "order"
+name_of field.Slots = codes "slots"
+name_of field.Coins = codes "coins"

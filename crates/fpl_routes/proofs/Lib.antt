@@ -1,9 +1,0 @@
-pub mod FitLemmas
-pub mod FoundFacts
-pub mod OneLemmas
-pub mod PatternTests
-pub mod PlaceFacts
-pub mod SegmentLemmas
-pub mod ShapeLemmas
-pub mod TableFacts
-pub mod TableLemmas

@@ -1,7 +1,0 @@
-ghost use Rattle.fpl_routes.specs.Targets.{OneFound};
-
-/// A law on the definitions: a method and a target ask for one thing. No target has the shapes of two patterns, and
-/// no segment spells two ids.
-pub fn targets_ask_one_thing()
-    ensures { OneFound }
-{}

@@ -1,6 +1,0 @@
-mod LiftLemmas
-pub mod RunLemmas
-mod ServedLemmas
-mod SessionLemmas
-mod SplitLemmas
-mod StayLemmas

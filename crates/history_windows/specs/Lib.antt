@@ -1,4 +1,0 @@
-pub mod Courses
-pub mod EntryLaws
-pub mod Races
-pub mod Told

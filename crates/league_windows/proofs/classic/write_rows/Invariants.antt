@@ -1,0 +1,15 @@
+use Rattle.std.proofs.Common.{◌≡◌, ◌≤◌, ◌+◌, ◌++◌, drop}
+use Rattle.json_members.specs.Tokens.{tokens_of}
+use Rattle.json_members.proofs.ListLemmas.{rest_of}
+use Rattle.season_book.specs.Windows.{listed, numbered}
+use Rattle.season_views.specs.Seen.{OfEachSeen}
+use Rattle.season_book.specs.ClassicStandings.{classic_standing}
+use Rattle.league_windows.proofs.classic.write_rows.Given as goal
+
+-- the tokens so far, and then those of what is left, are those of all
+abbrev pub invariant-loop-place : goal.invariant-loop-place
+invariant-loop-place g l = record {
+  tokens : OfEachSeen l.seen (λ entries. l.out.tokens ++ rest_of (classic_standing l.seen.facts entries l.league) (drop l.place (numbered l.table)) ≡ l.fn.out.tokens ++ tokens_of (listed (classic_standing l.seen.facts entries l.league) (numbered l.table)));
+  before : OfEachSeen l.seen (λ entries. l.out.before ≡ l.fn.out.before);
+  cost : l.steps ≤ l.fn.steps + l.place;
+}

@@ -1,0 +1,3 @@
+pub mod RowTokens
+pub mod Openings
+pub mod Standings

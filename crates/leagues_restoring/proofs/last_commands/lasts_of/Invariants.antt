@@ -1,7 +1,0 @@
-use Rattle.std.proofs.Common.{take}
-use Rattle.fpl_base.specs.Keeping.{map_of}
-use Rattle.leagues_restoring.specs.LastCommands.{AreLasts}
-use Rattle.leagues_restoring.proofs.last_commands.lasts_of.Given as goal
-
-abbrev pub invariant-loop-row : goal.invariant-loop-row
-invariant-loop-row l = AreLasts (map_of (take l.row-index l.row-items)) l.lasts

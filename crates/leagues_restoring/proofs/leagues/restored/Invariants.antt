@@ -1,6 +1,0 @@
-use Rattle.std.proofs.Common.{◌≡◌, length}
-use Rattle.leagues_restoring.specs.LeagueRestoring.{AreLeaguesRestored}
-use Rattle.leagues_restoring.proofs.leagues.restored.Given as goal
-
-abbrev pub invariant-leagues : goal.invariant-leagues
-invariant-leagues l = AreLeaguesRestored l.stored l.book × (length l.book ≡ l.counter)

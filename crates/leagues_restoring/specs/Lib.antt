@@ -1,4 +1,0 @@
-pub mod LastCommands
-pub mod Kinds
-pub mod CupRows
-pub mod LeagueRestoring

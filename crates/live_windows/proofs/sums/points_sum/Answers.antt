@@ -1,0 +1,11 @@
+use Rattle.std.proofs.Common.{arith}
+use Rattle.std.proofs.lemmas.Int.{ints, to_z-of_z}
+use Rattle.std.proofs.lemmas.List.Sums.{fold_more}
+use Rattle.live_windows.proofs.sums.points_sum.Goals as goal
+
+pub loop-own-preserved : goal.loop-own-preserved
+loop-own-preserved c = record {
+  value = grind (arith, ints, to_z-of_z, fold_more);
+  low = let before = c.loop-own.invariant.low in let one = c.points_with_bonus-sum.ensures.low in omega (arith, ints, before, one);
+  high = let before = c.loop-own.invariant.high in let one = c.points_with_bonus-sum.ensures.high in omega (arith, ints, before, one);
+}

@@ -1,0 +1,10 @@
+use Rattle.std.proofs.Common.{◌≡◌, ◌≤◌, ◌*◌, sum_by, take}
+use Rattle.live_windows.specs.declared.sums.LiveLine.{LiveLine}
+use Rattle.rule_book.specs.Figures.{figure}
+use Rattle.live_windows.proofs.sums.sum_of.Given as goal
+
+abbrev pub invariant-loop-own : goal.invariant-loop-own
+invariant-loop-own l = record {
+  value : l.sum ≡ sum_by (λ (own : LiveLine). figure own.line l.field) (take l.own-index l.lines);
+  small : l.sum ≤ 65535 * l.own-index;
+}

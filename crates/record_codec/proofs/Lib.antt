@@ -1,4 +1,0 @@
-pub mod CommandLaws
-pub mod ItemLaws
-pub mod KeyLaws
-pub mod Worked

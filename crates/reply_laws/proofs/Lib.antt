@@ -1,5 +1,0 @@
-pub mod FaultFacts
-pub mod IsolationFacts
-pub mod OnceFacts
-pub mod StorelessFacts
-pub mod WholeFacts

@@ -1,4 +1,0 @@
-pub mod JudgeLemmas
-pub mod TradeLemmas
-pub mod BatchLaws
-pub mod RefusalLemmas

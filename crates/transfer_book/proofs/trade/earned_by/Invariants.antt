@@ -1,6 +1,0 @@
-use Rattle.std.proofs.Common.{◌≡◌, ◌≤◌, ◌*◌, take}
-use Rattle.rule_book.specs.Batch.{earned_by}
-use Rattle.transfer_book.proofs.trade.earned_by.Given as goal
-
-abbrev pub invariant-sales : goal.invariant-sales
-invariant-sales l = record { sum : l.earned ≡ earned_by (take l.sale-index l.sales); bound : l.earned ≤ 200 * l.sale-index }

@@ -1,6 +1,0 @@
-use Rattle.std.proofs.Common.{◌≡◌, ◌≤◌, ◌*◌, take}
-use Rattle.rule_book.specs.Batch.{paid_by}
-use Rattle.transfer_book.proofs.trade.paid_by.Given as goal
-
-abbrev pub invariant-sales : goal.invariant-sales
-invariant-sales l = record { sum : l.paid ≡ paid_by (take l.sale-index l.sales); bound : l.paid ≤ 200 * l.sale-index }

@@ -1,6 +1,0 @@
-use Rattle.std.proofs.Common.{◌≡◌, drop}
-use Rattle.rule_book.specs.Batch.{pick_after}
-use Rattle.transfer_book.proofs.trade.pick_after.Given as goal
-
-abbrev pub invariant-sales : goal.invariant-sales
-invariant-sales l = pick_after (drop l.sale-index l.sales) l.pick ≡ pick_after l.sales l.pick

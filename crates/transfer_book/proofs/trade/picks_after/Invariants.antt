@@ -1,6 +1,0 @@
-use Rattle.rule_book.specs.Batch.{pick_after}
-use Rattle.transfer_book.proofs.TradeLemmas.{MadeUpTo}
-use Rattle.transfer_book.proofs.trade.picks_after.Given as goal
-
-abbrev pub invariant-loop-place : goal.invariant-loop-place
-invariant-loop-place l = MadeUpTo (pick_after l.sales) l.picks l.after l.place
