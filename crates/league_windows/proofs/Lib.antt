@@ -20,7 +20,7 @@ mod OpeningFacts
 mod RanksBefore
 mod RowMembers
 mod ScoreParts
-pub mod Shown
+pub mod StandingsShown
 mod StandingFacts
 pub mod StandingsBefore
 mod TableMembers

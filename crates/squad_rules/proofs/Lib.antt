@@ -1,5 +1,5 @@
 pub mod Repeats
-pub mod Formations
+pub mod FormationFacts
 pub mod Copies
 pub mod Legal
 pub mod ChipsPlayed

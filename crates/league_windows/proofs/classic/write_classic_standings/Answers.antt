@@ -5,7 +5,7 @@ use Rattle.json_members.specs.Tokens.{tokens_of}
 use Rattle.rule_book.specs.Entries.{entry_in}
 use Rattle.rule_book.specs.LeagueCalls.{is_head}
 use Rattle.season_book.specs.ClassicStandings.{classic_standings, classic_standings_window}
-use Rattle.league_windows.proofs.Shown.{classic_due, is_shown}
+use Rattle.league_windows.proofs.StandingsShown.{classic_due, is_shown}
 use Rattle.league_windows.proofs.classic.write_classic_standings.Goals as goal
 
 pub returns-in_ok-write_standings-in-Classic-clause-value : goal.returns-in_ok-write_standings-in-Classic-clause-value

@@ -5,7 +5,7 @@ use Rattle.json_members.specs.Tokens.{tokens_of}
 use Rattle.rule_book.specs.Entries.{entry_in}
 use Rattle.rule_book.specs.LeagueCalls.{is_head}
 use Rattle.season_book.specs.HeadStandings.{head_standings, head_standings_window}
-use Rattle.league_windows.proofs.Shown.{head_due, is_shown}
+use Rattle.league_windows.proofs.StandingsShown.{head_due, is_shown}
 use Rattle.league_windows.proofs.head.write_head_standings.Goals as goal
 
 pub returns-in_ok-write_standings-in-Head-clause-value : goal.returns-in_ok-write_standings-in-Head-clause-value
