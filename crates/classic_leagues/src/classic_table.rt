@@ -111,7 +111,7 @@ fn ranked_rows(alloc: Global, rows: &[Placed]) -> Result<Vec<Ranked>, Memory>
 /// the greater total, then the fewer transfers. Rows that are equal in both have the same rank, and the next rank is one
 /// more than the number of rows before it. They stand by rank, then entry. It takes memory, and time for one sort.
 /// `docs/RULES.md` has this under "Tables and ranks".
-pub fn table(alloc: Global, rows: &[(EntryId, i32, u32)]) -> Result<Vec<Ranked>, Memory>
+pub fn rank_classic(alloc: Global, rows: &[(EntryId, i32, u32)]) -> Result<Vec<Ranked>, Memory>
     requires { AllDiffer (map (λ row. row.0) rows.now) }
     ensures { IfOk result (λ table. IsClassicTable rows.now table.items) }
 {

@@ -6,7 +6,7 @@ mod league;
 mod leagues;
 mod memberships;
 
-pub use classic_table::table;
+pub use classic_table::rank_classic;
 pub use league::{Ids, League};
 pub use leagues::Leagues;
 pub use rule_book::{LeagueKind, Ranked};

@@ -72,7 +72,7 @@ fn ranked_rows(
 /// match points, then points scored. Rows that are equal in both have the same rank, and the next rank is one more than
 /// the number of rows before it. They stand by rank, then entry. It takes memory, and time for two sorts. `docs/RULES.md`
 /// has this under "Tables and ranks".
-pub fn table(alloc: Global, rows: &[(EntryId, HeadScore)]) -> Result<Vec<HeadRanked>, Memory>
+pub fn rank_head_to_head(alloc: Global, rows: &[(EntryId, HeadScore)]) -> Result<Vec<HeadRanked>, Memory>
     requires { AllDiffer (map (λ row. row.0) rows.now) }
     ensures { IfOk result (λ table. IsHeadTable rows.now table.items) }
 {

@@ -8,7 +8,7 @@ mod matches;
 mod rounds;
 
 pub use draw::check_order;
-pub use head_table::table;
+pub use head_table::rank_head_to_head;
 pub use laws::{
     each_meets_one, mean_is_the_one, meet_once, opponent_is_the_one, points_by_results,
 };

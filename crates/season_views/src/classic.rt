@@ -11,7 +11,7 @@ ghost use Rattle.season_views.specs.Leagues.{AreIssued, classic_row_since};
 use crate::names::name_of;
 use crate::reading::total_held;
 use crate::seen::{Seen, SeenCells};
-use classic_leagues::{League, table};
+use classic_leagues::{League, rank_classic};
 use fpl_base::{EntryId, Gw, ListOf, Memory, ReadCount};
 use rule_book::{Ranked, tables_are_the_one};
 use season_book::{ShownClassic, ShownRanked};
@@ -77,7 +77,7 @@ pub fn classic_table(alloc: Global, rows: &[(EntryId, i32, u32)]) -> Result<Vec<
 {
     // The law by which there is one table, for the prover.
     tables_are_the_one();
-    table(alloc, rows)
+    rank_classic(alloc, rows)
 }
 
 // A row with the name of its entry.

@@ -17,7 +17,7 @@ use crate::reading::head_held;
 use crate::seen::{Seen, SeenCells};
 use classic_leagues::League;
 use fpl_base::{EntryId, LeagueId, ListOf, Memory, ReadCount};
-use head_to_head::table;
+use head_to_head::rank_head_to_head;
 use rule_book::{HeadRanked, HeadScore, tables_are_the_one};
 use season_book::{ShownHead, ShownHeadRanked};
 use season_ledger::rows_tell;
@@ -57,7 +57,7 @@ pub fn head_table(alloc: Global, rows: &[(EntryId, HeadScore)]) -> Result<Vec<He
 {
     // The law by which there is one table, for the prover.
     tables_are_the_one();
-    table(alloc, rows)
+    rank_head_to_head(alloc, rows)
 }
 
 // A row with the name of its entry.

@@ -8,11 +8,11 @@ use Rattle.season_views.proofs.classic.classic_table.Goals as goal
 pub returns-clause-value : goal.returns-clause-value
 returns-clause-value c =
     let rows = c.args.rows.now in
-    if_ok c.table.result (λ table. IsClassicTable rows table.items) (λ table. table.items ≡ classic_table_of rows)
-    (λ table is. (c.tables_are_the_one.ensures.classic rows table.items c.requires).0 is) c.table.ensures
+    if_ok c.rank_classic.result (λ table. IsClassicTable rows table.items) (λ table. table.items ≡ classic_table_of rows)
+    (λ table is. (c.tables_are_the_one.ensures.classic rows table.items c.requires).0 is) c.rank_classic.ensures
 
 pub returns-clause-entries : goal.returns-clause-entries
 returns-clause-entries c n few =
     let rows = c.args.rows.now in
-    if_ok c.table.result (λ table. IsClassicTable rows table.items) (λ table. All (λ row. row.entry ≤ n) table.items)
-    (λ table is. classic_entries rows table.items n is few) c.table.ensures
+    if_ok c.rank_classic.result (λ table. IsClassicTable rows table.items) (λ table. All (λ row. row.entry ≤ n) table.items)
+    (λ table is. classic_entries rows table.items n is few) c.rank_classic.ensures

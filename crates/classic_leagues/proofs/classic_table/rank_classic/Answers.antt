@@ -4,7 +4,7 @@ use Rattle.rule_book.specs.ClassicTable.{IsClassicTable}
 use Rattle.classic_leagues.specs.Standing.{placed_of_row, ranked_placed}
 use Rattle.classic_leagues.specs.declared.classic_table.Placed.{Placed}
 use Rattle.classic_leagues.proofs.StandingLemmas.{is_table}
-use Rattle.classic_leagues.proofs.classic_table.table.Goals as goal
+use Rattle.classic_leagues.proofs.classic_table.rank_classic.Goals as goal
 
 pub returns : goal.returns
 returns c =

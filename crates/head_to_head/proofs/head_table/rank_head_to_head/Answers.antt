@@ -9,7 +9,7 @@ use Rattle.rule_book.proofs.TableLemmas.{rows_with_ranks}
 use Rattle.head_to_head.specs.Standing.{standing_of_row, with_rank}
 use Rattle.head_to_head.specs.declared.head_table.Standing.{Standing}
 use Rattle.head_to_head.proofs.StandingLemmas.{less_is_better}
-use Rattle.head_to_head.proofs.head_table.table.Goals as goal
+use Rattle.head_to_head.proofs.head_table.rank_head_to_head.Goals as goal
 
 pub returns : goal.returns
 returns c =
