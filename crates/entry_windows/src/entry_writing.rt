@@ -7,13 +7,13 @@ ghost use Rattle.season_book.specs.EntryWindow.{entry_league_told};
 
 use crate::event_ranks::LeagueRanks;
 use crate::summary::Summary;
-use classic_leagues::League;
 use fpl_base::{EntryId, Gw, LeagueId};
 use json::Writer;
 use json_members::{
     text_of, write_count, write_count_or_null, write_integer_or_null, write_text, write_truth,
 };
 use league_windows::{bound_told, scoring_of};
+use leagues_and_cups::League;
 use std::alloc::AllocError;
 
 /// Writes a league of an entry with the entry's ranks in it.

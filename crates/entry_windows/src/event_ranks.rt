@@ -10,9 +10,9 @@ ghost use Rattle.season_views.specs.Cells.{AreKeptWith};
 ghost use Rattle.season_views.specs.Seen.{IsKept, OfEachSeen};
 ghost use Rattle.season_book.specs.LeagueTables.{classic_last_rank, classic_rank, head_last_rank, head_rank};
 
-use classic_leagues::League;
 use fpl_base::{EntryId, LeagueId, Memory, ReadCount};
 use league_windows::{classic_last_ranks, head_last_ranks, rank_of};
+use leagues_and_cups::League;
 use rule_book::HeadScore;
 use season_ledger::rows_tell;
 use season_views::{Seen, SeenCells, classic_rows, head_rows};

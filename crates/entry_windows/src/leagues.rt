@@ -13,9 +13,9 @@ ghost use Rattle.season_views.specs.EntryWindowReads.{classic_league_reads, head
 
 use crate::entry_writing::write_league;
 use crate::event_ranks::{classic_ranks, head_ranks};
-use classic_leagues::League;
 use fpl_base::{EntryId, LeagueId, Memory, ReadCount};
 use json::Writer;
+use leagues_and_cups::League;
 use rule_book::LeagueKind;
 use season_views::{Seen, SeenCells};
 use std::alloc::Global;

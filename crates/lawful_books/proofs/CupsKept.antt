@@ -12,7 +12,7 @@ use Rattle.rule_book.specs.CupCalls.{cup_refusal, entrants, most_cups}
 use Rattle.rule_book.specs.Cups.{is_cup, wrong_cup}
 use Rattle.rule_book.specs.Entries.{entry_in}
 use Rattle.rule_book.specs.Leagues.{LeagueFacts}
-use Rattle.cup_rounds.proofs.CupTests.{is_cup-Decides}
+use Rattle.leagues_and_cups.proofs.CupTests.{is_cup-Decides}
 use Rattle.season_book.specs.Book.{EntryFacts, Last}
 use Rattle.season_book.specs.declared.made.Made.{Made}
 use Rattle.season_book.specs.declared.made.Made.TheVariants as made

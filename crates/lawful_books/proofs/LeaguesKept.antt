@@ -17,7 +17,7 @@ use Rattle.rule_book.specs.HistoryRules.{NoneAfter}
 use Rattle.rule_book.specs.LeagueCalls.{is_drawn, is_head, is_member, most_members, new_league, with_member, with_order}
 use Rattle.rule_book.specs.Leagues.{LeagueFacts}
 use Rattle.rule_book.specs.UpTo.{start_of}
-use Rattle.head_to_head.proofs.DrawLemmas.{order_of_all}
+use Rattle.leagues_and_cups.proofs.DrawLemmas.{order_of_all}
 use Rattle.season_book.specs.Book.{Book, EntryFacts}
 use Rattle.season_book.specs.LeagueCommands.{is_registered}
 use Rattle.season_book.specs.LeagueViews.{history_of}

@@ -16,11 +16,10 @@ ghost use Rattle.league_windows.specs.RowTokens.{row_tokens};
 
 use crate::shown::is_shown;
 use crate::sides::{seen_by_other, write_first, write_place, write_second};
-use classic_leagues::League;
 use fpl_base::{EntryId, Gw, LeagueId, Memory, ReadCount};
-use head_to_head::{opponent, opponent_is_the_one};
 use json::Writer;
 use json_members::{text_of, write_count, write_truth};
+use leagues_and_cups::{League, opponent, opponent_is_the_one};
 use rule_book::{LeagueKind, Opponent};
 use season_entries::entries_are_issued;
 use season_graph::{Node, Value};

@@ -6,12 +6,12 @@ ghost use Rattle.season_book.specs.Windows.{scoring_of};
 ghost use Rattle.season_book.specs.LeaguePages.{bound_told, is_closed, league_told, one_page};
 ghost use Rattle.league_windows.specs.Openings.{closing_tokens, opening_tokens, page_tokens};
 
-use classic_leagues::League;
 use fpl_base::LeagueId;
 use json::Writer;
 use json_members::{
     text_of, write_count, write_count_or_null, write_no_list, write_text, write_truth,
 };
+use leagues_and_cups::League;
 use rule_book::LeagueKind;
 use std::alloc::AllocError;
 

@@ -6,11 +6,11 @@ ghost use Rattle.json_members.specs.Tokens.{Appends, all_member_tokens, member_t
 ghost use Rattle.season_book.specs.HeadMatches.{drawn_shown, first_members, lost_shown, match_members, match_points_shown, points_shown, second_members, seen_by_other, won_shown};
 
 use fpl_base::{EntryId, LeagueId};
-use head_to_head::result;
 use json::Writer;
 use json_members::{
     write_count, write_count_or_null, write_integer, write_nothing, write_text, write_truth,
 };
+use leagues_and_cups::result;
 use std::alloc::AllocError;
 
 // A match as the other of the two sees it.

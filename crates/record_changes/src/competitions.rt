@@ -11,9 +11,8 @@ ghost use Rattle.record_changes.specs.Batches.{Keeps};
 
 use crate::changes::{delete, put};
 use crate::seeking::member_at;
-use classic_leagues::{League, Leagues};
-use cup_rounds::Cups;
 use fpl_base::{Caller, CupId, EntryId, LeagueId, Memory, Op};
+use leagues_and_cups::{Cups, League, Leagues};
 use season_book::{Command, Made, Order};
 use season_records::{Item, Slot, encode_last};
 use season_running::Lasts;

@@ -16,9 +16,8 @@ ghost use Rattle.season_records.specs.Touched as records;
 
 use crate::listing::{add_clubs, add_left, add_lines, add_transfers, one, three, two};
 use crate::seeking::sheet_at;
-use classic_leagues::Leagues;
-use cup_rounds::Cups;
 use fpl_base::{EntryId, Gw, Memory, PlayerId};
+use leagues_and_cups::{Cups, Leagues};
 use manager_book::ManagerBook;
 use match_facts::MatchFacts;
 use season_book::{Clubs, Command, Lines, Swaps};

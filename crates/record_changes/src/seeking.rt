@@ -5,8 +5,8 @@ ghost use Rattle.rule_book.specs.ById.{at_id};
 ghost use Rattle.rule_book.specs.LeagueCalls.{is_member};
 ghost use Rattle.rule_book.specs.MatchFacts.{line_of};
 
-use classic_leagues::League;
 use fpl_base::{EntryId, FixtureId, PlayerId};
+use leagues_and_cups::League;
 use match_facts::MatchFacts;
 use rule_book::Line;
 

@@ -18,9 +18,9 @@ use Rattle.rule_book.specs.LeagueCalls.{draw_refusal, is_drawn, is_head}
 use Rattle.rule_book.specs.Leagues.{LeagueFacts}
 use Rattle.rule_book.specs.Ranks.{AllDiffer}
 use Rattle.rule_book.specs.Refusals.{first_broken, unless}
-use Rattle.head_to_head.proofs.DrawLemmas.{order_of_all}
-use Rattle.classic_leagues.specs.Books.{Rise}
-use Rattle.classic_leagues.proofs.Numbers.{rising_differ}
+use Rattle.leagues_and_cups.proofs.DrawLemmas.{order_of_all}
+use Rattle.leagues_and_cups.specs.Books.{Rise}
+use Rattle.leagues_and_cups.proofs.Numbers.{rising_differ}
 use Rattle.season_graph.specs.BookChanges.{CanBeDrawn}
 use Rattle.season_nodes.proofs.OrderFacts.{drawn_so}
 

@@ -26,8 +26,8 @@ use Rattle.rule_book.specs.Batch.{is_same_position}
 use Rattle.rule_book.specs.PlayerFigures.{position_in}
 use Rattle.rule_book.specs.Players.{player_of}
 use Rattle.rule_book.specs.Uses.{has_lines}
-use Rattle.classic_leagues.specs.Books.{Rise}
-use Rattle.cup_rounds.specs.Shapes.{HasShape}
+use Rattle.leagues_and_cups.specs.Books.{Rise}
+use Rattle.leagues_and_cups.specs.Shapes.{HasShape}
 use Rattle.match_facts.specs.Laws.{LinesAreAMap, LinesGo, SheetsAreAMap, SheetsHaveTheirLines}
 use Rattle.manager_book.specs.declared.manager.Manager.{Manager}
 use Rattle.manager_book.specs.Managers.{AreRisen, manager_in, managers_had}

@@ -5,7 +5,7 @@ use Rattle.rule_book.specs.Calendar.{stands_in}
 use Rattle.rule_book.specs.Entries.{entry_in}
 use Rattle.rule_book.specs.Leagues.{LeagueFacts}
 use Rattle.rule_book.specs.MatchFacts.{Lines, is_finished, line_in, line_of, lines_of}
-use Rattle.classic_leagues.specs.Books.{Rise}
+use Rattle.leagues_and_cups.specs.Books.{Rise}
 use Rattle.rescore_graph.specs.Graph.{Among}
 use Rattle.season_book.specs.Book.{Facts}
 use Rattle.season_book.specs.declared.command.Command.{Command}

@@ -12,9 +12,8 @@ ghost use Rattle.season_cells.specs.Kept.{AreCellsOf};
 ghost use Rattle.season_cells.specs.Leading.{DifferAs, LeadsTo};
 
 use crate::plan::Plan;
-use classic_leagues::Leagues;
-use cup_rounds::Cups;
 use fpl_base::{Memory, ReadCount};
+use leagues_and_cups::{Cups, Leagues};
 use manager_book::ManagerBook;
 use match_facts::MatchFacts;
 use season_facts::Season;

@@ -1,7 +1,7 @@
 // What follows from the definitions alone.
 ghost use Rattle.season_cells.specs.Leading.{PlansLead};
 
-use cup_rounds::unbroken_cups_have_shape;
+use leagues_and_cups::unbroken_cups_have_shape;
 use match_facts::facts_are_maps;
 use season_entries::earlier_rows_tell;
 use season_graph::{

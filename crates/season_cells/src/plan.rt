@@ -8,8 +8,8 @@ ghost use Rattle.season_cells.specs.declared.plan.Plan.TheVariants as planning;
 ghost use Rattle.season_cells.specs.Plans.{IsLeagued, IsLined, IsMarked, IsPlaced, IsPlanOf, lines_named};
 
 use crate::sheets::sheet_plan;
-use classic_leagues::Leagues;
 use fpl_base::{FixtureId, Gw, LeagueId, Memory, PlayerId, ReadCount};
+use leagues_and_cups::Leagues;
 use rule_book::Line;
 use season_book::Command;
 use season_facts::Season;

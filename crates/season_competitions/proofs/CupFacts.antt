@@ -16,7 +16,7 @@ use Rattle.season_book.specs.declared.answer.Answer.{Answer}
 use Rattle.season_book.specs.declared.answer.Answer.TheVariants as answer
 use Rattle.season_book.specs.declared.command.Command.{Command}
 use Rattle.season_book.specs.declared.command.Command.TheVariants as command
-use Rattle.cup_rounds.specs.Shapes.{HasShape}
+use Rattle.leagues_and_cups.specs.Shapes.{HasShape}
 use Rattle.season_entries.specs.Deeds.{IsAnswered}
 use Rattle.season_competitions.specs.Cups.{IsCupGranted, cup_answer, draw_answer}
 use Rattle.season_competitions.proofs.KnownFacts.{all_hold}

@@ -10,8 +10,8 @@ ghost use Rattle.season_entries.specs.Deeds.{IsAnswered};
 ghost use Rattle.season_competitions.specs.Cups.{IsCupGranted, IsCupJudgedByBooks, cup_answer_by, cups_after};
 
 use crate::known::{are_entrants_issued, are_entrants_registered};
-use cup_rounds::{Bracket, Coins, Cups, Slots, check_draw, unbroken_cups_have_shape};
 use fpl_base::{Gw, Memory, Refused, Rule};
+use leagues_and_cups::{Bracket, Coins, Cups, Slots, check_draw, unbroken_cups_have_shape};
 use manager_book::ManagerBook;
 use season_book::{Answer, Command};
 use season_entries::entries_are_known;

@@ -16,9 +16,8 @@ ghost use Rattle.season_entries.specs.Deeds.{IsAnswered};
 ghost use Rattle.season_competitions.specs.Leagues.{IsLeagueGranted, IsLeagueJudgedByBooks, league_answer_by};
 
 use crate::known::{are_issued, registered};
-use classic_leagues::{League, Leagues};
 use fpl_base::{Caller, Code, EntryId, Gw, LeagueId, Memory, Name, Refused, Rule};
-use head_to_head::check_order;
+use leagues_and_cups::{League, Leagues, check_order};
 use manager_book::ManagerBook;
 use rule_book::LeagueKind;
 use season_book::{Answer, Command};

@@ -7,7 +7,7 @@ use Rattle.std.proofs.lemmas.Nat.{shr_le}
 use Rattle.std.proofs.lemmas.Option.{same_Some}
 use Rattle.rule_book.specs.Entries.{entry_in}
 use Rattle.rule_book.specs.declared.cup.Bracket.{Bracket}
-use Rattle.cup_rounds.specs.Shapes.{HasShape}
+use Rattle.leagues_and_cups.specs.Shapes.{HasShape}
 use Rattle.season_graph.specs.BookChanges.{CupIsDrawn, with_cups}
 use Rattle.season_graph.specs.Changes.{IsIdle}
 use Rattle.season_nodes.specs.declared.nodes.Node.TheVariants as node

@@ -6,7 +6,7 @@ use Rattle.std.proofs.lemmas.Option.{none-some, same_Some, slice_get_past}
 use Rattle.rule_book.specs.Entries.{changed_in, entry_in}
 use Rattle.rule_book.specs.LeagueCalls.{is_member, with_member, with_order}
 use Rattle.rule_book.specs.Leagues.{LeagueFacts}
-use Rattle.classic_leagues.proofs.Members.{member_as_before, member_now}
+use Rattle.leagues_and_cups.proofs.Members.{member_as_before, member_now}
 use Rattle.season_graph.specs.BookChanges.{LeagueIsDrawn, LeagueIsJoined, LeagueIsMade, with_leagues}
 use Rattle.season_graph.specs.Changes.{DifferInLeague, EntriesStay, GoesOn}
 use Rattle.season_nodes.specs.Season.{SeasonFacts, AreOrders, IsOrder, IsSeason}

@@ -19,7 +19,7 @@ use Rattle.rule_book.specs.Repeats.{first_repeat}
 use Rattle.manager_book.specs.Managers.{Managers}
 use Rattle.rescore_graph.specs.Graph.{Among}
 use Rattle.season_graph.specs.Changes.{AreAlike, DifferInLeague, DifferInLine, DifferInLocks, DifferInMark, DifferInPlace, DifferInPlayer, DifferInSheet, EntriesStay}
-use Rattle.cup_rounds.specs.Shapes.{HasShape}
+use Rattle.leagues_and_cups.specs.Shapes.{HasShape}
 use Rattle.season_nodes.specs.BookFacts.{facts_with}
 use Rattle.season_nodes.specs.IndexFacts.{IsIndex}
 use Rattle.season_nodes.specs.Season.{SeasonFacts, IsOrder, IsSeason}

@@ -5,7 +5,7 @@ use Rattle.std.proofs.lemmas.Bool.Decides.{nat_tests}
 use Rattle.std.proofs.lemmas.Option.{slice_get_within}
 use Rattle.rule_book.specs.Entries.{entry_in}
 use Rattle.rule_book.specs.declared.cup.Bracket.{Bracket}
-use Rattle.cup_rounds.specs.Shapes.{HasShape}
+use Rattle.leagues_and_cups.specs.Shapes.{HasShape}
 use Rattle.season_nodes.specs.Brackets.{AreBrackets}
 
 same_test : (n m : ℕ) → n ≡ m → (n == m) ≡ true

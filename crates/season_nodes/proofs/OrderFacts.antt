@@ -10,8 +10,8 @@ use Rattle.rule_book.specs.Entries.{entry_in}
 use Rattle.rule_book.specs.LeagueCalls.{is_drawn, is_member, with_member, with_order}
 use Rattle.rule_book.specs.Leagues.{LeagueFacts}
 use Rattle.rule_book.specs.Ranks.{AllDiffer}
-use Rattle.classic_leagues.specs.Books.{CanDraw}
-use Rattle.classic_leagues.proofs.Members.{member_as_before, member_now}
+use Rattle.leagues_and_cups.specs.Books.{CanDraw}
+use Rattle.leagues_and_cups.proofs.Members.{member_as_before, member_now}
 use Rattle.rescore_graph.specs.Graph.{Among}
 use Rattle.season_nodes.specs.Places.{numbered}
 use Rattle.season_nodes.specs.Season.{AreOrders, IsOrder}

@@ -6,7 +6,7 @@ use Rattle.rule_book.specs.Entries.{entry_in}
 use Rattle.rule_book.specs.declared.cup.Bracket.{Bracket}
 use Rattle.rule_book.specs.declared.cup.Side.{Side}
 use Rattle.rule_book.specs.declared.team_score.TeamScore.{TeamScore}
-use Rattle.cup_rounds.specs.Shapes.{HasShape}
+use Rattle.leagues_and_cups.specs.Shapes.{HasShape}
 
 -- the bracket of the cup of a number; one without slots where there is no such cup
 abbrev pub no_bracket : Bracket

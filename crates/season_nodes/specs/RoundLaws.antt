@@ -7,7 +7,7 @@ use Rattle.rule_book.specs.Opponents.{does_meet, opponent_at, opponent_of}
 use Rattle.rule_book.specs.Pairings.{IsOpponent, Meets, places}
 use Rattle.rule_book.specs.declared.pairing.Opponent.{Opponent}
 use Rattle.rule_book.specs.declared.pairing.Opponent.TheVariants.{Place, Average}
-use Rattle.head_to_head.proofs.OpponentFacts.{opponent_is_the_one}
+use Rattle.leagues_and_cups.proofs.OpponentFacts.{opponent_is_the_one}
 use Rattle.season_nodes.specs.Rounds.{has_average, lower, met, place_met}
 
 -- a place that meets another is met by it

@@ -11,7 +11,7 @@ use Rattle.std.proofs.lemmas.Option.{slice_get_within}
 use Rattle.rule_book.specs.Entries.{entry_in}
 use Rattle.rule_book.specs.declared.cup.Bracket.{Bracket}
 use Rattle.rescore_graph.specs.Graph.{Among}
-use Rattle.cup_rounds.specs.Shapes.{IsTieAfter}
+use Rattle.leagues_and_cups.specs.Shapes.{IsTieAfter}
 use Rattle.season_nodes.specs.Brackets.{bracket_in, is_in, no_bracket, ties_after}
 
 same_id : (n m : ℕ) → (n == m) ≡ true → n ≡ m

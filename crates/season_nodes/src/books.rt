@@ -10,9 +10,8 @@ ghost use Rattle.season_nodes.specs.Season.{classic_start, classic_starts, ended
 ghost use Rattle.season_nodes.specs.declared.nodes.Node.{Node};
 
 use crate::nodes::Node;
-use classic_leagues::{League, LeagueKind, Leagues};
-use cup_rounds::Cups;
 use fpl_base::{EntryId, FixtureId, Gw, LeagueId, PlayerId, Position, Profile, ReadCount};
+use leagues_and_cups::{Cups, League, LeagueKind, Leagues};
 use manager_book::ManagerBook;
 use match_facts::MatchFacts;
 use player_market::Players;

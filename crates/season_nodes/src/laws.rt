@@ -3,15 +3,14 @@ ghost use Rattle.std.specs.Prelude.{◌≡◌, Some};
 ghost use Rattle.rule_book.specs.Entries.{entry_in};
 ghost use Rattle.rule_book.specs.Leagues.{LeagueFacts};
 ghost use Rattle.rule_book.specs.declared.cup.Bracket.{Bracket};
-ghost use Rattle.cup_rounds.specs.Shapes.{HasShape};
+ghost use Rattle.leagues_and_cups.specs.Shapes.{HasShape};
 ghost use Rattle.season_nodes.specs.Brackets.{AreBrackets};
 ghost use Rattle.season_nodes.specs.RowsTold.{MatchesAreTold, RowsAreTold};
 ghost use Rattle.season_nodes.specs.Season.{AreOrders, IsOrder};
 ghost use Rattle.season_nodes.specs.TiesTold.{TiesAreTold};
 
-use classic_leagues::{League, Leagues};
-use cup_rounds::{Bracket, Cups};
 use fpl_base::{CupId, LeagueId};
+use leagues_and_cups::{Bracket, Cups, League, Leagues};
 
 /// A law: where each Average and each match holds its own value, a match has what the rule book tells of the two who
 /// meet, and a member's row what it tells of all matches of the member.

@@ -9,7 +9,7 @@ ghost use Rattle.season_nodes.specs.declared.nodes.Node.{Node};
 
 use crate::books::Books;
 use fpl_base::{EntryId, Gw, LeagueId};
-use head_to_head::{opponent, opponent_is_the_one};
+use leagues_and_cups::{opponent, opponent_is_the_one};
 use rule_book::Opponent;
 
 impl Books<'_> {

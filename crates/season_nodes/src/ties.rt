@@ -1,6 +1,6 @@
 // The ties of the cups in the books.
 ghost use Rattle.std.specs.Prelude.{◌≡◌, ◌<◌, ◌≤◌, ◌+◌, ◌*◌, ◌^◌, ℕ, true, length};
-ghost use Rattle.cup_rounds.specs.Places.{places_of};
+ghost use Rattle.leagues_and_cups.specs.Places.{places_of};
 ghost use Rattle.rule_book.specs.Cups.{coin_after};
 ghost use Rattle.season_nodes.specs.BookFacts.{facts_of};
 ghost use Rattle.season_nodes.specs.Brackets.{part_of, ties_after};
@@ -8,8 +8,8 @@ ghost use Rattle.season_nodes.specs.Season.{bracket_of, is_live, is_played, roun
 ghost use Rattle.season_nodes.specs.declared.nodes.Node.{Node};
 
 use crate::books::Books;
-use cup_rounds::coin;
 use fpl_base::{CupId, EntryId, Gw};
+use leagues_and_cups::coin;
 
 impl Books<'_> {
     /// The slots of the cup of a number: of each the number of its entry, or 0. There are none where there is no such cup.

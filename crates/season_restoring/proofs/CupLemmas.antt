@@ -6,9 +6,9 @@ use Rattle.std.specs.Option.{is_some, option_and_then, option_map}
 use Rattle.std.proofs.lemmas.Bool.{cases_eq, eqb-true, leb-false, not-false, or_parts}
 use Rattle.std.proofs.lemmas.Bool.Decides.{nat_tests}
 use Rattle.std.proofs.lemmas.List.{get_or_default}
-use Rattle.cup_rounds.specs.Shapes.{HasShape}
-use Rattle.cup_rounds.proofs.CupTests.{is_cup-Decides}
-use Rattle.cup_rounds.proofs.RoundFacts.{shape_of_cup}
+use Rattle.leagues_and_cups.specs.Shapes.{HasShape}
+use Rattle.leagues_and_cups.proofs.CupTests.{is_cup-Decides}
+use Rattle.leagues_and_cups.proofs.RoundFacts.{shape_of_cup}
 use Rattle.fpl_base.specs.Keeping.{KeysRise, Map, applied_one, is_same_key, map_of, precedes}
 use Rattle.fpl_base.specs.declared.records.Op.TheVariants.{Put}
 use Rattle.fpl_base.specs.declared.records.RecordKey.{RecordKey as Key}

@@ -10,8 +10,8 @@ use Rattle.std.proofs.lemmas.List.Sums.{AllPass-from_list_all}
 use Rattle.std.proofs.lemmas.Map.Made.{is_member-Decides}
 use Rattle.fpl_base.specs.Keeping.{KeysRise, Map, map_of, precedes}
 use Rattle.fpl_base.specs.declared.records.RecordKey.{RecordKey as Key}
-use Rattle.classic_leagues.specs.Books.{IsLeague, league_of}
-use Rattle.head_to_head.proofs.DrawLemmas.{order_of_all}
+use Rattle.leagues_and_cups.specs.Books.{IsLeague, league_of}
+use Rattle.leagues_and_cups.proofs.DrawLemmas.{order_of_all}
 use Rattle.record_fields.specs.FieldReading.{byte_in, kind_at, long_in, short_text_at}
 use Rattle.record_fields.specs.Ranges.{is_id}
 use Rattle.record_fields.specs.Reading.{◌then◌, byte_at, counted, whole_of}

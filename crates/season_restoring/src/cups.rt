@@ -1,7 +1,7 @@
 // The cups of a season.
 ghost use Rattle.std.specs.Prelude.{◌≡◌, ◌<◌, ◌+◌, ◌++◌, [], ◌∷◌, ℕ, IfOk, None, OnOk, length};
 ghost use Rattle.std.specs.Option.{option_map};
-ghost use Rattle.cup_rounds.specs.Shapes.{HasShape};
+ghost use Rattle.leagues_and_cups.specs.Shapes.{HasShape};
 ghost use Rattle.fpl_base.specs.Keeping.{KeysRise, Map, applied_one, map_of};
 ghost use Rattle.fpl_base.specs.declared.records.Op.TheVariants as op;
 ghost use Rattle.season_records.specs.declared.slot.Slot.TheVariants as slot;
@@ -13,8 +13,8 @@ ghost use Rattle.season_records.specs.Records.{cup_item};
 ghost use Rattle.season_restoring.specs.CupRows.{IsCupRow, TellsCups};
 
 use crate::league_parts::of_kind;
-use cup_rounds::Cups;
 use fpl_base::{Bytes, Memory, RecordKey, Refused};
+use leagues_and_cups::Cups;
 use rule_book::Bracket;
 use season_records::{Item, decode};
 use std::alloc::Global;

@@ -4,8 +4,8 @@ ghost use Rattle.store_validation.specs.Lawful.{judged};
 ghost use Rattle.store_validation.specs.LeagueRules.{members_of};
 ghost use Rattle.fpl_base.specs.Keeping.{KeysRise};
 
-use classic_leagues::Ids;
 use fpl_base::{EntryId, LeagueId, Memory};
+use leagues_and_cups::Ids;
 use std::alloc::Global;
 use stored_records::Stored;
 

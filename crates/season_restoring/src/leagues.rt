@@ -13,8 +13,8 @@ ghost use Rattle.season_records.specs.Records.{league_item, member_told};
 ghost use Rattle.season_restoring.specs.LeagueRestoring.{AreLeaguesRestored, GoesOn, IsLeagueRestored, IsMadeOf, LeaguesEnd};
 
 use crate::league_members::members_of;
-use classic_leagues::{League, Leagues};
 use fpl_base::{Bytes, Code, EntryId, Gw, LeagueId, Memory, Name, RecordKey};
+use leagues_and_cups::{League, Leagues};
 use rule_book::LeagueKind;
 use season_book::Order;
 use season_records::{Item, Slot};

@@ -7,7 +7,7 @@ use Rattle.season_nodes.specs.declared.nodes.Node.TheVariants as node
 use Rattle.season_nodes.specs.Brackets.{no_bracket}
 use Rattle.season_nodes.specs.Season.{IsSeason, SeasonFacts, bracket_of, is_live}
 use Rattle.season_nodes.specs.SeasonLaws.{tie_alive}
-use Rattle.cup_rounds.proofs.RoundFacts.{most_slots}
+use Rattle.leagues_and_cups.proofs.RoundFacts.{most_slots}
 use Rattle.season_nodes.specs.TieLaws.{few_rounds}
 
 few_case : (b : SeasonFacts) (is : IsSeason b) (c : ℕ) (o : Option Bracket) → entry_in b.cups c ≡ o → length (unwrap_or o no_bracket).slots ≤ 1024

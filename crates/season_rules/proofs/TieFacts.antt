@@ -5,7 +5,7 @@ use Rattle.std.proofs.lemmas.Bool.Decides.{nat_tests}
 use Rattle.std.proofs.lemmas.List.{drop-drop, drop_more, length-take-le}
 use Rattle.std.proofs.lemmas.List.Elements.{filter-append}
 use Rattle.std.proofs.lemmas.Nat.{div-mul-add, pow_pos}
-use Rattle.cup_rounds.specs.Places.{of_entry, places_of}
+use Rattle.leagues_and_cups.specs.Places.{of_entry, places_of}
 use Rattle.season_nodes.specs.Brackets.{is_in, part_of, ties_after}
 use Rattle.season_nodes.specs.Dependents.{reached}
 use Rattle.season_nodes.specs.Season.{SeasonFacts, bracket_of}

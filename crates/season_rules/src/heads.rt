@@ -12,7 +12,7 @@ ghost use Rattle.season_nodes.specs.declared.nodes.Node.{Node};
 use crate::rules::SeasonCells;
 use crate::totals::net_in;
 use fpl_base::{EntryId, Gw, LeagueId, Memory, ReadCount};
-use head_to_head::{average, head_score};
+use leagues_and_cups::{average, head_score};
 use rule_book::{HeadScore, Opponent};
 use season_nodes::{Books, MatchScores, Node, Value, met};
 use std::alloc::Global;

@@ -7,8 +7,8 @@ ghost use Rattle.season_nodes.specs.Held.{held_values};
 ghost use Rattle.season_nodes.specs.Season.{bracket_of, comer_by, is_played, side_among, side_by, side_held, tie_by, winner_held};
 
 use crate::rules::SeasonCells;
-use cup_rounds::tie;
 use fpl_base::{CupId, EntryId, Gw, ReadCount};
+use leagues_and_cups::tie;
 use rule_book::{Side, TeamScore};
 use season_nodes::{Books, Node, Value};
 use std::sync::ledger::Ledger;

@@ -27,9 +27,8 @@ ghost use Rattle.season_running.specs.EntryLaws.{IsOrderly};
 ghost use Rattle.season_running.specs.Standing.{InStep, Plays};
 ghost use Rattle.season_views.specs.Reads.{reads_allowed, window_reads};
 
-use classic_leagues::Leagues;
-use cup_rounds::Cups;
 use fpl_base::{Caller, CupId, EntryId, Key, LeagueId, Memory, Moment, ReadCount, Rule};
+use leagues_and_cups::{Cups, Leagues};
 use manager_book::ManagerBook;
 use season_book::{Answer, Command, Made, Page, Part, Shown, View, Window};
 use season_competitions::{do_cup, do_league, judge_cup, judge_league, members_stay};

@@ -3,7 +3,7 @@ ghost use Rattle.std.specs.Prelude.{◌≡◌, ◌≤◌, ◌<◌, ◌+◌, ◌/
 ghost use Rattle.std.specs.Option.{option_map_or};
 ghost use Rattle.rule_book.specs.CupRounds.{locked_winners, winners_of};
 ghost use Rattle.rule_book.specs.Entries.{entry_in};
-ghost use Rattle.cup_rounds.specs.Shapes.{HasShape};
+ghost use Rattle.leagues_and_cups.specs.Shapes.{HasShape};
 ghost use Rattle.season_book.specs.LeagueViews.{cup_shown, side_in};
 ghost use Rattle.season_book.specs.declared.shown.Shown.TheVariants as shown_as;
 ghost use Rattle.season_graph.specs.Followed.{AreEvaluated};
@@ -15,8 +15,8 @@ ghost use Rattle.season_views.specs.Reads.{reads_of, ties_of};
 
 use crate::reading::tie_held;
 use crate::seen::{Seen, SeenCells};
-use cup_rounds::{rounds, rounds_follow};
 use fpl_base::{CupId, ListOf, Memory, ReadCount};
+use leagues_and_cups::{rounds, rounds_follow};
 use rule_book::{Bracket, Slots};
 use season_book::ShownCup;
 use season_ledger::rows_tell;

@@ -18,9 +18,8 @@ ghost use Rattle.season_nodes.specs.Held.{held_values};
 ghost use Rattle.season_book.specs.Book.{EntryFacts};
 ghost use Rattle.season_views.specs.Seen.{OfEachSeen};
 
-use classic_leagues::Leagues;
-use cup_rounds::Cups;
 use fpl_base::{EntryId, FixtureId, Gw, Memory, Name, PlayerId, Profile, ReadCount};
+use leagues_and_cups::{Cups, Leagues};
 use manager_book::ManagerBook;
 use player_market::Players;
 use rule_book::{Fixture, Line, Player, Sale, Team};

@@ -20,7 +20,6 @@ ghost use Rattle.season_views.specs.Reads.{window_reads};
 ghost use Rattle.season_views.specs.Seen.{IsKept, OfEachSeen, ShowsEach, WritesEach, WritesShown};
 
 use bootstrap_window::write_bootstrap;
-use classic_leagues::League;
 use entry_windows::{write_entry, write_history, write_picks};
 use fixture_windows::{write_element_summary, write_fixtures};
 use fpl_base::{Caller, CupId, EntryId, Gw, LeagueId, Memory, Name, PlayerId, ReadCount};
@@ -33,6 +32,7 @@ use league_windows::{
     write_classic_standings, write_cup_window, write_head_matches, write_head_standings,
     write_transfers,
 };
+use leagues_and_cups::League;
 use live_windows::{write_dream_team, write_live};
 use rule_book::{Bracket, Fixture, LeagueKind, Line};
 use season_book::{Page, Window};

@@ -13,8 +13,8 @@ ghost use Rattle.stored_records.specs.SeasonRules.{misses, terms_told};
 ghost use Rattle.store_validation.specs.LeagueRules.{cup_breaks, has_gap, has_key, has_other_key, is_answer, is_drawn_wrong, is_league_full, is_registered, issue_breaks, kind_in, last_breaks, league_breaks, leagues_before, member_breaks, plays_from, stands_at_two};
 
 use crate::entry_rules::entry_breaks;
-use cup_rounds::check_draw;
 use fpl_base::{Bytes, CupId, EntryId, Gw, Key, LeagueId, Memory, RecordKey};
+use leagues_and_cups::check_draw;
 use rule_book::LeagueKind;
 use season_book::Command;
 use season_records::{Item, Slot, decode};

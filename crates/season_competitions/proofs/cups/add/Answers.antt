@@ -1,5 +1,5 @@
 use Rattle.std.proofs.Common.{List, ℕ, subst, sym}
-use Rattle.cup_rounds.specs.Shapes.{HasShape}
+use Rattle.leagues_and_cups.specs.Shapes.{HasShape}
 use Rattle.rule_book.specs.declared.cup.Bracket.{Bracket}
 use Rattle.season_competitions.proofs.CupFacts.{can_add}
 use Rattle.season_competitions.proofs.cups.add.Goals as goal

@@ -1,6 +1,6 @@
 use Rattle.std.proofs.Common.{◌≤◌, length, sym, subst, rules}
-use Rattle.cup_rounds.specs.Shapes.{HasShape}
-use Rattle.cup_rounds.proofs.RoundFacts.{most_slots}
+use Rattle.leagues_and_cups.specs.Shapes.{HasShape}
+use Rattle.leagues_and_cups.proofs.RoundFacts.{most_slots}
 use Rattle.season_nodes.proofs.books.Books.slots.Goals as goal
 
 pub returns-in-Some-clause-few : goal.returns-in-Some-clause-few

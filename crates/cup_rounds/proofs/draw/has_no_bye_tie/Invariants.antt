@@ -1,5 +1,0 @@
-use Rattle.std.proofs.Common.{ℕ, ◌≡◌, ◌≢◌, ◌<◌, ◌*◌, ◌+◌, slice_index}
-use Rattle.cup_rounds.proofs.draw.has_no_bye_tie.Given as goal
-
-abbrev pub invariant-ties : goal.invariant-ties
-invariant-ties l = (k : ℕ) → k < l.i → slice_index l.slots (2 * k) ≡ 0 → slice_index l.slots (2 * k + 1) ≢ 0

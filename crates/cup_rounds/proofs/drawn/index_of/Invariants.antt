@@ -1,6 +1,0 @@
-use Rattle.std.proofs.Common.{take}
-use Rattle.cup_rounds.specs.Places.{IsIndex}
-use Rattle.cup_rounds.proofs.drawn.index_of.Given as goal
-
-abbrev pub invariant-loop-place : goal.invariant-loop-place
-invariant-loop-place l = IsIndex (take l.place l.slots) l.rows.items

@@ -1,6 +1,0 @@
-use Rattle.cup_rounds.proofs.CupTests.{unbroken_cup}
-use Rattle.cup_rounds.proofs.RoundFacts.{shape_of_cup}
-use Rattle.cup_rounds.proofs.laws.unbroken_cups_have_shape.Goals as goal
-
-pub returns : goal.returns
-returns c = λ b gameweeks locked none. shape_of_cup b gameweeks (unbroken_cup b gameweeks locked none)
