@@ -130,7 +130,7 @@ impl Standing {
     {
         let mut left = bids;
         let mut outcomes = Vec::new(alloc);
-        'bids: while let Some(place) = self.next_place(left.as_slice()) {
+        while let Some(place) = self.next_place(left.as_slice()) {
             let bid = left.remove(place);
             let outcome = self.settle_one(alloc, &bid)?;
             outcomes.push(outcome)?;

@@ -90,8 +90,8 @@ pub(crate) fn rounds_of(slots: usize) -> Option<u8>
 fn stands_once(slots: &[u32]) -> bool
     ensures { IsTrue result ↔ StandsOnce slots.now }
 {
-    'second: for j in 0..slots.len() {
-        'first: for i in 0..j {
+    for j in 0..slots.len() {
+        for i in 0..j {
             if slots[i] != 0 && slots[i] == slots[j] {
                 return false;
             }
@@ -104,7 +104,7 @@ fn stands_once(slots: &[u32]) -> bool
 fn has_no_bye_tie(slots: &[u32]) -> bool
     ensures { IsTrue result ↔ HasNoByeTie slots.now }
 {
-    'ties: for i in 0..slots.len() / 2 {
+    for i in 0..slots.len() / 2 {
         if slots[2 * i] == 0 && slots[2 * i + 1] == 0 {
             return false;
         }

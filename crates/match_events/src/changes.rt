@@ -52,7 +52,7 @@ fn add_changed(
     ensures few { OnOk result
         (length players.new.items ≤ length players.old.items + length comings.now) }
 {
-    'comings: for event in comings {
+    for event in comings {
         add_comer(players, minutes, told, events, event)?;
     }
     Ok(())

@@ -13,7 +13,7 @@ pub(crate) fn side_of(events: &[Event], player: PlayerId) -> Option<Side>
     ensures { result ≡ side_of events.now player }
 {
     let mut sought = player;
-    'back: for place in (0..events.len()).rev() {
+    for place in (0..events.len()).rev() {
         let event = &events[place];
         if event.brings_on(sought) {
             if matches!(event.kind, EventKind::Start) {

@@ -16,7 +16,7 @@ pub(crate) fn judge(events: &[Event]) -> Result<(), EventRule>
     ensures { MatchResult result (λ _. broken_in events.now ≡ None)
         (λ rule. broken_in events.now ≡ Some rule) }
 {
-    'events: for place in 0..events.len() {
+    for place in 0..events.len() {
         match broken_by(&events[..place], place + 1, &events[place]) {
             Some(rule) => return Err(rule),
             None => {}

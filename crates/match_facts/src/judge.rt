@@ -44,7 +44,7 @@ fn first_twice(lines: &[(PlayerId, Line)]) -> Option<PlayerId>
     ensures { result ≡ first_repeat (players_in lines.now) }
 {
     let mut greatest = 0;
-    'lines: for (place, line) in lines.iter().enumerate() {
+    for (place, line) in lines.iter().enumerate() {
         if is_among(&lines[..place], greatest, line.0) {
             return Some(line.0);
         }
@@ -75,7 +75,7 @@ fn has_line(lines: &[(PlayerId, Line)], player: PlayerId) -> bool
 fn judge_lines(lines: &[(PlayerId, Line)]) -> Result<(), Rule>
     ensures { IsJudged (lines_range lines.now) result }
 {
-    'lines: for line in lines {
+    for line in lines {
         line_ok(&line.1)?;
     }
     Ok(())

@@ -55,7 +55,7 @@ impl Sheet {
             (λ sheet. sheet ≡ record { lines = by_player lines.now; finished = finished }) }
     {
         let mut sheet = Sheet::new(alloc, lines.len(), finished)?;
-        'lines: for line in lines {
+        for line in lines {
             sheet.put(line.0, &line.1)?;
         }
         Ok(sheet)

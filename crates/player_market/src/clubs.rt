@@ -46,7 +46,7 @@ pub(crate) fn first_full_club(
     requires { AreIncomersThere players.now swaps.now }
     ensures { result ≡ first_full_club players.now after.now swaps.now }
 {
-    'swaps: for swap in swaps {
+    for swap in swaps {
         if is_club_full(players, after, swap.into) {
             return Some(club(players, swap.into));
         }

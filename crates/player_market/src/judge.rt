@@ -18,7 +18,7 @@ pub(crate) fn is_held(picks: &[Pick; 15], player: PlayerId) -> bool
 pub(crate) fn pick_of(picks: &[Pick; 15], player: PlayerId) -> Option<Pick>
     ensures { result ≡ pick_of picks.now player }
 {
-    'picks: for pick in picks {
+    for pick in picks {
         if pick.player == player {
             return Some(*pick);
         }
@@ -60,7 +60,7 @@ fn cannot_come(picks: &[Pick; 15], earlier: &[Swap], player: PlayerId) -> bool
 pub(crate) fn first_not_held(picks: &[Pick; 15], swaps: &[Swap]) -> Option<PlayerId>
     ensures { result ≡ first_not_held picks.now swaps.now }
 {
-    'swaps: for (place, swap) in swaps.iter().enumerate() {
+    for (place, swap) in swaps.iter().enumerate() {
         if cannot_go(picks, &swaps[..place], swap.out) {
             return Some(swap.out);
         }
@@ -72,7 +72,7 @@ pub(crate) fn first_not_held(picks: &[Pick; 15], swaps: &[Swap]) -> Option<Playe
 pub(crate) fn first_held(picks: &[Pick; 15], swaps: &[Swap]) -> Option<PlayerId>
     ensures { result ≡ first_held picks.now swaps.now }
 {
-    'swaps: for (place, swap) in swaps.iter().enumerate() {
+    for (place, swap) in swaps.iter().enumerate() {
         if cannot_come(picks, &swaps[..place], swap.into) {
             return Some(swap.into);
         }
@@ -94,7 +94,7 @@ fn is_gone(players: &Players, player: PlayerId) -> bool
 pub(crate) fn first_gone(players: &Players, swaps: &[Swap]) -> Option<PlayerId>
     ensures { result ≡ first_gone players.now swaps.now }
 {
-    'swaps: for swap in swaps {
+    for swap in swaps {
         if is_gone(players, swap.into) {
             return Some(swap.into);
         }
@@ -132,7 +132,7 @@ fn moves_position(players: &Players, picks: &[Pick; 15], swap: Swap) -> bool
 pub(crate) fn first_moved(players: &Players, picks: &[Pick; 15], swaps: &[Swap]) -> Option<PlayerId>
     ensures { result ≡ first_moved players.now picks.now swaps.now }
 {
-    'swaps: for swap in swaps {
+    for swap in swaps {
         if moves_position(players, picks, *swap) {
             return Some(swap.into);
         }

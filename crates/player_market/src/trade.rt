@@ -53,7 +53,7 @@ pub(crate) fn sales_of(players: &Players, picks: &[Pick; 15], swaps: &[Swap]) ->
     ensures cheap { All IsCheap result }
 {
     let mut sales = Sales::none(sale_of(players, picks, swaps[0]));
-    'swaps: for swap in swaps {
+    for swap in swaps {
         sales.push(sale_of(players, picks, *swap));
     }
     sales
@@ -63,7 +63,7 @@ pub(crate) fn sales_of(players: &Players, picks: &[Pick; 15], swaps: &[Swap]) ->
 fn pick_after(sales: &[Sale], pick: Pick) -> Pick
     ensures { result ≡ pick_after sales.now pick }
 {
-    'sales: for sale in sales {
+    for sale in sales {
         if sale.out == pick.player {
             return Pick {
                 player: sale.into,
@@ -94,7 +94,7 @@ fn earned_by(sales: &[Sale]) -> u32
     ensures bound { result ≤ 200 * length sales.now }
 {
     let mut earned = 0;
-    'sales: for sale in sales {
+    for sale in sales {
         earned += sale.sold.get();
     }
     earned
@@ -108,7 +108,7 @@ fn paid_by(sales: &[Sale]) -> u32
     ensures bound { result ≤ 200 * length sales.now }
 {
     let mut paid = 0;
-    'sales: for sale in sales {
+    for sale in sales {
         paid += sale.bought.get();
     }
     paid

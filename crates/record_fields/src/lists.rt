@@ -15,7 +15,7 @@ pub fn append_moments(bytes: &mut Vec<u8>, moments: &[Moment]) -> Result<(), Mem
     ensures written { OnOk result (bytes.new.items ≡ bytes.old.items ++ flat_map (number w64) moments.now) }
     ensures fits { OnOk result (AllByRecursion IsMoment moments.now) }
 {
-    'moments: for moment in moments {
+    for moment in moments {
         append_moment(bytes, *moment)?;
     }
     Ok(())
@@ -33,7 +33,7 @@ pub fn append_figures(bytes: &mut Vec<u8>, figures: &[u16]) -> Result<(), Memory
     ensures written { OnOk result (bytes.new.items ≡ bytes.old.items ++ flat_map (number w16) figures.now) }
     ensures fits { OnOk result (AllByRecursion IsFigure figures.now) }
 {
-    'figures: for figure in figures {
+    for figure in figures {
         append_u16(bytes, *figure)?;
     }
     Ok(())
@@ -44,7 +44,7 @@ pub fn append_order(bytes: &mut Vec<u8>, entries: &[EntryId]) -> Result<(), Memo
     ensures written { OnOk result (bytes.new.items ≡ bytes.old.items ++ flat_map (number w32) entries.now) }
     ensures fits { OnOk result (AllByRecursion IsId entries.now) }
 {
-    'entries: for entry in entries {
+    for entry in entries {
         append_entry(bytes, *entry)?;
     }
     Ok(())
@@ -62,7 +62,7 @@ pub fn append_slots(bytes: &mut Vec<u8>, slots: &[u32]) -> Result<(), Memory>
     ensures written { OnOk result (bytes.new.items ≡ bytes.old.items ++ flat_map (number w32) slots.now) }
     ensures fits { OnOk result (AllByRecursion IsBelow32 slots.now) }
 {
-    'slots: for slot in slots {
+    for slot in slots {
         append_u32(bytes, *slot)?;
     }
     Ok(())
@@ -73,7 +73,7 @@ pub fn append_coins(bytes: &mut Vec<u8>, coins: &[u8]) -> Result<(), Memory>
     ensures written { OnOk result (bytes.new.items ≡ bytes.old.items ++ flat_map byte coins.now) }
     ensures fits { OnOk result (AllByRecursion IsByte coins.now) }
 {
-    'coins: for coin in coins {
+    for coin in coins {
         append_u8(bytes, *coin)?;
     }
     Ok(())
@@ -84,7 +84,7 @@ pub fn append_picks(bytes: &mut Vec<u8>, picks: &[(PlayerId, u16)]) -> Result<()
     ensures written { OnOk result (bytes.new.items ≡ bytes.old.items ++ flat_map pick_bytes picks.now) }
     ensures fits { OnOk result (AllByRecursion IsPick picks.now) }
 {
-    'picks: for pick in picks {
+    for pick in picks {
         append_pick(bytes, *pick)?;
     }
     Ok(())
@@ -102,7 +102,7 @@ fn append_whole_figures(bytes: &mut Vec<u8>, figures: &[u16]) -> Result<(), Memo
     ensures written { OnOk result (bytes.new.items ≡ bytes.old.items ++ flat_map whole figures.now) }
     ensures fits { OnOk result (AllByRecursion IsFigure figures.now) }
 {
-    'figures: for figure in figures {
+    for figure in figures {
         append_u64(bytes, *figure as u64)?;
     }
     Ok(())
@@ -113,7 +113,7 @@ pub fn append_whole_entries(bytes: &mut Vec<u8>, entries: &[EntryId]) -> Result<
     ensures written { OnOk result (bytes.new.items ≡ bytes.old.items ++ flat_map whole entries.now) }
     ensures fits { OnOk result (AllByRecursion IsId entries.now) }
 {
-    'entries: for entry in entries {
+    for entry in entries {
         append_whole_entry(bytes, *entry)?;
     }
     Ok(())
@@ -131,7 +131,7 @@ pub fn append_whole_players(bytes: &mut Vec<u8>, players: &[PlayerId]) -> Result
     ensures written { OnOk result (bytes.new.items ≡ bytes.old.items ++ flat_map whole players.now) }
     ensures fits { OnOk result (AllByRecursion IsPlayer players.now) }
 {
-    'players: for player in players {
+    for player in players {
         append_whole_player(bytes, *player)?;
     }
     Ok(())
@@ -149,7 +149,7 @@ pub fn append_whole_slots(bytes: &mut Vec<u8>, slots: &[u32]) -> Result<(), Memo
     ensures written { OnOk result (bytes.new.items ≡ bytes.old.items ++ flat_map whole slots.now) }
     ensures fits { OnOk result (AllByRecursion IsSlotNumber slots.now) }
 {
-    'slots: for slot in slots {
+    for slot in slots {
         append_u64(bytes, *slot as u64)?;
     }
     Ok(())
@@ -160,7 +160,7 @@ pub fn append_whole_coins(bytes: &mut Vec<u8>, coins: &[u8]) -> Result<(), Memor
     ensures written { OnOk result (bytes.new.items ≡ bytes.old.items ++ flat_map whole coins.now) }
     ensures fits { OnOk result (AllByRecursion IsCoinNumber coins.now) }
 {
-    'coins: for coin in coins {
+    for coin in coins {
         append_u64(bytes, *coin as u64)?;
     }
     Ok(())
@@ -171,7 +171,7 @@ pub fn append_clubs(bytes: &mut Vec<u8>, clubs: &[(ClubId, Name)]) -> Result<(),
     ensures written { OnOk result (bytes.new.items ≡ bytes.old.items ++ flat_map club_bytes clubs.now) }
     ensures fits { OnOk result (AllByRecursion IsClubNamed clubs.now) }
 {
-    'clubs: for club in clubs {
+    for club in clubs {
         append_club(bytes, club)?;
     }
     Ok(())
@@ -182,7 +182,7 @@ pub fn append_rows(bytes: &mut Vec<u8>, rows: &[(PlayerId, Line)]) -> Result<(),
     ensures written { OnOk result (bytes.new.items ≡ bytes.old.items ++ flat_map row_bytes rows.now) }
     ensures fits { OnOk result (AllByRecursion IsRow rows.now) }
 {
-    'rows: for row in rows {
+    for row in rows {
         append_row(bytes, row)?;
     }
     Ok(())
@@ -201,7 +201,7 @@ pub fn append_swaps(bytes: &mut Vec<u8>, swaps: &[Swap]) -> Result<(), Memory>
     ensures written { OnOk result (bytes.new.items ≡ bytes.old.items ++ flat_map swap_bytes swaps.now) }
     ensures fits { OnOk result (AllByRecursion IsSwap swaps.now) }
 {
-    'swaps: for swap in swaps {
+    for swap in swaps {
         append_swap(bytes, *swap)?;
     }
     Ok(())

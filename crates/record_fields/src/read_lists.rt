@@ -67,7 +67,7 @@ impl Reading<'_> {
         ensures { IsRead result self.new (many_at (number_at w16) 28 self.old) }
     {
         let mut figures = [0; 28];
-        'figures: for place in 0..28 {
+        for place in 0..28 {
             let figure = self.u16()?;
             figures[place] = figure;
         }
@@ -79,7 +79,7 @@ impl Reading<'_> {
         ensures { IsRead result self.new (many_at pick_at 15 self.old) }
     {
         let mut picks = [(PlayerId::new(1).unwrap(), 0); 15];
-        'picks: for place in 0..15 {
+        for place in 0..15 {
             let pick = self.pick()?;
             picks[place] = pick;
         }
@@ -173,7 +173,7 @@ impl Reading<'_> {
         ensures { IsRead result self.new (many_at (whole_in 0 65535) 28 self.old) }
     {
         let mut figures = [0; 28];
-        'figures: for place in 0..28 {
+        for place in 0..28 {
             let figure = self.whole_u16()?;
             figures[place] = figure;
         }
@@ -184,7 +184,7 @@ impl Reading<'_> {
         ensures { IsRead result self.new (many_at player_at 15 self.old) }
     {
         let mut players = [PlayerId::new(1).unwrap(); 15];
-        'players: for place in 0..15 {
+        for place in 0..15 {
             let player = self.whole_player()?;
             players[place] = player;
         }

@@ -26,7 +26,7 @@ pub fn are_same_moments(moments: &[Moment], others: &[Moment]) -> bool
     if moments.len() != others.len() {
         return false;
     }
-    'moments: for (place, moment) in moments.iter().enumerate() {
+    for (place, moment) in moments.iter().enumerate() {
         if *moment != others[place] {
             return false;
         }
@@ -41,7 +41,7 @@ pub fn are_same_lines(lines: &[(PlayerId, Line)], others: &[(PlayerId, Line)]) -
     if lines.len() != others.len() {
         return false;
     }
-    'lines: for (place, line) in lines.iter().enumerate() {
+    for (place, line) in lines.iter().enumerate() {
         if !is_same_row(line, &others[place]) {
             return false;
         }
@@ -62,7 +62,7 @@ pub fn are_same_clubs(clubs: &[(ClubId, Name)], others: &[(ClubId, Name)]) -> bo
     if clubs.len() != others.len() {
         return false;
     }
-    'clubs: for (place, club) in clubs.iter().enumerate() {
+    for (place, club) in clubs.iter().enumerate() {
         if !is_same_club(club, &others[place]) {
             return false;
         }
@@ -83,7 +83,7 @@ pub fn are_same_swaps(swaps: &[Swap], others: &[Swap]) -> bool
     if swaps.len() != others.len() {
         return false;
     }
-    'swaps: for (place, swap) in swaps.iter().enumerate() {
+    for (place, swap) in swaps.iter().enumerate() {
         if *swap != others[place] {
             return false;
         }
@@ -98,7 +98,7 @@ pub fn are_same_entries(entries: &[EntryId], others: &[EntryId]) -> bool
     if entries.len() != others.len() {
         return false;
     }
-    'entries: for (place, entry) in entries.iter().enumerate() {
+    for (place, entry) in entries.iter().enumerate() {
         if *entry != others[place] {
             return false;
         }
@@ -113,7 +113,7 @@ pub fn are_same_players(players: &[PlayerId], others: &[PlayerId]) -> bool
     if players.len() != others.len() {
         return false;
     }
-    'players: for (place, player) in players.iter().enumerate() {
+    for (place, player) in players.iter().enumerate() {
         if *player != others[place] {
             return false;
         }
@@ -126,7 +126,7 @@ pub fn copy_of_clubs(clubs: &Clubs) -> Result<Clubs, Memory>
     ensures { IfOk result (λ copy. copy ≡ clubs.now) }
 {
     let mut copy = Clubs::new(clubs.allocator());
-    'clubs: for (club, name) in clubs.as_slice() {
+    for (club, name) in clubs.as_slice() {
         copy.push((*club, name.copy()?))?;
     }
     Ok(copy)

@@ -15,7 +15,7 @@ use std::alloc::Global;
 pub fn row_of(rows: &[Row], g: u8) -> Option<Standing>
     ensures { result ≡ row_at rows.now g }
 {
-    'rows: for row in rows {
+    for row in rows {
         if row.gw.get() == g {
             return Some(row.standing);
         }
@@ -29,7 +29,7 @@ pub fn row_in(rows: &[Row], gameweek: u32) -> Option<&Row>
     ensures standing { option_map (λ row. row.standing) (option_copied result)
         ≡ row_at rows.now gameweek }
 {
-    'rows: for row in rows {
+    for row in rows {
         if u32::from(row.gw.get()) == gameweek {
             return Some(row);
         }
@@ -42,7 +42,7 @@ pub fn base_of(rows: &[Row], g: u8) -> Option<Row>
     ensures { result ≡ base_at rows.now g }
 {
     let mut found = None;
-    'rows: for row in rows {
+    for row in rows {
         if row.gw.get() < g && !is_free_hit(row.standing.team.chip) {
             found = Some(*row);
         }
@@ -114,7 +114,7 @@ pub fn put_in_place(rows: &mut Vec<Row>, g: Gw, standing: &Standing)
 pub fn are_up_to(rows: &[Row], g: u8) -> bool
     ensures { result ≡ is_up_to g rows.now }
 {
-    'rows: for row in rows {
+    for row in rows {
         if row.gw.get() > g {
             return false;
         }
@@ -151,7 +151,7 @@ fn transfers_in(sales: &[(Gw, Sale)], g: u8) -> usize
     ensures most { result ≤ length sales.now }
 {
     let mut count = 0;
-    'sales: for sale in sales {
+    for sale in sales {
         if sale.0.get() == g {
             count += 1;
         }
@@ -180,7 +180,7 @@ pub fn rows_of_records(
     ensures { IfOk result (λ rows. rows.items ≡ rows_of_records teams.now sales.now) }
 {
     let mut rows = Vec::new(alloc);
-    'teams: for team in teams {
+    for team in teams {
         let standing = standing_of_record(sales, team);
         let row = Row {
             gw: team.0,

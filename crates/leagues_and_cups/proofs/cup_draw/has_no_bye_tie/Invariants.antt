@@ -1,5 +1,5 @@
 use Rattle.std.proofs.Common.{ℕ, ◌≡◌, ◌≢◌, ◌<◌, ◌*◌, ◌+◌, slice_index}
 use Rattle.leagues_and_cups.proofs.cup_draw.has_no_bye_tie.Given as goal
 
-abbrev pub invariant-ties : goal.invariant-ties
-invariant-ties l = (k : ℕ) → k < l.i → slice_index l.slots (2 * k) ≡ 0 → slice_index l.slots (2 * k + 1) ≢ 0
+abbrev pub invariant-loop-i : goal.invariant-loop-i
+invariant-loop-i l = (k : ℕ) → k < l.i → slice_index l.slots (2 * k) ≡ 0 → slice_index l.slots (2 * k + 1) ≢ 0

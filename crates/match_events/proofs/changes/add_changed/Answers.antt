@@ -16,11 +16,11 @@ not_before : (a b : Bool) → (a ≡ true → b ≡ true) → b ≡ false → a 
 not_before true b more none = absurd (false≢true (sym none ∙ more refl))
 not_before false b more none = refl
 
-pub comings-preserved : goal.comings-preserved
-comings-preserved c =
-    let at = c.comings in
+pub loop-event-preserved : goal.loop-event-preserved
+loop-event-preserved c =
+    let at = c.loop-event in
     let now = c.in_ok-add_comer.ensures in
-    let here = c.comings-test.true in
+    let here = c.loop-event-test.true in
     record {
       ascending = now.ascending;
       differ = now.differ;

@@ -5,8 +5,8 @@ use Rattle.match_events.specs.Lines.{has_come_on, line_of}
 use Rattle.match_events.specs.Sheets.{IsOther, is_listed}
 use Rattle.match_events.proofs.changes.add_changed.Given as goal
 
-abbrev pub invariant-comings : goal.invariant-comings
-invariant-comings l = record {
+abbrev pub invariant-loop-event : goal.invariant-loop-event
+invariant-loop-event l = record {
   ascending : IsStrictlyIncreasing l.players.items;
   differ : All (IsOther l.minutes l.told l.events) l.players.items;
   more : (p : ℕ) → is_listed l.fn.players.items p ≡ true → is_listed l.players.items p ≡ true;

@@ -3,5 +3,5 @@ use Rattle.match_events.specs.Refusals.{broken_behind, broken_in}
 use Rattle.match_events.proofs.judge.judge.Given as goal
 
 -- what is left to judge decides
-abbrev pub invariant-events : goal.invariant-events
-invariant-events l = broken_behind (take l.place l.events) (drop l.place l.events) ≡ broken_in l.fn.events
+abbrev pub invariant-loop-place : goal.invariant-loop-place
+invariant-loop-place l = broken_behind (take l.place l.events) (drop l.place l.events) ≡ broken_in l.fn.events

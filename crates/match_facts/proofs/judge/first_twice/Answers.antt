@@ -7,20 +7,20 @@ use Rattle.match_facts.proofs.judge.first_twice.Goals as goal
 
 pub returns-then-is_among : goal.returns-then-is_among
 returns-then-is_among c =
-    let player = player_at c.args.lines.now c.lines.place c.index-lines-place.result c.lines-test.true c.index-lines-place.is in
-    let here : is_repeat (players_in c.args.lines.now) c.lines.place ≡ true =
-    is_repeat-players c.args.lines.now c.lines.place c.index-lines-place.result.0 player ∙ sym c.is_among.ensures ∙ c.if-is_among.true in
-    ap Some player ∙ sym (repeat_found (players_in c.args.lines.now) c.lines.place (omega (arith, c.lines-test.true, length-players c.args.lines.now)) here c.lines.invariant.once)
+    let player = player_at c.args.lines.now c.loop-place.place c.index-lines-place.result c.loop-place-test.true c.index-lines-place.is in
+    let here : is_repeat (players_in c.args.lines.now) c.loop-place.place ≡ true =
+    is_repeat-players c.args.lines.now c.loop-place.place c.index-lines-place.result.0 player ∙ sym c.is_among.ensures ∙ c.if-is_among.true in
+    ap Some player ∙ sym (repeat_found (players_in c.args.lines.now) c.loop-place.place (omega (arith, c.loop-place-test.true, length-players c.args.lines.now)) here c.loop-place.invariant.once)
 
-pub lines-preserved : goal.lines-preserved
-lines-preserved c =
-    let player = player_at c.args.lines.now c.lines.place c.index-lines-place.result c.lines-test.true c.index-lines-place.is in
-    let here : is_repeat (players_in c.args.lines.now) c.lines.place ≡ false =
-    is_repeat-players c.args.lines.now c.lines.place c.index-lines-place.result.0 player ∙ sym c.is_among.ensures ∙ c.if-is_among.false in
+pub loop-place-preserved : goal.loop-place-preserved
+loop-place-preserved c =
+    let player = player_at c.args.lines.now c.loop-place.place c.index-lines-place.result c.loop-place-test.true c.index-lines-place.is in
+    let here : is_repeat (players_in c.args.lines.now) c.loop-place.place ≡ false =
+    is_repeat-players c.args.lines.now c.loop-place.place c.index-lines-place.result.0 player ∙ sym c.is_among.ensures ∙ c.if-is_among.false in
     record {
-      once = below_more (λ k. is_repeat (players_in c.args.lines.now) k ≡ false) c.lines.place c.lines.invariant.once here;
-      below = below_next c.args.lines.now c.lines.place c.lines.greatest c.max-greatest.result c.index-lines-place.result c.lines-test.true c.index-lines-place.is (c.max-greatest.ensures ∙ ap (λ n. max c.lines.greatest n) c.get.ensures.value) c.lines.invariant.below;
+      once = below_more (λ k. is_repeat (players_in c.args.lines.now) k ≡ false) c.loop-place.place c.loop-place.invariant.once here;
+      below = below_next c.args.lines.now c.loop-place.place c.loop-place.greatest c.max-greatest.result c.index-lines-place.result c.loop-place-test.true c.index-lines-place.is (c.max-greatest.ensures ∙ ap (λ n. max c.loop-place.greatest n) c.get.ensures.value) c.loop-place.invariant.below;
     }
 
 pub returns : goal.returns
-returns c = sym (no_repeat (players_in c.args.lines.now) (λ k lt. c.lines.invariant.once k (omega (arith, lt, c.lines-test.false, length-players c.args.lines.now))))
+returns c = sym (no_repeat (players_in c.args.lines.now) (λ k lt. c.loop-place.invariant.once k (omega (arith, lt, c.loop-place-test.false, length-players c.args.lines.now))))

@@ -7,7 +7,7 @@ use Rattle.player_market.proofs.clubs.first_full_club.Goals as goal
 pub returns-then-is_club_full : goal.returns-then-is_club_full
 returns-then-is_club_full c =
     ap Some c.club.ensures ∙ ap (λ (s : Swap). Some (club_of c.args.players.now s.into)) c.swap-item.is
-    ∙ sym (full_here c.args.players.now c.args.after.now c.args.swaps.now c.swaps.swap-index c.swap-item.result (search rules) (search rules)) ∙ c.swaps.invariant
+    ∙ sym (full_here c.args.players.now c.args.after.now c.args.swaps.now c.loop-swap.swap-index c.swap-item.result (search rules) (search rules)) ∙ c.loop-swap.invariant
 
-pub swaps-preserved : goal.swaps-preserved
-swaps-preserved c = full_more c.args.players.now c.args.after.now c.args.swaps.now c.swaps.swap-index c.swap-item.result (search rules) (search rules) ∙ c.swaps.invariant
+pub loop-swap-preserved : goal.loop-swap-preserved
+loop-swap-preserved c = full_more c.args.players.now c.args.after.now c.args.swaps.now c.loop-swap.swap-index c.swap-item.result (search rules) (search rules) ∙ c.loop-swap.invariant

@@ -4,5 +4,5 @@ use Rattle.record_fields.specs.Lists.{club_bytes}
 use Rattle.record_fields.specs.Ranges.{IsClubNamed}
 use Rattle.record_fields.proofs.lists.append_clubs.Given as goal
 
-abbrev pub invariant-clubs : goal.invariant-clubs
-invariant-clubs l = (l.bytes.items ≡ l.fn.bytes.items ++ flat_map club_bytes (take l.club-index l.fn.clubs)) × All IsClubNamed (take l.club-index l.fn.clubs)
+abbrev pub invariant-loop-club : goal.invariant-loop-club
+invariant-loop-club l = (l.bytes.items ≡ l.fn.bytes.items ++ flat_map club_bytes (take l.club-index l.fn.clubs)) × All IsClubNamed (take l.club-index l.fn.clubs)

@@ -5,5 +5,5 @@ use Rattle.record_fields.specs.Fields.{number}
 use Rattle.record_fields.specs.Ranges.{IsMoment}
 use Rattle.record_fields.proofs.lists.append_moments.Given as goal
 
-abbrev pub invariant-moments : goal.invariant-moments
-invariant-moments l = (l.bytes.items ≡ l.fn.bytes.items ++ flat_map (number w64) (take l.moment-index l.fn.moments)) × All IsMoment (take l.moment-index l.fn.moments)
+abbrev pub invariant-loop-moment : goal.invariant-loop-moment
+invariant-loop-moment l = (l.bytes.items ≡ l.fn.bytes.items ++ flat_map (number w64) (take l.moment-index l.fn.moments)) × All IsMoment (take l.moment-index l.fn.moments)

@@ -5,5 +5,5 @@ use Rattle.record_fields.specs.Fields.{number}
 use Rattle.record_fields.specs.Ranges.{IsId}
 use Rattle.record_fields.proofs.lists.append_order.Given as goal
 
-abbrev pub invariant-entries : goal.invariant-entries
-invariant-entries l = (l.bytes.items ≡ l.fn.bytes.items ++ flat_map (number w32) (take l.entry-index l.fn.entries)) × All IsId (take l.entry-index l.fn.entries)
+abbrev pub invariant-loop-entry : goal.invariant-loop-entry
+invariant-loop-entry l = (l.bytes.items ≡ l.fn.bytes.items ++ flat_map (number w32) (take l.entry-index l.fn.entries)) × All IsId (take l.entry-index l.fn.entries)

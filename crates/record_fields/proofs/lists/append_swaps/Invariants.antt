@@ -4,5 +4,5 @@ use Rattle.record_fields.specs.Lists.{swap_bytes}
 use Rattle.record_fields.specs.Ranges.{IsSwap}
 use Rattle.record_fields.proofs.lists.append_swaps.Given as goal
 
-abbrev pub invariant-swaps : goal.invariant-swaps
-invariant-swaps l = (l.bytes.items ≡ l.fn.bytes.items ++ flat_map swap_bytes (take l.swap-index l.fn.swaps)) × All IsSwap (take l.swap-index l.fn.swaps)
+abbrev pub invariant-loop-swap : goal.invariant-loop-swap
+invariant-loop-swap l = (l.bytes.items ≡ l.fn.bytes.items ++ flat_map swap_bytes (take l.swap-index l.fn.swaps)) × All IsSwap (take l.swap-index l.fn.swaps)

@@ -3,9 +3,9 @@ use Rattle.record_fields.specs.Ranges.{IsId}
 use Rattle.record_fields.proofs.Each.{all_of_them, one_more_written}
 use Rattle.record_fields.proofs.lists.append_whole_entries.Goals as goal
 
-pub entries-preserved : goal.entries-preserved
-entries-preserved c =
-    one_more_written IsId whole c.args.entries.now c.entries.entry-index c.entry-item.result c.args.bytes.now.items c.entries.bytes.items _ c.entries-test.true c.entry-item.is c.entries.invariant c.in_ok-append_whole_entry.ensures.written c.in_ok-append_whole_entry.ensures.fits
+pub loop-entry-preserved : goal.loop-entry-preserved
+loop-entry-preserved c =
+    one_more_written IsId whole c.args.entries.now c.loop-entry.entry-index c.entry-item.result c.args.bytes.now.items c.loop-entry.bytes.items _ c.loop-entry-test.true c.entry-item.is c.loop-entry.invariant c.in_ok-append_whole_entry.ensures.written c.in_ok-append_whole_entry.ensures.fits
 
 pub returns-clause-fits : goal.returns-clause-fits
-returns-clause-fits c = all_of_them IsId c.args.entries.now c.entries.entry-index c.entries-test.false c.entries.invariant.1
+returns-clause-fits c = all_of_them IsId c.args.entries.now c.loop-entry.entry-index c.loop-entry-test.false c.loop-entry.invariant.1

@@ -4,5 +4,5 @@ use Rattle.record_fields.specs.Fields.{whole}
 use Rattle.record_fields.specs.Ranges.{IsPlayer}
 use Rattle.record_fields.proofs.lists.append_whole_players.Given as goal
 
-abbrev pub invariant-players : goal.invariant-players
-invariant-players l = (l.bytes.items ≡ l.fn.bytes.items ++ flat_map whole (take l.player-index l.fn.players)) × All IsPlayer (take l.player-index l.fn.players)
+abbrev pub invariant-loop-player : goal.invariant-loop-player
+invariant-loop-player l = (l.bytes.items ≡ l.fn.bytes.items ++ flat_map whole (take l.player-index l.fn.players)) × All IsPlayer (take l.player-index l.fn.players)

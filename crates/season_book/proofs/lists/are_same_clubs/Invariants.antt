@@ -1,5 +1,5 @@
 use Rattle.std.proofs.Common.{◌≡◌, take}
 use Rattle.season_book.proofs.lists.are_same_clubs.Given as goal
 
-abbrev pub invariant-clubs : goal.invariant-clubs
-invariant-clubs l = take l.place l.others ≡ take l.place l.clubs
+abbrev pub invariant-loop-place : goal.invariant-loop-place
+invariant-loop-place l = take l.place l.others ≡ take l.place l.clubs

@@ -1,5 +1,5 @@
 use Rattle.std.proofs.Common.{◌≡◌, take}
 use Rattle.season_book.proofs.lists.are_same_moments.Given as goal
 
-abbrev pub invariant-moments : goal.invariant-moments
-invariant-moments l = take l.place l.others ≡ take l.place l.moments
+abbrev pub invariant-loop-place : goal.invariant-loop-place
+invariant-loop-place l = take l.place l.others ≡ take l.place l.moments

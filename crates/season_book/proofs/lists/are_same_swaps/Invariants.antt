@@ -1,5 +1,5 @@
 use Rattle.std.proofs.Common.{◌≡◌, take}
 use Rattle.season_book.proofs.lists.are_same_swaps.Given as goal
 
-abbrev pub invariant-swaps : goal.invariant-swaps
-invariant-swaps l = take l.place l.others ≡ take l.place l.swaps
+abbrev pub invariant-loop-place : goal.invariant-loop-place
+invariant-loop-place l = take l.place l.others ≡ take l.place l.swaps

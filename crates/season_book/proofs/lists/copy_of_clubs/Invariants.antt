@@ -1,5 +1,5 @@
 use Rattle.std.proofs.Common.{◌≡◌, take}
 use Rattle.season_book.proofs.lists.copy_of_clubs.Given as goal
 
-abbrev pub invariant-clubs : goal.invariant-clubs
-invariant-clubs l = l.copy ≡ take l.club-index l.club-items
+abbrev pub invariant-loop-club : goal.invariant-loop-club
+invariant-loop-club l = l.copy ≡ take l.club-index l.club-items

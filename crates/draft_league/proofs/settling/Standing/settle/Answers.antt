@@ -8,9 +8,9 @@ use Rattle.draft_league.proofs.Settlings.{are_fair, are_settled, each_on, none_l
 use Rattle.draft_league.proofs.Tables.{after_all-push, turn_after}
 use Rattle.draft_league.proofs.settling.Standing.settle.Goals as goal
 
-pub bids-preserved : goal.bids-preserved
-bids-preserved c =
-    let here = c.bids in
+pub loop-place-preserved : goal.loop-place-preserved
+loop-place-preserved c =
+    let here = c.loop-place in
     let next : IsNext here.self.order here.left.items c.in-Some.place = rw c.as_slice.ensures.value at c.in-Some.ensures in
     let outcome : Outcome = c.in_ok-outcome.outcome in
     let then_is : c.settle_one.new.self ≡ after here.self outcome = c.in_ok-outcome.ensures.after in
@@ -25,14 +25,14 @@ bids-preserved c =
 
 pub returns-clause-settled : goal.returns-clause-settled
 returns-clause-settled c =
-    let here = c.bids in
+    let here = c.loop-place in
     let none : first_with here.left.items here.self.order ≡ None = first_of (search rules, cc, grind (arith, common_steps)) in
     are_settled c.args.self.now c.args.bids.items here.outcomes.items
     (underway_end c.args.self.now c.args.bids.items here.outcomes.items here.self here.left.items here.invariant.on (none_left here.self.order here.left.items here.invariant.turns none))
 
 pub returns-clause-fair : goal.returns-clause-fair
 returns-clause-fair c =
-    let here = c.bids in
+    let here = c.loop-place in
     let none : first_with here.left.items here.self.order ≡ None = first_of (search rules, cc, grind (arith, common_steps)) in
     are_fair c.args.self.now c.args.bids.items here.outcomes.items
     (underway_end c.args.self.now c.args.bids.items here.outcomes.items here.self here.left.items here.invariant.on (none_left here.self.order here.left.items here.invariant.turns none))

@@ -7,10 +7,10 @@ use Rattle.record_fields.proofs.reading.Reading.figures.Goals as goal
 pub returns-in_err-figure : goal.returns-in_err-figure
 returns-in_err-figure c =
     let p = err_from_is_err_and c.from_residual.result c.from_residual.ensures.1 in
-    rw (p.1, p.2) (fills_ends (number_at w16) c.in_err-figure.field-0.0 c.figures.figures 28 c.figures.place c.figures.self (many_at (number_at w16) 28 c.args.self.now) c.figures-test.true c.in_err-figure.ensures c.figures.invariant)
+    rw (p.1, p.2) (fills_ends (number_at w16) c.in_err-figure.field-0.0 c.loop-place.figures 28 c.loop-place.place c.loop-place.self (many_at (number_at w16) 28 c.args.self.now) c.loop-place-test.true c.in_err-figure.ensures c.loop-place.invariant)
 
-pub figures-preserved : goal.figures-preserved
-figures-preserved c = fills_on (number_at w16) c.figures.figures 28 c.figures.place c.figures.self c.in_ok-figure.figure c.u16.new.self (many_at (number_at w16) 28 c.args.self.now) c.figures-test.true c.in_ok-figure.ensures c.figures.invariant
+pub loop-place-preserved : goal.loop-place-preserved
+loop-place-preserved c = fills_on (number_at w16) c.loop-place.figures 28 c.loop-place.place c.loop-place.self c.in_ok-figure.figure c.u16.new.self (many_at (number_at w16) 28 c.args.self.now) c.loop-place-test.true c.in_ok-figure.ensures c.loop-place.invariant
 
 pub returns : goal.returns
-returns c = is_filled (number_at w16) c.figures.figures 28 c.figures.place c.figures.self (many_at (number_at w16) 28 c.args.self.now) c.figures-test.false c.figures.invariant
+returns c = is_filled (number_at w16) c.loop-place.figures 28 c.loop-place.place c.loop-place.self (many_at (number_at w16) 28 c.args.self.now) c.loop-place-test.false c.loop-place.invariant

@@ -7,10 +7,10 @@ use Rattle.record_fields.proofs.reading.Reading.whole_players.Goals as goal
 pub returns-in_err-player : goal.returns-in_err-player
 returns-in_err-player c =
     let p = err_from_is_err_and c.from_residual.result c.from_residual.ensures.1 in
-    rw (p.1, p.2) (fills_ends player_at c.in_err-player.field-0.0 c.players.players 15 c.players.place c.players.self (many_at player_at 15 c.args.self.now) c.players-test.true c.in_err-player.ensures c.players.invariant)
+    rw (p.1, p.2) (fills_ends player_at c.in_err-player.field-0.0 c.loop-place.players 15 c.loop-place.place c.loop-place.self (many_at player_at 15 c.args.self.now) c.loop-place-test.true c.in_err-player.ensures c.loop-place.invariant)
 
-pub players-preserved : goal.players-preserved
-players-preserved c = fills_on player_at c.players.players 15 c.players.place c.players.self c.in_ok-player.player c.whole_player.new.self (many_at player_at 15 c.args.self.now) c.players-test.true c.in_ok-player.ensures c.players.invariant
+pub loop-place-preserved : goal.loop-place-preserved
+loop-place-preserved c = fills_on player_at c.loop-place.players 15 c.loop-place.place c.loop-place.self c.in_ok-player.player c.whole_player.new.self (many_at player_at 15 c.args.self.now) c.loop-place-test.true c.in_ok-player.ensures c.loop-place.invariant
 
 pub returns : goal.returns
-returns c = is_filled player_at c.players.players 15 c.players.place c.players.self (many_at player_at 15 c.args.self.now) c.players-test.false c.players.invariant
+returns c = is_filled player_at c.loop-place.players 15 c.loop-place.place c.loop-place.self (many_at player_at 15 c.args.self.now) c.loop-place-test.false c.loop-place.invariant
