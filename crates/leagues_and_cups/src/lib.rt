@@ -14,7 +14,7 @@ mod league;
 mod leagues;
 mod matches;
 mod memberships;
-mod rounds;
+mod opponents;
 mod shape;
 mod ties;
 
@@ -32,7 +32,7 @@ pub use head_table::rank_head_to_head;
 pub use league::{Ids, League};
 pub use leagues::Leagues;
 pub use matches::{average, head_score, result};
-pub use rounds::opponent;
+pub use opponents::opponent;
 pub use rule_book::{
     Bracket, Coins, HeadRanked, HeadScore, LeagueKind, Opponent, Ranked, Side, Slots,
 };

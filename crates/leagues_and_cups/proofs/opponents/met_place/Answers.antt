@@ -2,8 +2,8 @@ use Rattle.std.proofs.Common.{◌≡◌, ◌<◌, ◌+◌, ◌-◌, ◌*◌, ◌
 use Rattle.std.proofs.Math.Nat.{mod-lt}
 use Rattle.rule_book.specs.Pairings.{Meets}
 use Rattle.leagues_and_cups.proofs.RoundLemmas.{Linear, Wraps, from_linear, last_meets, other_meets, self_meets}
-use Rattle.leagues_and_cups.proofs.rounds.met_place.Goals.{then-place-turn, else-place-turn}
-use Rattle.leagues_and_cups.proofs.rounds.met_place.Goals as goal
+use Rattle.leagues_and_cups.proofs.opponents.met_place.Goals.{then-place-turn, else-place-turn}
+use Rattle.leagues_and_cups.proofs.opponents.met_place.Goals as goal
 
 -- the last place's
 last_place : (n k i j : ℕ) → n % 2 ≡ 0 → 0 < n → i ≡ n - 1 → Wraps (n - 1) (k % (n - 1)) (2 * j) → k % (n - 1) < n - 1 → Meets n k i j
