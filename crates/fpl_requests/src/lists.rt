@@ -55,7 +55,7 @@ fn each_moment(alloc: Global, values: Items<'_, '_>) -> Result<Moments, ReadFaul
 {
     let mut list = Moments::new(alloc);
     let mut rest = values;
-    'items: while let Some(value) = rest.next_number() {
+    while let Some(value) = rest.next_number() {
         let one = moment_entry(value, FieldName::Deadlines)?;
         list.push(one)?;
     }
@@ -82,7 +82,7 @@ fn each_club(alloc: Global, values: Items<'_, '_>) -> Result<Clubs, ReadFault>
 {
     let mut list = Clubs::new(alloc);
     let mut rest = values;
-    'items: while let Some(value) = rest.next() {
+    while let Some(value) = rest.next() {
         let one = club(alloc, &value)?;
         list.push(one)?;
     }
@@ -147,7 +147,7 @@ fn each_figure(alloc: Global, values: Items<'_, '_>) -> Result<Vec<u16>, ReadFau
 {
     let mut list = Vec::with_capacity(alloc, 28)?;
     let mut rest = values;
-    'items: while let Some(value) = rest.next_number() {
+    while let Some(value) = rest.next_number() {
         let one = entry(value, FieldName::Figures, 0, 65_535)?;
         list.push(one as u16)?;
     }
@@ -173,7 +173,7 @@ fn each_line(alloc: Global, values: Items<'_, '_>) -> Result<Lines, ReadFault>
 {
     let mut list = Lines::new(alloc);
     let mut rest = values;
-    'items: while let Some(value) = rest.next() {
+    while let Some(value) = rest.next() {
         let one = player_line(alloc, &value)?;
         list.push(one)?;
     }
@@ -198,7 +198,7 @@ fn each_player(alloc: Global, values: Items<'_, '_>) -> Result<Vec<PlayerId>, Re
 {
     let mut list = Vec::with_capacity(alloc, 15)?;
     let mut rest = values;
-    'items: while let Some(value) = rest.next_number() {
+    while let Some(value) = rest.next_number() {
         let one = player_entry(value, FieldName::Players)?;
         list.push(one)?;
     }
@@ -224,7 +224,7 @@ fn each_swap(alloc: Global, values: Items<'_, '_>) -> Result<Swaps, ReadFault>
 {
     let mut list = Swaps::new(alloc);
     let mut rest = values;
-    'items: while let Some(value) = rest.next() {
+    while let Some(value) = rest.next() {
         let one = swap(&value)?;
         list.push(one)?;
     }
@@ -258,7 +258,7 @@ fn each_entry(alloc: Global, values: Items<'_, '_>) -> Result<Order, ReadFault>
 {
     let mut list = Order::new(alloc);
     let mut rest = values;
-    'items: while let Some(value) = rest.next_number() {
+    while let Some(value) = rest.next_number() {
         let one = drawn_entry(value, FieldName::Order)?;
         list.push(one)?;
     }
@@ -284,7 +284,7 @@ fn each_slot(alloc: Global, values: Items<'_, '_>) -> Result<Slots, ReadFault>
 {
     let mut list = Slots::new(alloc);
     let mut rest = values;
-    'items: while let Some(value) = rest.next_number() {
+    while let Some(value) = rest.next_number() {
         let one = entry(value, FieldName::Slots, 0, 4_294_967_295)?;
         list.push(one as u32)?;
     }
@@ -311,7 +311,7 @@ fn each_coin(alloc: Global, values: Items<'_, '_>) -> Result<Coins, ReadFault>
 {
     let mut list = Coins::new(alloc);
     let mut rest = values;
-    'items: while let Some(value) = rest.next_number() {
+    while let Some(value) = rest.next_number() {
         let one = entry(value, FieldName::Coins, 0, 1)?;
         list.push(one as u8)?;
     }

@@ -6,10 +6,10 @@ use Rattle.fpl_requests.proofs.ListLemmas.{with_front}
 use Rattle.fpl_requests.proofs.lists.each_entry.Given as goal
 
 -- the entries so far and those of what is left are those of all
-abbrev pub invariant-items : goal.invariant-items
-invariant-items l =
+abbrev pub invariant-loop-value : goal.invariant-loop-value
+invariant-loop-value l =
     with_front l.list (each (entry field.Order 1 4294967295) (seen l.rest))
     ≡ each (entry field.Order 1 4294967295) (seen l.initial.rest)
 
-abbrev pub decreases-items : goal.decreases-items
-decreases-items l = length l.rest
+abbrev pub decreases-loop-value : goal.decreases-loop-value
+decreases-loop-value l = length l.rest
