@@ -1,6 +1,5 @@
 pub mod AgreeFacts
 pub mod AtId
-pub mod Deadlines
 pub mod Examples
 pub mod OrderFacts
 pub mod Placed

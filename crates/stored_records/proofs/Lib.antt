@@ -1,5 +1,6 @@
 pub mod Alike
 pub mod Bases
+pub mod Deadlines
 pub mod Found
 pub mod Loops
 pub mod Members
