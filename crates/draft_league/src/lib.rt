@@ -1,5 +1,5 @@
 //! Draft leagues (docs/RULES.md, "Draft leagues"): members pick players in turns until each has fifteen, bid for free
-//! ones, and waivers settle the bids of a gameweek. Each player has at most one owner.
+//! ones, and waivers settle the bids of a gameweek. A player has at most one owner.
 #![tactic(auto)]
 
 mod draft;

@@ -1,5 +1,5 @@
 //! A match by its events: a list into which one event is inserted or from which one is taken, the line of each player by
-//! these events, and whose line changed since that was asked last.
+//! these events, and whose line changed since that was asked last (docs/RULES.md, "A match by its events").
 #![tactic(auto)]
 
 mod changes;

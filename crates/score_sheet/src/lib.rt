@@ -1,5 +1,5 @@
 //! One match as rows of comma-separated values, and what its players score: the bytes of a file or of the standard
-//! input in, and the text for them out.
+//! input in, and the text for them out (docs/FORMATS.md).
 #![tactic(auto)]
 
 mod laws;

@@ -1,5 +1,5 @@
 //! The season as its definitions have it: what can be asked, what is answered and shown, the book, the verdict on each
-//! request, that no command acts twice, and that no reply hangs on what another manager did in an open gameweek
+//! request, that no command acts twice, and that no reply to one manager hangs on what another manager did in an open gameweek
 //! (docs/RULES.md, "What a manager sees"). No call of this crate changes a season.
 #![tactic(auto)]
 
