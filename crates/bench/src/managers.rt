@@ -5,7 +5,7 @@ ghost use Rattle.rule_book.specs.Players.{player_of};
 
 use crate::Plan;
 use fpl_base::{ClubId, EntryId, Gw, Key, Name, PlayerId, Position, Profile, ReadCount, Tenths};
-use manager_book::ManagerBook;
+use manager_book::{ManagerBook, judge_lineup, judge_squad};
 use player_market::{Player, Players};
 use std::alloc::Global;
 use std::marker::Brand;
@@ -149,11 +149,14 @@ fn entered(
         return None;
     }
     let first = Gw::new(1)?;
-    let registered = book.register(e, Some(first), players, squad, squad[5], squad[6]);
-    if registered.is_err() {
-        return None;
+    let deed = match judge_squad(book.issued(e), first, players, squad, squad[5], squad[6]) {
+        Ok(deed) => deed,
+        Err(_) => return None,
+    };
+    match book.keep(e, &deed) {
+        Ok(()) => Some(e),
+        Err(_) => None,
     }
-    Some(e)
 }
 
 // An entry changes its lineup in a gameweek.
@@ -164,10 +167,14 @@ fn lined(book: &mut ManagerBook, e: EntryId, g: u8, squad: &[PlayerId; 15]) -> O
     }
     let captain = squad[usize::from(g.get() % 10) + 1];
     let vice = squad[usize::from((g.get() + 1) % 10) + 1];
-    if book.lineup(e, Some(g), squad, captain, vice).is_err() {
-        return None;
+    let deed = match judge_lineup(book.issued(e), g, squad, captain, vice) {
+        Ok(deed) => deed,
+        Err(_) => return None,
+    };
+    match book.keep(e, &deed) {
+        Ok(()) => Some(1),
+        Err(_) => None,
     }
-    Some(1)
 }
 
 // Makes the calls, over all entries in turn, and answers what they told together.

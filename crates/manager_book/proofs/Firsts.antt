@@ -1,5 +1,5 @@
 -- A first squad, bought at present prices.
-use Rattle.std.proofs.Common.{◌≡◌, ◌≤◌, ◌+◌, ◌∷◌, [], ◌++◌, ℕ, List, Option, Some, None, map, refl, sym, ap, subst, nat_eq}
+use Rattle.std.proofs.Common.{◌≡◌, ◌≤◌, ◌∷◌, [], ◌++◌, ℕ, List, Option, Some, None, map, refl, sym, ap, subst, nat_eq}
 use Rattle.std.specs.List.{AllByRecursion as Each}
 use Rattle.std.specs.Option.{option_map, option_to_list}
 use Rattle.fpl_base.specs.declared.kinds.Position.{Position}

@@ -8,3 +8,4 @@ pub mod Changed
 pub mod Alike
 pub mod Restored
 pub mod Risen
+pub mod Worked

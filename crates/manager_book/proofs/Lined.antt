@@ -1,5 +1,5 @@
 -- The fifteen in another order.
-use Rattle.std.proofs.Common.{◌≡◌, ◌≢◌, ◌<◌, ◌≤◌, ◌+◌, ◌⊎◌, ◌∷◌, [], ◌++◌, ℕ, zero, suc, Bool, true, false, cond, not, ◌||◌, List, Option, Some, None, Result, Ok, Err, IfOk, length, map, take, drop, set, get_or, arith, refl, sym, ap, ◌∙◌, subst, ⊎_elim, nat_eq}
+use Rattle.std.proofs.Common.{◌≡◌, ◌≢◌, ◌<◌, ◌≤◌, ◌+◌, ◌∷◌, [], ◌++◌, ℕ, zero, suc, Bool, true, false, cond, not, ◌||◌, List, Option, Some, None, Result, Ok, Err, IfOk, length, map, take, drop, set, get_or, arith, refl, sym, ap, ◌∙◌, subst, ⊎_elim, nat_eq}
 use Rattle.std.specs.List.{AllByRecursion as Each, flat_map}
 use Rattle.std.specs.Prelude.{find, All, AllPairs}
 use Rattle.std.specs.Option.{option_to_list}

@@ -17,7 +17,7 @@ use Rattle.rule_book.specs.HistoryTransfers.{used_before}
 use Rattle.rule_book.specs.Repeats.{first_repeat}
 use Rattle.rule_book.specs.Squads.{players_of}
 use Rattle.season_ledger.specs.declared.row.Row.{Row}
-use Rattle.season_ledger.specs.Rows.{standing_at, team_in, chip_by, used_by, first_in, put_row, IsFitTeam}
+use Rattle.season_ledger.specs.Rows.{standing_at, team_in, chip_by, used_by, first_in, IsFitTeam}
 use Rattle.season_ledger.specs.Batches.{BatchOn, LineupOn}
 use Rattle.season_ledger.specs.Stands.{IsPlaced, StandsFor}
 
@@ -80,34 +80,8 @@ pub record IsFirstOf (players : List Player) (squad : List ℕ) (c v : ℕ) (u :
   pub bank : u.bank + cost_of u.picks ≡ 1000
   pub chip : u.chip ≡ NoChip
 
--- A batch moves money and counts exactly by its sales: they are those of the team before, the gameweek has so many
--- transfers more, and its row has the team after them.
-pub record Moves (g : ℕ) (players : List Player) (swaps : List Swap) (sales : List Sale) (old new : List Row) : Type 0 where
-  pub before : Team
-  pub after : Team
-  pub stood : team_at old g ≡ Some before
-  pub sold : sales ≡ sales_of players before.picks swaps
-  pub team : IsTeamAfter sales before after
-  pub rows : new ≡ put_row old g (record { made = used_by old g + length sales; team = after })
-
--- A first squad changes the rows of its entry by one row more, in its gameweek: the team that it makes, without
--- transfers.
-pub record Registers (g : ℕ) (players : List Player) (squad : List ℕ) (c v : ℕ) (old new : List Row) : Type 0 where
-  pub team : Team
-  pub first : IsFirstOf players squad c v team
-  pub rows : new ≡ put_row old g (record { made = 0; team = team })
-
--- A lineup changes the row of its gameweek alone: it has the team in this order, and as many transfers as before.
-pub record LinesUp (g : ℕ) (order : List ℕ) (c v : ℕ) (old new : List Row) : Type 0 where
-  pub before : Team
-  pub after : Team
-  pub stood : team_at old g ≡ Some before
-  pub lined : IsLined order c v before after
-  pub rows : new ≡ put_row old g (record { made = used_by old g; team = after })
-
--- What the calls above come to before anything is kept.
-
--- a batch on the team that stands: its sales, the team after it, and that it fits the rows
+-- A batch on the team that stands moves money exactly by its sales: they are those of the team before, and the team is
+-- the one after them. It fits the rows.
 pub record IsBatchOf (g : ℕ) (players : List Player) (swaps : List Swap) (rows : List Row) (sales : List Sale) (after : Team) : Type 0 where
   pub before : Team
   pub stood : team_at rows g ≡ Some before
@@ -120,7 +94,7 @@ pub record IsBatchOf (g : ℕ) (players : List Player) (swaps : List Swap) (rows
   pub placed : (position : ℕ → Position) (h : List Event)
       → HavePositions position players → StandsFor position rows h → IsPlaced position after.picks
 
--- an order of the team that stands: the team in it, and that it fits the rows
+-- an order of the team that stands: the team in it, which fits the rows
 pub record IsLineupOf (g : ℕ) (order : List ℕ) (c v : ℕ) (rows : List Row) (after : Team) : Type 0 where
   pub before : Team
   pub stood : team_at rows g ≡ Some before

@@ -1,39 +1,35 @@
 //! The entries of a season.
-ghost use Rattle.std.specs.Prelude.{◌≡◌, ◌≢◌, ◌<◌, ◌≤◌, ◌+◌, ◌++◌, ◌∷◌, ℕ, List, [], None, Some, length, OnOk, OnErr, IfOk, option_copied, slice_get, ◌-◌, map, All, IsSome, IsNone, IsTrue, ◌↔◌, IfSome, if◌then◌else◌};
-ghost use Rattle.fpl_base.specs.declared.kinds.Chip.TheVariants.{None as NoChip};
+ghost use Rattle.std.specs.Prelude.{◌≡◌, ◌<◌, ◌≤◌, ◌+◌, ◌++◌, ◌∷◌, ℕ, List, [], None, Some, length, OnOk, OnErr, IfOk, option_copied, slice_get, ◌-◌, IsNone, IsTrue, ◌↔◌, IfSome, if◌then◌else◌};
 ghost use Rattle.fpl_base.specs.declared.kinds.Position.{Position};
-ghost use Rattle.rule_book.specs.Batch.{HavePositions, AreIncomersThere};
 ghost use Rattle.rule_book.specs.Entries.{most_entries};
-ghost use Rattle.rule_book.specs.Players.{player_of};
 ghost use Rattle.rule_book.specs.EntryRecords.{AreEntryRecords, HasRecords};
 ghost use Rattle.rule_book.specs.History.{Event, in_gameweek};
-ghost use Rattle.rule_book.specs.History.Deed.{First, Swap as Swapped, Lineup, Play, Cancel};
 ghost use Rattle.rule_book.specs.HistoryRules.{FirstTold, IsHistory};
-ghost use Rattle.rule_book.specs.HistoryTeam.{TeamTold, TeamBalances, holdings};
+ghost use Rattle.rule_book.specs.HistoryTeam.{TeamTold, TeamBalances};
 ghost use Rattle.rule_book.specs.HistoryTransfers.{FreeTold, cost_at, counted_through};
 ghost use Rattle.rule_book.specs.Refusals.{IsJudged, IsJudgedOrOut};
-ghost use Rattle.season_ledger.specs.Rows.{AllUpTo, put_chip, used_by, first_in, free_in, cost_by, counted_by, rows_of_records};
+ghost use Rattle.season_ledger.specs.Rows.{AllUpTo, first_in, free_in, cost_by, counted_by, rows_of_records};
 ghost use Rattle.season_ledger.specs.Stands.{StandsFor};
-ghost use Rattle.rule_book.specs.EntryCalls.{in_next, slot_of, picks_from};
-ghost use Rattle.manager_book.specs.Calls.{team_at, register_broken, transfer_broken, Moves, LinesUp, Registers, lineup_broken, play_broken, cancel_broken, with_gameweek};
+ghost use Rattle.manager_book.specs.Calls.{team_at};
+ghost use Rattle.manager_book.specs.Deeds.{Fits, HasPlaced, deeds_of, gameweek_of, rows_behind, sales_made};
 ghost use Rattle.manager_book.specs.Managers.{Managers, AreRisen, IsSameBut, season_of, sales_of, key_of, name_of, entry_with, issue_refusal, managers_had, rekeyed};
 ghost use Rattle.manager_book.specs.Indexed.{number_at};
 ghost use Rattle.std.specs.Str.{bytes_eq};
 
-use crate::batch::transfer;
-use crate::chips::{cancel, play};
+use crate::deed::JudgedDeed;
 use crate::entry_sales::EntrySales;
-use crate::lineup::line_up;
+use crate::keep::keep;
 use crate::manager::Manager;
-use crate::register::register;
-use fpl_base::{Chip, EntryId, Gw, Key, Memory, Name, PlayerId, Profile, ReadCount, Refused, Rule};
-use player_market::{Players, Sales};
-use rule_book::{Sale, Swap, Team};
+use fpl_base::{EntryId, Gw, Key, Memory, Name, PlayerId, Profile, ReadCount, Refused, Rule};
+use rule_book::{Sale, Team};
 use season_ledger::Entry;
 use std::alloc::Global;
 use std::collections::BTreeMap;
 use std::marker::Model;
 use std::sync::ledger::Ledger;
+
+// So many entries are in a season at most.
+const MOST_ENTRIES: u32 = 2048;
 
 /// The entries of a season, numbered from 1 in the order of issue, at most 2,048. An entry is registered once its first
 /// squad was accepted.
@@ -169,8 +165,8 @@ impl ManagerBook {
         }
     }
 
-    // The season of an entry that was issued.
-    pub(crate) fn issued(&self, e: EntryId) -> &Entry
+    /// The season of an entry that was issued.
+    pub fn issued(&self, e: EntryId) -> &Entry
         requires { e ≤ length self.now.managers }
         ensures { result.now ≡ season_of self.now e }
     {
@@ -308,203 +304,25 @@ impl ManagerBook {
         self.counted_in(e, through)
     }
 
-    /// Registers an entry by its first squad, each player bought at his present price, out of 100.0 million.
-    ///
-    /// The first of these that holds refuses it: `SeasonOver`, every gameweek is locked; `Registered`; `PlayerGone`;
-    /// then what `check_squad` answers; `OverBudget`; then what `check_lineup` answers, a captain or vice-captain who
-    /// is not among the fifteen being `Captain`.
-    pub fn register(
-        &mut self,
-        e: EntryId,
-        next: Option<Gw>,
-        players: &Players,
-        squad: &[PlayerId; 15],
-        captain: PlayerId,
-        vice: PlayerId,
-    ) -> Result<(), Refused>
+    /// Keeps what judging worked out of an entry's season, as it is: the row of the gameweek, and the sales behind the
+    /// entry's others. Nothing is judged again; unchanged where memory is wanting.
+    pub fn keep(&mut self, e: EntryId, deed: &JudgedDeed) -> Result<(), Memory>
         requires issued { e ≤ length self.old.managers }
-        requires there { All (λ id. IsSome (player_of players.now id)) squad.now }
-        ensures rows { (g : ℕ) → next ≡ Some g
-            → OnOk result
-            (Registers g players.now squad.now (slot_of squad.now captain) (slot_of squad.now vice)
-            (season_of self.old e) (season_of self.new e)) }
-        ensures judged { IsJudgedOrOut
-            (in_next next
-            (λ _. register_broken (season_of self.old e) players.now squad.now
-            (slot_of squad.now captain) (slot_of squad.now vice))) result }
-        ensures history { (position : ℕ → Position) (h : List Event) (g : ℕ)
-            → HavePositions position players.now → StandsFor position (season_of self.old e) h
-            → next ≡ Some g
+        requires fits { Fits (season_of self.old e) deed.now }
+        ensures rows { OnOk result
+            (season_of self.new e ≡ rows_behind (season_of self.old e) deed.now) }
+        ensures sales { OnOk result
+            (sales_of self.new e ≡ sales_of self.old e ++ sales_made deed.now) }
+        ensures history { (position : ℕ → Position) (h : List Event) → HasPlaced position deed.now
+            → StandsFor position (season_of self.old e) h
             → OnOk result
             (StandsFor position (season_of self.new e)
-            (h ++ in_gameweek g
-            (First (holdings (picks_from players.now squad.now)) (slot_of squad.now captain)
-            (slot_of squad.now vice) ∷ []))) }
-        ensures sales { sales_of self.new e ≡ sales_of self.old e }
+            (h ++ in_gameweek (gameweek_of deed.now) (deeds_of deed.now))) }
         ensures others { IsSameBut e self.old self.new }
         ensures err { OnErr result (self.new ≡ self.old) }
     {
-        let Some(g) = next else {
-            return Err(Refused::Rule(Rule::SeasonOver));
-        };
         let manager = &mut self.managers[e.get() as usize - 1];
-        let done = register(&mut manager.season, g, players, squad, captain, vice);
-        // The law that the rows rise, for the prover.
-        manager.season.keeps_rows();
-        done
-    }
-
-    /// Makes a batch of 1 to 15 transfers. It answers how many transfers the gameweek had before, and the sales, which stand
-    /// behind the entry's others from then on.
-    ///
-    /// The first of these that holds refuses it: `SeasonOver`; `NotRegistered`; `TransferLimit`, the gameweek would have
-    /// more than 20 transfers, or more than 1,000 in the first gameweek and under a wildcard or a free hit; then what
-    /// `apply` answers.
-    pub fn transfer(
-        &mut self,
-        e: EntryId,
-        next: Option<Gw>,
-        players: &Players,
-        swaps: &[Swap],
-    ) -> Result<(u32, Sales), Refused>
-        requires issued { e ≤ length self.old.managers }
-        requires later { IfSome next (λ g. AllUpTo g (season_of self.old e)) }
-        requires some { 0 < length swaps.now }
-        requires few { length swaps.now ≤ 15 }
-        requires there { AreIncomersThere players.now swaps.now }
-        ensures judged { IsJudgedOrOut
-            (in_next next (transfer_broken (season_of self.old e) players.now swaps.now)) result }
-        ensures before { (g : ℕ) → next ≡ Some g
-            → IfOk result (λ done. done.0 ≡ used_by (season_of self.old e) g) }
-        ensures moves { (g : ℕ) → next ≡ Some g
-            → IfOk result
-            (λ done. Moves g players.now swaps.now done.1 (season_of self.old e)
-            (season_of self.new e)) }
-        ensures history { (position : ℕ → Position) (h : List Event) (g : ℕ)
-            → HavePositions position players.now → StandsFor position (season_of self.old e) h
-            → next ≡ Some g
-            → IfOk result
-            (λ done. StandsFor position (season_of self.new e)
-            (h ++ in_gameweek g (map Swapped done.1))) }
-        ensures sales { (g : ℕ) → next ≡ Some g
-            → IfOk result
-            (λ done. sales_of self.new e ≡ sales_of self.old e ++ with_gameweek g done.1) }
-        ensures others { IsSameBut e self.old self.new }
-        ensures err { OnErr result (self.new ≡ self.old) }
-    {
-        let Some(g) = next else {
-            return Err(Refused::Rule(Rule::SeasonOver));
-        };
-        let manager = &mut self.managers[e.get() as usize - 1];
-        let done = transfer(&mut manager.season, &mut manager.sales, g, players, swaps);
-        // The law that the rows rise, for the prover.
-        manager.season.keeps_rows();
-        done
-    }
-
-    /// Puts an entry's fifteen into another order, with other armbands.
-    ///
-    /// The first of these that holds refuses it: `SeasonOver`; `NotRegistered`; `NotHeld`, the first of the players whom
-    /// the team does not have; `Twice`, the first who repeats an earlier one; then what `check_lineup` answers, a
-    /// captain or vice-captain who is not among the fifteen being `Captain`.
-    pub fn lineup(
-        &mut self,
-        e: EntryId,
-        next: Option<Gw>,
-        order: &[PlayerId; 15],
-        captain: PlayerId,
-        vice: PlayerId,
-    ) -> Result<(), Refused>
-        requires issued { e ≤ length self.old.managers }
-        requires later { IfSome next (λ g. AllUpTo g (season_of self.old e)) }
-        ensures rows { (g : ℕ) → next ≡ Some g
-            → OnOk result
-            (LinesUp g order.now (slot_of order.now captain) (slot_of order.now vice)
-            (season_of self.old e) (season_of self.new e)) }
-        ensures judged { IsJudgedOrOut
-            (in_next next
-            (lineup_broken (season_of self.old e) order.now (slot_of order.now captain)
-            (slot_of order.now vice))) result }
-        ensures history { (position : ℕ → Position) (h : List Event) (g : ℕ)
-            → StandsFor position (season_of self.old e) h → next ≡ Some g
-            → OnOk result
-            (StandsFor position (season_of self.new e)
-            (h ++ in_gameweek g
-            (Lineup order.now (slot_of order.now captain) (slot_of order.now vice) ∷ []))) }
-        ensures sales { sales_of self.new e ≡ sales_of self.old e }
-        ensures others { IsSameBut e self.old self.new }
-        ensures err { OnErr result (self.new ≡ self.old) }
-    {
-        let Some(g) = next else {
-            return Err(Refused::Rule(Rule::SeasonOver));
-        };
-        let manager = &mut self.managers[e.get() as usize - 1];
-        let done = line_up(&mut manager.season, g, order, captain, vice);
-        // The law that the rows rise, for the prover.
-        manager.season.keeps_rows();
-        done
-    }
-
-    /// Plays a chip. `split` is the last gameweek of the season's first half.
-    ///
-    /// The first of these that holds refuses it: `SeasonOver`; `NotRegistered`; `ChipEarly`, a wildcard or a free hit
-    /// in the entry's first gameweek; `ChipPlayed`, a chip stands in the gameweek; `ChipUsed`, the chip was played in
-    /// an earlier gameweek, for a wildcard in one of the same half.
-    pub fn play_chip(
-        &mut self,
-        e: EntryId,
-        next: Option<Gw>,
-        split: u8,
-        chip: Chip,
-    ) -> Result<(), Refused>
-        requires issued { e ≤ length self.old.managers }
-        requires later { IfSome next (λ g. AllUpTo g (season_of self.old e)) }
-        requires chip { chip ≢ NoChip }
-        ensures rows { (g : ℕ) → next ≡ Some g
-            → OnOk result (season_of self.new e ≡ put_chip (season_of self.old e) g chip) }
-        ensures judged { IsJudgedOrOut
-            (in_next next (play_broken (season_of self.old e) split chip)) result }
-        ensures history { (position : ℕ → Position) (h : List Event) (g : ℕ)
-            → StandsFor position (season_of self.old e) h → next ≡ Some g
-            → OnOk result
-            (StandsFor position (season_of self.new e) (h ++ in_gameweek g (Play chip ∷ []))) }
-        ensures sales { sales_of self.new e ≡ sales_of self.old e }
-        ensures others { IsSameBut e self.old self.new }
-        ensures err { OnErr result (self.new ≡ self.old) }
-    {
-        let Some(g) = next else {
-            return Err(Refused::Rule(Rule::SeasonOver));
-        };
-        let manager = &mut self.managers[e.get() as usize - 1];
-        let done = play(&mut manager.season, g, split, chip);
-        // The law that the rows rise, for the prover.
-        manager.season.keeps_rows();
-        done
-    }
-
-    /// Takes back the chip of the next gameweek, as if it had not been played.
-    ///
-    /// The first of these that holds refuses it: `SeasonOver`; `NotRegistered`; `NoChip`, none stands; `ChipFixed`, a
-    /// wildcard or a free hit stands.
-    pub fn cancel_chip(&mut self, e: EntryId, next: Option<Gw>) -> Result<(), Rule>
-        requires issued { e ≤ length self.old.managers }
-        requires later { IfSome next (λ g. AllUpTo g (season_of self.old e)) }
-        ensures rows { (g : ℕ) → next ≡ Some g
-            → OnOk result (season_of self.new e ≡ put_chip (season_of self.old e) g NoChip) }
-        ensures judged { IsJudged (in_next next (cancel_broken (season_of self.old e))) result }
-        ensures history { (position : ℕ → Position) (h : List Event) (g : ℕ)
-            → StandsFor position (season_of self.old e) h → next ≡ Some g
-            → OnOk result
-            (StandsFor position (season_of self.new e) (h ++ in_gameweek g (Cancel ∷ []))) }
-        ensures sales { sales_of self.new e ≡ sales_of self.old e }
-        ensures others { IsSameBut e self.old self.new }
-        ensures err { OnErr result (self.new ≡ self.old) }
-    {
-        let Some(g) = next else {
-            return Err(Rule::SeasonOver);
-        };
-        let manager = &mut self.managers[e.get() as usize - 1];
-        let done = cancel(&mut manager.season, g);
+        let done = keep(&mut manager.season, &mut manager.sales, deed);
         // The law that the rows rise, for the prover.
         manager.season.keeps_rows();
         done
@@ -576,6 +394,21 @@ impl ManagerBook {
         manager.name = name;
         // The law that the rows rise, for the prover.
         manager.season.keeps_rows();
+        Ok(())
+    }
+
+    /// Whether an entry with this key may be issued: what `issue` refuses for.
+    pub fn judge_issue(&self, key: &Key) -> Result<(), Rule>
+        ensures judged { IsJudged (issue_refusal self.now key.now) result }
+        ensures room { OnOk result (length self.now.managers < most_entries) }
+        ensures fresh { OnOk result (entry_with self.now key.now ≡ None) }
+    {
+        if self.entries() >= MOST_ENTRIES {
+            return Err(Rule::EntriesFull);
+        }
+        if self.entry_of(key).is_some() {
+            return Err(Rule::KeyThere);
+        }
         Ok(())
     }
 

@@ -1,16 +1,15 @@
 // Another order of the fifteen.
-ghost use Rattle.std.specs.Prelude.{◌≡◌, ◌++◌, ◌∷◌, ℕ, List, [], None, Some, OnOk, OnErr, IfOk, MatchResult};
-ghost use Rattle.fpl_base.specs.declared.kinds.Position.{Position};
+ghost use Rattle.std.specs.Prelude.{◌≡◌, List, None, Some, IfOk, MatchResult};
 ghost use Rattle.rule_book.specs.Batch.{pick_of};
-ghost use Rattle.rule_book.specs.History.{Event, in_gameweek};
-ghost use Rattle.rule_book.specs.History.Deed.{Lineup};
-ghost use Rattle.rule_book.specs.Refusals.{IsJudged, IsJudgedOrOut};
+ghost use Rattle.rule_book.specs.declared.player.Player.{Player};
+ghost use Rattle.rule_book.specs.Refusals.{IsJudged};
 ghost use Rattle.season_ledger.specs.Rows.{AllUpTo};
-ghost use Rattle.season_ledger.specs.Stands.{StandsFor};
-ghost use Rattle.rule_book.specs.EntryCalls.{slot_of, first_stranger, lined_picks, order_refusal};
-ghost use Rattle.manager_book.specs.Calls.{lineup_broken, order_broken, IsLined, IsLineupOf, LinesUp};
+ghost use Rattle.rule_book.specs.EntryCalls.{slot_of, first_stranger, lined_picks, lineup_deeds, order_refusal};
+ghost use Rattle.manager_book.specs.Calls.{order_broken, IsLined};
+ghost use Rattle.manager_book.specs.Deeds.{IsLineupDeed, IsWorkedOut};
 
-use fpl_base::{Gw, PlayerId, Refused, Rule};
+use crate::deed::JudgedDeed;
+use fpl_base::{Gw, PlayerId, Rule};
 use rule_book::{Pick, Team};
 use season_ledger::Entry;
 use squad_rules::{check_lineup, first_repeat, positions_of};
@@ -80,55 +79,30 @@ fn team_lined(team: &Team, order: &[PlayerId; 15], captain: u8, vice: u8) -> Res
     })
 }
 
-/// The team of a gameweek in another order, with other armbands, unless a rule refuses it. It takes no memory.
+/// An entry's fifteen in another order, with other armbands: the team in it. It takes no memory.
+///
+/// The first of these that holds refuses it: `NotRegistered`; `NotHeld`, the first of the players whom the team does not
+/// have; `Twice`, the first who repeats an earlier one; then what `check_lineup` answers, a captain or vice-captain who
+/// is not among the fifteen being `Captain`.
 pub fn judge_lineup(
     season: &Entry,
     g: Gw,
     order: &[PlayerId; 15],
     captain: PlayerId,
     vice: PlayerId,
-) -> Result<Team, Rule>
+) -> Result<JudgedDeed, Rule>
     requires later { AllUpTo g season.now }
     ensures judged { IsJudged (order_broken season.now order.now captain vice g) result }
-    ensures lineup { IfOk result
-        (IsLineupOf g order.now (slot_of order.now captain) (slot_of order.now vice) season.now) }
+    ensures lineup { IfOk result (IsLineupDeed g order.now captain vice season.now) }
+    ensures worked { (players : List Player)
+        → IfOk result
+        (IsWorkedOut g players season.now (λ _. lineup_deeds order.now captain vice)) }
 {
     let Some(standing) = season.standing(g) else {
         return Err(Rule::NotRegistered);
     };
     let captain = slot_of(order, captain);
     let vice = slot_of(order, vice);
-    team_lined(&standing.team, order, captain, vice)
-}
-
-/// Puts the fifteen of a gameweek's team into another order, with other armbands.
-pub fn line_up(
-    season: &mut Entry,
-    g: Gw,
-    order: &[PlayerId; 15],
-    captain: PlayerId,
-    vice: PlayerId,
-) -> Result<(), Refused>
-    requires later { AllUpTo g season.old }
-    ensures judged { IsJudgedOrOut
-        (lineup_broken season.old order.now (slot_of order.now captain) (slot_of order.now vice) g)
-        result }
-    ensures rows { OnOk result
-        (LinesUp g order.now (slot_of order.now captain)
-        (slot_of order.now vice) season.old season.new) }
-    ensures history { (position : ℕ → Position) (h : List Event) → StandsFor position season.old h
-        → OnOk result
-        (StandsFor position season.new
-        (h ++ in_gameweek g
-        (Lineup order.now (slot_of order.now captain) (slot_of order.now vice) ∷ []))) }
-    ensures err { OnErr result (season.new ≡ season.old) }
-{
-    let after = match judge_lineup(season, g, order, captain, vice) {
-        Ok(after) => after,
-        Err(rule) => return Err(Refused::Rule(rule)),
-    };
-    match season.lineup(g, &after) {
-        Ok(()) => Ok(()),
-        Err(_) => Err(Refused::Memory),
-    }
+    let team = team_lined(&standing.team, order, captain, vice)?;
+    Ok(JudgedDeed::Lineup { gameweek: g, team })
 }

@@ -1,19 +1,16 @@
 // A first squad.
-ghost use Rattle.std.specs.Prelude.{◌≡◌, ◌≤◌, ◌+◌, ◌++◌, ◌∷◌, ℕ, List, [], IsSome, IfSome, OnOk, OnErr, IfOk, All, find};
+ghost use Rattle.std.specs.Prelude.{◌≡◌, ◌≤◌, IsSome, IfSome, IfOk, All, find};
 ghost use Rattle.std.specs.Option.{option_map};
-ghost use Rattle.fpl_base.specs.declared.kinds.Position.{Position};
-ghost use Rattle.rule_book.specs.Batch.{is_gone, HavePositions};
-ghost use Rattle.rule_book.specs.History.{Event, in_gameweek};
-ghost use Rattle.rule_book.specs.History.Deed.{First};
-ghost use Rattle.rule_book.specs.HistoryTeam.{holdings};
+ghost use Rattle.rule_book.specs.Batch.{is_gone};
 ghost use Rattle.rule_book.specs.Players.{player_of};
-ghost use Rattle.rule_book.specs.Refusals.{IsJudged, IsJudgedOrOut};
-ghost use Rattle.season_ledger.specs.Stands.{StandsFor};
-ghost use Rattle.rule_book.specs.EntryCalls.{pick_from, picks_from, clubs_of, cost_of, slot_of, first_refusal};
-ghost use Rattle.manager_book.specs.Calls.{register_broken, squad_broken, IsFirstOf, Registers};
+ghost use Rattle.rule_book.specs.Refusals.{IsJudged};
+ghost use Rattle.rule_book.specs.EntryCalls.{pick_from, picks_from, clubs_of, cost_of, first_refusal, squad_deeds};
+ghost use Rattle.manager_book.specs.Calls.{squad_broken, IsFirstOf};
+ghost use Rattle.manager_book.specs.Deeds.{IsSquadDeed, IsWorkedOut};
 
+use crate::deed::JudgedDeed;
 use crate::lineup::slot_of;
-use fpl_base::{Chip, ClubId, Gw, PlayerId, Refused, Rule, Tenths};
+use fpl_base::{Chip, ClubId, Gw, PlayerId, Rule, Tenths};
 use player_market::Players;
 use rule_book::{Pick, Team};
 use season_ledger::Entry;
@@ -148,64 +145,32 @@ fn first_team(
     })
 }
 
-/// The first team of an entry, unless a rule refuses it. It takes no memory.
+/// A first squad, each player bought at his present price, out of 100.0 million: the team. It takes no memory.
+///
+/// The first of these that holds refuses it: `Registered`; `PlayerGone`; then what `check_squad` answers; `OverBudget`;
+/// then what `check_lineup` answers, a captain or vice-captain who is not among the fifteen being `Captain`.
 pub fn judge_squad(
     season: &Entry,
-    players: &Players,
-    squad: &[PlayerId; 15],
-    captain: PlayerId,
-    vice: PlayerId,
-) -> Result<Team, Rule>
-    requires { All (λ id. IsSome (player_of players.now id)) squad.now }
-    ensures judged { IsJudged (squad_broken season.now players.now squad.now captain vice) result }
-    ensures new { OnOk result (season.now ≡ []) }
-    ensures team { IfOk result
-        (IsFirstOf players.now squad.now (slot_of squad.now captain) (slot_of squad.now vice)) }
-{
-    if season.first().is_some() {
-        return Err(Rule::Registered);
-    }
-    first_team(
-        players,
-        squad,
-        slot_of(squad, captain),
-        slot_of(squad, vice),
-    )
-}
-
-/// Registers an entry by its first squad, each bought at his present price.
-pub fn register(
-    season: &mut Entry,
     g: Gw,
     players: &Players,
     squad: &[PlayerId; 15],
     captain: PlayerId,
     vice: PlayerId,
-) -> Result<(), Refused>
+) -> Result<JudgedDeed, Rule>
     requires { All (λ id. IsSome (player_of players.now id)) squad.now }
-    ensures judged { IsJudgedOrOut
-        (register_broken season.old players.now squad.now (slot_of squad.now captain)
-        (slot_of squad.now vice)) result }
-    ensures rows { OnOk result
-        (Registers g players.now squad.now (slot_of squad.now captain)
-        (slot_of squad.now vice) season.old season.new) }
-    ensures history { (position : ℕ → Position) (h : List Event)
-        → HavePositions position players.now → StandsFor position season.old h
-        → OnOk result
-        (StandsFor position season.new
-        (h ++ in_gameweek g
-        (First (holdings (picks_from players.now squad.now)) (slot_of squad.now captain)
-        (slot_of squad.now vice) ∷ []))) }
-    ensures err { OnErr result (season.new ≡ season.old) }
+    ensures judged { IsJudged (squad_broken season.now players.now squad.now captain vice) result }
+    ensures squad { IfOk result (IsSquadDeed g players.now squad.now captain vice) }
+    ensures worked { IfOk result
+        (IsWorkedOut g players.now season.now
+        (λ _. squad_deeds players.now squad.now captain vice)) }
 {
-    let team = match judge_squad(season, players, squad, captain, vice) {
-        Ok(team) => team,
-        Err(rule) => return Err(Refused::Rule(rule)),
-    };
     // That the players of a season have prices in range, for the prover.
     let _count = players.len();
-    match season.register(g, &team) {
-        Ok(()) => Ok(()),
-        Err(_) => Err(Refused::Memory),
+    if season.first().is_some() {
+        return Err(Rule::Registered);
     }
+    let captain = slot_of(squad, captain);
+    let vice = slot_of(squad, vice);
+    let team = first_team(players, squad, captain, vice)?;
+    Ok(JudgedDeed::Squad { gameweek: g, team })
 }

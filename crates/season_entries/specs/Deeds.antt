@@ -14,9 +14,11 @@ use Rattle.season_ledger.specs.Rows.{AllUpTo}
 use Rattle.season_ledger.specs.Stands.{StandsFor}
 use Rattle.manager_book.specs.declared.manager.Manager.{Manager}
 use Rattle.manager_book.specs.Calls.{cancel_broken, order_broken, play_broken, squad_broken, transfer_broken}
+use Rattle.manager_book.specs.declared.deed.JudgedDeed.{JudgedDeed}
+use Rattle.manager_book.specs.Deeds.{IsWorkedOut}
 use Rattle.manager_book.specs.Managers.{IsSameBut, Managers, sales_of, season_of}
 use Rattle.season_book.specs.Book.{EntryFacts, Facts, histories_with}
-use Rattle.season_book.specs.EntryCommands.{deed_refusal, history_after, names_players}
+use Rattle.season_book.specs.EntryCommands.{deed_refusal, deeds_in, history_after, names_players}
 use Rattle.season_book.specs.declared.answer.Answer.{Answer}
 use Rattle.season_book.specs.declared.answer.Answer.TheVariants as answer
 use Rattle.season_book.specs.declared.command.Command.{Command}
@@ -58,6 +60,15 @@ IsJudgedByBooks facts managers e command judged = (entries : List EntryFacts) (e
 pub record IsDeedGranted (facts : Facts) (rows : List Row) (command : Command) : Type 0 where
   pub there : names_players facts command ≡ true
   pub unbroken : rows_refusal facts rows command ≡ None
+
+-- What judging it works out.
+
+-- a command was judged in the next gameweek by the rows of its entry: what was worked out fits them, and adds to each history
+-- what the command does in that gameweek
+pub record IsDeedJudged (facts : Facts) (rows : List Row) (command : Command) (deed : JudgedDeed) : Type 0 where
+  pub gameweek : ℕ
+  pub next : next_gameweek facts.calendar ≡ Some gameweek
+  pub worked : IsWorkedOut gameweek facts.players rows (λ h. deeds_in facts h command gameweek) deed
 
 -- When it can be done.
 

@@ -5,7 +5,7 @@ ghost use Rattle.season_book.specs.Commands.{IsCommand};
 ghost use Rattle.season_book.specs.Doing.{IsStoreless};
 ghost use Rattle.season_book.specs.declared.answer.Answer.TheVariants as answer_of;
 ghost use Rattle.season_records.specs.Touched.{touched};
-ghost use Rattle.season_running.specs.Accepting.{IsGrantedTo, IsTaken, IsTakenOrOut};
+ghost use Rattle.season_running.specs.Accepting.{IsGrantedTo, IsTaken, IsTakenOrOut, IsWorkedOut};
 ghost use Rattle.season_running.specs.Standing.{Plays};
 ghost use Rattle.season_cells.specs.Plans.{IsPlanOf, lines_named};
 ghost use Rattle.season_host.specs.Accepted.{IsBegunAndKept, made_in, made_of};
@@ -17,7 +17,7 @@ use record_changes::{touched, touched_first};
 use season_book::{Answer, Command, Made};
 use season_cells::{Plan, planned, plans_lead};
 use season_records::Slot;
-use season_running::{Lasts, RunningSeason, begun, change, keep};
+use season_running::{Judged, Lasts, RunningSeason, begun, change, keep};
 use std::alloc::Global;
 use std::sync::ledger::Ledger;
 
@@ -61,9 +61,9 @@ pub fn accept<L: Ledger>(
     ensures refused { IfErr result (λ reply. reply ≢ answer_of.Memory → steps.new ≤ steps.old + 1) }
 {
     match running.judge(operator, caller, now, command, steps) {
-        Ok(()) => match touched(alloc, running, caller, command) {
+        Ok(judged) => match touched(alloc, running, caller, command) {
             Ok(slots) => match change_as(
-                alloc, running, lasts, caller, now, number, command, steps,
+                alloc, running, lasts, caller, now, number, command, &judged, steps,
             ) {
                 Ok((made, plan)) => Ok(Done {
                     made,
@@ -87,17 +87,19 @@ fn change_as<L: Ledger>(
     now: Moment,
     number: u64,
     command: &Command,
+    judged: &Judged,
     steps: &mut ReadCount<L>,
 ) -> Result<(Made, Plan), Memory>
     requires read { IsCommand command.now }
     requires granted { IsGrantedTo running.old caller.now now command.now }
+    requires worked { IsWorkedOut running.old caller.now command.now judged.now }
     ensures taken { IsTakenOrOut caller.now now number command.now running.old running.new lasts.old
         lasts.new (made_of result) }
     ensures leads { IfOk result (λ done. LeadsFrom running.old running.new done.1) }
     ensures counted { steps.new ≤ steps.old + lines_named running.old.facts command.now }
 {
     let plan = planned(alloc, running.season(), running.leagues(), command, steps)?;
-    let made = change_by(running, lasts, caller, now, number, command, &plan)?;
+    let made = change_by(running, lasts, caller, now, number, command, judged, &plan)?;
     Ok((made, plan))
 }
 
@@ -109,10 +111,12 @@ fn change_by(
     now: Moment,
     number: u64,
     command: &Command,
+    judged: &Judged,
     plan: &Plan,
 ) -> Result<Made, Memory>
     requires read { IsCommand command.now }
     requires granted { IsGrantedTo running.old caller.now now command.now }
+    requires worked { IsWorkedOut running.old caller.now command.now judged.now }
     requires plan { IsPlanOf running.old.facts running.old.leagues command.now plan.now }
     ensures taken { IsTakenOrOut caller.now now number command.now running.old running.new lasts.old
         lasts.new result }
@@ -121,7 +125,7 @@ fn change_by(
     // The laws by which a season stands behind it, for the prover: of before, and of what is left.
     plans_lead();
     running.keeps_rows();
-    let made = change(running, lasts, caller, now, number, command)?;
+    let made = change(running, lasts, caller, now, number, command, judged)?;
     running.keeps_rows();
     running.season().keeps_facts();
     Ok(made)

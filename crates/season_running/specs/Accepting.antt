@@ -23,8 +23,10 @@ use Rattle.season_book.specs.declared.part.Part.TheVariants as part
 use Rattle.season_competitions.specs.Cups.{IsCupGranted}
 use Rattle.season_competitions.specs.Leagues.{IsLeagueGranted}
 use Rattle.season_entries.specs.Amended.{CanAmend}
-use Rattle.season_entries.specs.Deeds.{IsDeedGranted}
+use Rattle.season_entries.specs.Deeds.{IsDeedGranted, IsDeedJudged}
 use Rattle.season_entries.specs.Keys.{IsRekeyGranted}
+use Rattle.season_running.specs.declared.judged.Judged.{Judged}
+use Rattle.season_running.specs.declared.judged.Judged.TheVariants as judged_as
 use Rattle.season_running.specs.Standing.{HostRows, Plays, Running, StandsIn}
 
 -- what a command makes, where nothing refuses it: a new entry, league or cup has the next number
@@ -68,6 +70,31 @@ IsGrantedIn part.Cups running e now command = IsCupGranted running.facts running
 
 abbrev pub IsGrantedTo : Running → Caller → ℕ → Command → Type 0
 IsGrantedTo running caller now command = IsGrantedIn (part_of command) running (caller_number caller) now command
+
+-- the part of the season that was judged
+abbrev pub part_judged : Judged → Part
+part_judged judged_as.Facts = part.Facts
+part_judged judged_as.Players = part.Players
+part_judged judged_as.Entries = part.Entries
+part_judged judged_as.Keys = part.Keys
+part_judged (judged_as.Deed deed) = part.Deeds
+part_judged judged_as.Leagues = part.Leagues
+part_judged judged_as.Cups = part.Cups
+
+-- a manager's command comes to what was worked out; nothing is said of another
+abbrev pub ComesTo : Running → ℕ → Command → Judged → Type 0
+ComesTo running e command (judged_as.Deed deed) = IsDeedJudged running.facts (manager_in running.managers e).season command deed
+ComesTo running e command other = ⊤
+
+-- what judging a command worked out: it is of the command's part, and a manager's command comes to it
+pub record IsWorkedOut (running : Running) (caller : Caller) (command : Command) (worked : Judged) : Type 0 where
+  pub part : part_judged worked ≡ part_of command
+  pub deed : ComesTo running (caller_number caller) command worked
+
+-- whether it was refused, without what it comes to
+abbrev pub refused_in : {T : Type 0} → Result T Answer → Result ⊤ Answer
+refused_in (Ok value) = Ok tt
+refused_in (Err reply) = Err reply
 
 -- an answer that refuses by a rule, or because something is not there
 abbrev pub IsRefusal : Answer → Type 0

@@ -2,9 +2,10 @@
 ghost use Rattle.std.specs.Prelude.{ℕ, IfErr, OnOk};
 ghost use Rattle.season_book.specs.Commands.{IsCommand};
 ghost use Rattle.season_book.specs.Doing.{IsStoreless};
-ghost use Rattle.season_running.specs.Accepting.{IsBegun, IsGrantedTo, IsKept, IsTakenOrOut};
+ghost use Rattle.season_running.specs.Accepting.{IsBegun, IsGrantedTo, IsKept, IsTakenOrOut, IsWorkedOut};
 ghost use Rattle.season_running.specs.Changed.{IsChangedBy};
 
+use crate::judged::Judged;
 use crate::lasts::{LastCommand, Lasts};
 use crate::running::RunningSeason;
 use fpl_base::{Caller, Memory, Moment, Rule};
@@ -12,7 +13,7 @@ use season_book::{Answer, Command, Made};
 use season_facts::Season;
 use std::alloc::Global;
 
-/// Does a command that nothing refuses on a running season (`RunningSeason::judge`), and keeps it as its caller's last one
+/// Does a command that nothing refuses on a running season, by what `RunningSeason::judge` worked out, and keeps it as its caller's last one
 /// under this number; tells what it made. It is put among the last commands before the season is changed, since the change
 /// may not be taken back, and what stood there is put back where memory is wanting.
 pub fn change(
@@ -22,16 +23,18 @@ pub fn change(
     now: Moment,
     number: u64,
     command: &Command,
+    judged: &Judged,
 ) -> Result<Made, Memory>
     requires read { IsCommand command.now }
     requires granted { IsGrantedTo running.old caller.now now command.now }
+    requires worked { IsWorkedOut running.old caller.now command.now judged.now }
     ensures taken { IsTakenOrOut caller.now now number command.now running.old running.new lasts.old
         lasts.new result }
     ensures changed { OnOk result (IsChangedBy caller.now command.now running.old running.new) }
 {
     let made = running.made_by(command);
     let before = keep(lasts, caller, number, command, &made)?;
-    match running.change(caller, now, command) {
+    match running.change(caller, now, command, judged) {
         Ok(()) => {
             drop(before);
             Ok(made)

@@ -3,11 +3,13 @@
 #![tactic(auto)]
 
 mod accepting;
+mod judged;
 mod lasts;
 mod laws;
 mod running;
 
 pub use accepting::{begun, change, keep};
+pub use judged::Judged;
 pub use lasts::{LastCommand, Lasts};
 pub use laws::{batches_move_money, moments_keep_entries, money_is_recorded, rows_tell_histories};
 pub use running::RunningSeason;

@@ -8,6 +8,7 @@ ghost use Rattle.fpl_base.specs.declared.kinds.Caller.{Caller};
 ghost use Rattle.manager_book.specs.Managers.{AreRisen, manager_in};
 ghost use Rattle.season_book.specs.Book.{Book, caller_number, last_number};
 ghost use Rattle.season_book.specs.Commands.{IsCommand, part_of};
+ghost use Rattle.season_book.specs.declared.command.Command.{Command};
 ghost use Rattle.season_book.specs.Doing.{IsGranted, IsShown, IsStoreless};
 ghost use Rattle.season_book.specs.Verdict.{fact_shown, locked_at, page_of, ruled, seen_in, shown_or_unknown};
 ghost use Rattle.season_book.specs.declared.answer.Answer.TheVariants as answer;
@@ -16,20 +17,21 @@ ghost use Rattle.season_book.specs.declared.request.View.TheVariants as view;
 ghost use Rattle.season_book.specs.declared.shown.Shown.{Shown};
 ghost use Rattle.season_competitions.specs.Cups.{IsCupGranted};
 ghost use Rattle.season_competitions.specs.Leagues.{IsLeagueGranted};
-ghost use Rattle.season_entries.specs.Deeds.{IsDeedGranted};
+ghost use Rattle.season_entries.specs.Deeds.{IsDeedJudged};
 ghost use Rattle.season_entries.specs.Keys.{keys_of};
 ghost use Rattle.season_book.specs.Hosts.{entry_with};
 ghost use Rattle.season_facts.specs.Judged.{CountsJudged};
-ghost use Rattle.season_running.specs.Accepting.{HasRoom, IsAmendable, IsOpen, IsDone, IsGrantedTo, IsRefusal, IsRuled, made_by};
+ghost use Rattle.season_running.specs.Accepting.{HasRoom, IsAmendable, IsOpen, IsDone, IsGrantedTo, IsRefusal, IsRuled, IsWorkedOut, made_by, refused_in};
 ghost use Rattle.season_running.specs.Changed.{IsChangedBy};
 ghost use Rattle.season_running.specs.Kept.{AreKeptBy};
 ghost use Rattle.season_running.specs.EntryLaws.{IsOrderly};
 ghost use Rattle.season_running.specs.Standing.{InStep, Plays};
 ghost use Rattle.season_views.specs.Reads.{reads_allowed, window_reads};
 
+use crate::judged::Judged;
 use fpl_base::{Caller, CupId, EntryId, Key, LeagueId, Memory, Moment, ReadCount, Rule};
 use leagues_and_cups::{Cups, Leagues};
-use manager_book::ManagerBook;
+use manager_book::{JudgedDeed, ManagerBook};
 use season_book::{Answer, Command, Made, Page, Part, Shown, View, Window};
 use season_competitions::{do_cup, do_league, judge_cup, judge_league, members_stay};
 use season_entries::{
@@ -187,23 +189,42 @@ impl RunningSeason {
         now: Moment,
         command: &Command,
         steps: &mut ReadCount<L>,
-    ) -> Result<(), Answer>
+    ) -> Result<Judged, Answer>
         requires { IsCommand command.now }
         ensures granted { OnOk result (IsGrantedTo self.now caller.now now command.now) }
+        ensures worked { IfOk result (IsWorkedOut self.now caller.now command.now) }
         ensures ruled { (book : Book) → Plays self.now book
             → IsRuled (ruled operator.now book caller.now now command.now) result }
         ensures refusal { IfErr result IsRefusal }
         ensures counted { steps.new ≤ steps.old + 1 }
-        ensures exact { CountsJudged command.now result steps.old steps.new }
+        ensures exact { CountsJudged command.now (refused_in result) steps.old steps.new }
     {
         match command.part() {
-            Part::Facts => self.season.judge(now, command, steps),
-            Part::Players => self.judge_amend(command),
-            Part::Entries => self.judge_entry(operator, command),
-            Part::Keys => self.judge_rekey(operator, command),
-            Part::Deeds => self.judge_deed(caller, command),
-            Part::Leagues => self.judge_league(caller, command),
-            Part::Cups => self.judge_cup(command),
+            Part::Facts => {
+                self.season.judge(now, command, steps)?;
+                Ok(Judged::Facts)
+            }
+            Part::Players => {
+                self.judge_amend(command)?;
+                Ok(Judged::Players)
+            }
+            Part::Entries => {
+                self.judge_entry(operator, command)?;
+                Ok(Judged::Entries)
+            }
+            Part::Keys => {
+                self.judge_rekey(operator, command)?;
+                Ok(Judged::Keys)
+            }
+            Part::Deeds => Ok(Judged::Deed(self.judge_deed(caller, command)?)),
+            Part::Leagues => {
+                self.judge_league(caller, command)?;
+                Ok(Judged::Leagues)
+            }
+            Part::Cups => {
+                self.judge_cup(command)?;
+                Ok(Judged::Cups)
+            }
         }
     }
 
@@ -262,11 +283,14 @@ impl RunningSeason {
     }
 
     // The same of the command of a manager; the operator is nobody's entry.
-    fn judge_deed(&self, caller: &Caller, command: &Command) -> Result<(), Answer>
+    fn judge_deed(&self, caller: &Caller, command: &Command) -> Result<JudgedDeed, Answer>
         requires read { IsCommand command.now }
         requires deed { part_of command.now ≡ part.Deeds }
         ensures granted { (now : ℕ)
             → OnOk result (IsGrantedTo self.now caller.now now command.now) }
+        ensures worked { IfOk result
+            (IsDeedJudged self.now.facts
+            (manager_in self.now.managers (caller_number caller.now)).season command.now) }
         ensures ruled { (operator : List ℕ) (now : ℕ) (book : Book) → Plays self.now book
             → IsRuled (ruled operator book caller.now now command.now) result }
         ensures refusal { IfErr result IsRefusal }
@@ -331,23 +355,30 @@ impl RunningSeason {
         }
     }
 
-    /// Does a command that nothing refuses at this moment, as `judge` says; unchanged where memory is wanting. It changes its
-    /// own part of the season alone.
-    pub fn change(&mut self, caller: &Caller, now: Moment, command: &Command) -> Result<(), Memory>
+    /// Does a command that nothing refuses at this moment, by what `judge` worked out; unchanged where memory is wanting. It
+    /// changes its own part of the season alone.
+    pub fn change(
+        &mut self,
+        caller: &Caller,
+        now: Moment,
+        command: &Command,
+        judged: &Judged,
+    ) -> Result<(), Memory>
         requires read { IsCommand command.now }
         requires granted { IsGrantedTo self.old caller.now now command.now }
+        requires worked { IsWorkedOut self.old caller.now command.now judged.now }
         ensures done { OnOk result (IsDone caller.now now command.now self.old self.new) }
         ensures changed { OnOk result (IsChangedBy caller.now command.now self.old self.new) }
         ensures err { OnErr result (self.new ≡ self.old) }
     {
-        match command.part() {
-            Part::Facts => self.change_facts(caller, now, command),
-            Part::Players => self.amend(command),
-            Part::Entries => self.add_entry(command),
-            Part::Keys => self.rekey(command),
-            Part::Deeds => self.do_deed(caller, command),
-            Part::Leagues => self.do_league(caller, command),
-            Part::Cups => self.do_cup(command),
+        match judged {
+            Judged::Facts => self.change_facts(caller, now, command),
+            Judged::Players => self.amend(command),
+            Judged::Entries => self.add_entry(command),
+            Judged::Keys => self.rekey(command),
+            Judged::Deed(deed) => self.do_deed(caller, deed),
+            Judged::Leagues => self.do_league(caller, command),
+            Judged::Cups => self.do_cup(command),
         }
     }
 
@@ -430,17 +461,19 @@ impl RunningSeason {
         }
     }
 
-    // Does the command of a manager.
-    fn do_deed(&mut self, caller: &Caller, command: &Command) -> Result<(), Memory>
-        requires read { IsCommand command.now }
-        requires deed { part_of command.now ≡ part.Deeds }
-        requires granted { (1 ≤ caller_number caller.now)
-            × (caller_number caller.now ≤ length self.old.managers)
-            × IsDeedGranted self.old.facts
-            (manager_in self.old.managers (caller_number caller.now)).season command.now }
-        ensures done { (now : ℕ)
-            → OnOk result (IsDone caller.now now command.now self.old self.new) }
-        ensures changed { OnOk result (IsChangedBy caller.now command.now self.old self.new) }
+    // Keeps what the command of a manager came to.
+    fn do_deed(&mut self, caller: &Caller, deed: &JudgedDeed) -> Result<(), Memory>
+        requires first { 1 ≤ caller_number caller.now }
+        requires issued { caller_number caller.now ≤ length self.old.managers }
+        requires judged { (command : Command)
+            × IsDeedJudged self.old.facts
+            (manager_in self.old.managers (caller_number caller.now)).season command deed.now }
+        ensures done { (now : ℕ) (command : Command) → part_of command ≡ part.Deeds
+            → IsDeedJudged self.old.facts
+            (manager_in self.old.managers (caller_number caller.now)).season command deed.now
+            → OnOk result (IsDone caller.now now command self.old self.new) }
+        ensures changed { (command : Command) → part_of command ≡ part.Deeds
+            → OnOk result (IsChangedBy caller.now command self.old self.new) }
         ensures err { OnErr result (self.new ≡ self.old) }
     {
         // The laws on which entries are there, when their managers act, and who is in leagues, for the prover.
@@ -448,7 +481,7 @@ impl RunningSeason {
         early_is_in_time();
         members_stay();
         match caller {
-            Caller::Entry(entry) => do_deed(&self.season, &mut self.managers, *entry, command),
+            Caller::Entry(entry) => do_deed(&self.season, &mut self.managers, *entry, deed),
             Caller::Operator => Ok(()),
         }
     }
