@@ -24,7 +24,7 @@ pub fn batch_of(
     ensures items { OnOk result (AreToldInRange running.now lasts.now slots.now) }
 {
     let mut ops = Vec::with_capacity(alloc, slots.len())?;
-    'slots: for slot in slots {
+    for slot in slots {
         ops.push(op_at(alloc, running, lasts, *slot)?)?;
     }
     Ok(ops)

@@ -166,7 +166,7 @@ fn sale_at(sales: &[(Gw, Sale)], gameweek: u32, others: u32) -> Option<&(Gw, Sal
         ≡ slice_get (sales_in sales.now gameweek) others }
 {
     let mut left = others;
-    'sales: for made in sales {
+    for made in sales {
         if u32::from(made.0.get()) == gameweek {
             if left == 0 {
                 return Some(made);

@@ -36,7 +36,7 @@ fn deadlines_of(alloc: Global, calendar: &Calendar) -> Result<Moments, Memory>
     ensures few { IfOk result (λ moments. length moments ≤ 255) }
 {
     let mut moments = Moments::new(alloc);
-    'gameweeks: for place in 0..calendar.gameweeks() {
+    for place in 0..calendar.gameweeks() {
         moments.push(deadline_at(calendar, place))?;
     }
     Ok(moments)
@@ -74,7 +74,7 @@ fn club_at(clubs: &[(ClubId, Name)], club: u32) -> Option<&(ClubId, Name)>
     ensures club { IfSome result (λ row. row.now.0 ≡ club) }
     ensures name { option_map (λ row. row.1) (option_copied result) ≡ at_id clubs.now club }
 {
-    'clubs: for row in clubs {
+    for row in clubs {
         if u32::from(row.0.get()) == club {
             return Some(row);
         }

@@ -46,7 +46,7 @@ pub fn add_clubs(slots: &mut Vec<Slot>, clubs: &[(ClubId, Name)]) -> Result<(), 
     ensures { OnOk result
         (slots.new.items ≡ slots.old.items ++ map slot.Club (club_ids clubs.now)) }
 {
-    'clubs: for club in clubs {
+    for club in clubs {
         slots.push(Slot::Club(u32::from(club.0.get())))?;
     }
     Ok(())
@@ -64,7 +64,7 @@ pub fn add_left(
         ≡ slots.old.items
         ++ map (slot.Line fixture) (players_left players.now (players_in lines.now))) }
 {
-    'players: for player in players {
+    for player in players {
         add_if_left(slots, fixture, *player, lines)?;
     }
     Ok(())
@@ -92,7 +92,7 @@ fn add_if_left(
 fn has_line(lines: &[(PlayerId, Line)], player: PlayerId) -> bool
     ensures { result ≡ list_any (λ p. p == player) (players_in lines.now) }
 {
-    'lines: for line in lines {
+    for line in lines {
         if line.0 == player {
             return true;
         }
@@ -109,7 +109,7 @@ pub fn add_lines(
     ensures { OnOk result
         (slots.new.items ≡ slots.old.items ++ map (slot.Line fixture) (players_in lines.now)) }
 {
-    'lines: for line in lines {
+    for line in lines {
         slots.push(Slot::Line(fixture, line.0.get()))?;
     }
     Ok(())
@@ -128,7 +128,7 @@ pub fn add_transfers(
         (slots.new.items
         ≡ slots.old.items ++ map (slot.Transfer entry gameweek) (range_with_len first count)) }
 {
-    'numbers: for number in first..first + count {
+    for number in first..first + count {
         slots.push(Slot::Transfer(entry, gameweek, number))?;
     }
     Ok(())

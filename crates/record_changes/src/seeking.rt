@@ -25,7 +25,7 @@ fn fixture_among(ids: &[FixtureId], number: u32) -> Option<FixtureId>
     ensures { MatchOption result (list_any (λ id. id == number) ids.now ≡ false)
         (λ id. id ≡ number) }
 {
-    'ids: for id in ids {
+    for id in ids {
         if id.get() == number {
             return Some(*id);
         }
@@ -38,7 +38,7 @@ fn player_among(ids: &[PlayerId], number: u32) -> Option<PlayerId>
     ensures { MatchOption result (list_any (λ id. id == number) ids.now ≡ false)
         (λ id. id ≡ number) }
 {
-    'ids: for id in ids {
+    for id in ids {
         if id.get() == number {
             return Some(*id);
         }
@@ -51,7 +51,7 @@ fn entry_among(ids: &[EntryId], number: u32) -> Option<EntryId>
     ensures { MatchOption result (list_any (λ id. id == number) ids.now ≡ false)
         (λ id. (id ≡ number) × (list_any (λ id. id == number) ids.now ≡ true)) }
 {
-    'ids: for id in ids {
+    for id in ids {
         if id.get() == number {
             return Some(*id);
         }

@@ -3,6 +3,6 @@ use Rattle.std.specs.List.{All}
 use Rattle.record_changes.specs.Batches.{IsToldInRange, batch_by}
 use Rattle.record_changes.proofs.batches.batch_of.Given as goal
 
-abbrev pub invariant-slots : goal.invariant-slots
-invariant-slots l =
+abbrev pub invariant-loop-slot : goal.invariant-loop-slot
+invariant-loop-slot l =
     (l.ops.items ≡ batch_by l.running l.lasts (take l.slot-index l.slots)) × All (IsToldInRange l.running l.lasts) (take l.slot-index l.slots)
