@@ -27,6 +27,7 @@ use Rattle.store_validation.specs.Lawful.{judged}
 use Rattle.store_validation.specs.LeagueRules.{has_gap, has_key, has_other_key, issue_breaks}
 use Rattle.store_validation.proofs.EntriesJudged.{and_then_some, entry_has, nothing_broken}
 use Rattle.season_restoring.specs.Restoring.{AreRestored, EndsAt, IsRestored, IsTold}
+use Rattle.season_restoring.proofs.NumberedKeys.{at_least, within}
 use Rattle.season_restoring.proofs.Numbers.{entry_at}
 use Rattle.season_restoring.proofs.EntriesTold.{spelled_there}
 
@@ -68,78 +69,17 @@ any_passes test (row ∷ rows) none k body there =
     some_is : (a b : List ℕ) → Some a ≡ Some b → a ≡ b
     some_is a b e = cc
 
--- Counting.
-
-count_next : (p : Key × List ℕ → Bool) (row : Key × List ℕ) (rows : Rows) → count_by p (row ∷ rows) ≡ cond (p row) 1 0 + count_by p rows
-count_next p row rows = sum_by-cons (λ (r : Key × List ℕ). cond (p r) 1 0) row rows
-
-abbrev one_of : Bool → ℕ
-one_of b = cond b 1 0
-
-less_or_same : (a b : Bool) → (b ≡ true → a ≡ true) → cond b 1 0 ≤ cond a 1 0
-less_or_same a false implies = omega arith
-less_or_same a true implies = subst (λ c. 1 ≤ cond c 1 0) (sym (implies refl)) (omega arith)
-
-fewer : (p q : Key × List ℕ → Bool) (rows : Rows) → ((row : Key × List ℕ) → q row ≡ true → p row ≡ true) → count_by q rows ≤ count_by p rows
-fewer p q [] implies = omega arith
-fewer p q (row ∷ rows) implies =
-    omega (arith, count_next p row rows, count_next q row rows, less_or_same (p row) (q row) (implies row), fewer p q rows implies)
-
-one_fewer : (p q : Key × List ℕ → Bool) (rows : Rows) (k : Key) (body : List ℕ) → ((row : Key × List ℕ) → q row ≡ true → p row ≡ true)
-    → map_of rows k ≡ Some body → ((b : List ℕ) → p (k, b) ≡ true) → ((b : List ℕ) → q (k, b) ≡ false) → suc (count_by q rows) ≤ count_by p rows
-one_fewer p q [] k body implies there passes fails = absurd (cc)
-one_fewer p q (row ∷ rows) k body implies there passes fails =
-    elim (cases_Bool (is_same_key row.0 k)) [
-      | inl same ↦ (
-          let key : row.0 ≡ k = same_key row.0 k same in
-          let one = ap one_of (ap (λ x. p (x, row.1)) key ∙ passes row.1) in
-          let none = ap one_of (ap (λ x. q (x, row.1)) key ∙ fails row.1) in
-          omega (arith, count_next p row rows, count_next q row rows, one, none, fewer p q rows implies))
-      | inr apart ↦ (
-          let rest = one_fewer p q rows k body implies (sym (ap (λ b. cond b (Some row.1) (map_of rows k)) apart) ∙ there) passes fails in
-          omega (arith, count_next p row rows, count_next q row rows, less_or_same (p row) (q row) (implies row), rest))
-    ]
-
 -- The keys of entries.
 
 entry_precedes : (i e : ℕ) → i < e → precedes (key_of (slot.Entry i)) (key_of (slot.Entry e)) ≡ true
 entry_precedes i e less = ap (λ b. b || ((eqb i e) && false)) (lt-ltb i e less)
 
-not_before_first : (i : ℕ) → precedes (key_of (slot.Entry i)) (key_of (slot.Entry 0)) ≡ false
-not_before_first i = grind (arith, nat_tests)
-
-not_before_itself : (i : ℕ) → precedes (key_of (slot.Entry i)) (key_of (slot.Entry i)) ≡ false
-not_before_itself i = grind (arith, nat_tests)
-
-within : (i e : ℕ) → i < e → is_within (key_of (slot.Entry 0)) (key_of (slot.Entry e)) (key_of (slot.Entry i)) ≡ true
-within i e less = ap₂ (λ a b. not a && b) (not_before_first i) (entry_precedes i e less)
-
-not_within : (i : ℕ) → is_within (key_of (slot.Entry 0)) (key_of (slot.Entry i)) (key_of (slot.Entry i)) ≡ false
-not_within i = ap₂ (λ a b. not a && b) (not_before_first i) (not_before_itself i)
-
-wider : (i : ℕ) (k : Key) → is_within (key_of (slot.Entry 0)) (key_of (slot.Entry i)) k ≡ true → is_within (key_of (slot.Entry 0)) (key_of (slot.Entry (i + 1))) k ≡ true
-wider i k is =
-    let parts = and_parts (not (precedes k (key_of (slot.Entry 0)))) (precedes k (key_of (slot.Entry i))) is in
-    ap₂ (λ a b. a && b) parts.0 (precedes_trans k (key_of (slot.Entry i)) (key_of (slot.Entry (i + 1))) parts.1 (entry_precedes i (i + 1) (omega arith)))
+entry_stays : (i e : ℕ) → e ≤ i → precedes (key_of (slot.Entry i)) (key_of (slot.Entry e)) ≡ false
+entry_stays i e le = grind (arith, nat_tests, le)
 
 -- so many entries are there
 abbrev pub AreThere : Rows → ℕ → Type 0
 AreThere rows count = (i : ℕ) → 1 ≤ i → i ≤ count → (body : List ℕ) × (map_of rows (key_of (slot.Entry i)) ≡ Some body)
-
-at_least : (rows : Rows) (count : ℕ) → AreThere rows count → count ≤ between rows (key_of (slot.Entry 0)) (key_of (slot.Entry (count + 1)))
-at_least rows zero there = omega arith
-at_least rows (suc count) there =
-    let before = at_least rows count (λ i low high. there i low (omega (arith, high))) in
-    let last = there (suc count) (omega arith) (omega arith) in
-    let more = one_fewer
-    (λ row. is_within (key_of (slot.Entry 0)) (key_of (slot.Entry (suc count + 1))) row.0)
-    (λ row. is_within (key_of (slot.Entry 0)) (key_of (slot.Entry (suc count))) row.0)
-    rows (key_of (slot.Entry (suc count))) last.0
-    (λ row. wider (suc count) row.0) last.1
-    (λ b. within (suc count) (suc count + 1) (omega arith)) (λ b. not_within (suc count)) in
-    let same : between rows (key_of (slot.Entry 0)) (key_of (slot.Entry (count + 1))) ≡ between rows (key_of (slot.Entry 0)) (key_of (slot.Entry (suc count)))
-    = ap (λ n. between rows (key_of (slot.Entry 0)) (key_of (slot.Entry n))) (omega arith) in
-    omega (arith, before, more, same)
 
 some_not_none : {A : Type 0} (x : A) (o : Option A) → o ≡ Some x → o ≡ None → ⊥
 some_not_none x o some none = absurd (cc)
@@ -177,7 +117,7 @@ module _ (rows : Rows) (lawful : judged rows ≡ None) where
   pub room : (count : ℕ) (first : Option ℕ) (key name : List ℕ) → AreThere rows count → IsTold (map_of rows) (count + 1) first key name → count < 2048
   room count first key name there is =
       let few = (issued (count + 1) first key name is).few in
-      let many = at_least rows count there in
+      let many = at_least (λ e. key_of (slot.Entry e)) entry_precedes entry_stays rows count there in
       less (between rows (key_of (slot.Entry 0)) (key_of (slot.Entry (count + 1)))) few many
     where
       less : (n : ℕ) → nat_le 2048 n ≡ false → count ≤ n → count < 2048
@@ -216,7 +156,7 @@ module _ (rows : Rows) (lawful : judged rows ≡ None) where
         let found = and_then_some (item_of (key_of (slot.Entry i))) (map_of rows (key_of (slot.Entry i))) (item.Entry i (first_in x.season) x.key x.name) (sym own.entry) in
         let passes = any_passes (λ row. is_within (key_of (slot.Entry 0)) (key_of (slot.Entry e)) row.0 && has_key key (item_of row.0 row.1)) rows fresh (key_of (slot.Entry i)) found.0 found.1 in
         let apart : bytes_eq x.key key ≡ false
-        = sym (ap₂ (λ a o. a && has_key key o) (within i e less) found.2) ∙ passes in
+        = sym (ap₂ (λ a o. a && has_key key o) (within (λ n. key_of (slot.Entry n)) entry_precedes entry_stays i e less) found.2) ∙ passes in
         turned (bytes_eq key x.key) refl apart
       where
         turned : (b : Bool) → bytes_eq key x.key ≡ b → bytes_eq x.key key ≡ false → bytes_eq key x.key ≡ false

@@ -8,6 +8,7 @@ mod Steps
 mod FactsTold
 mod FactsWhole
 mod Through
+mod NumberedKeys
 mod Numbers
 mod EntriesTold
 mod OneEntry
