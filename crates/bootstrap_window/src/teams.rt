@@ -18,7 +18,7 @@ pub fn write_teams(
     ensures { Appends result out.old out.new (tokens_of (teams_window clubs.now)) }
 {
     out.begin_array()?;
-    'clubs: for (club, name) in clubs {
+    for (club, name) in clubs {
         write_team(out, alloc, *club, name)?;
     }
     out.end_array()
