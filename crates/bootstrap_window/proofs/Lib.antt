@@ -2,7 +2,6 @@ mod Counting
 mod Grosses
 mod HeldFacts
 mod Letters
-mod LinesHeld
 mod PicksHeld
 mod PlayersFound
 mod Quotients

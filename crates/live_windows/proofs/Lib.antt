@@ -11,6 +11,5 @@ pub mod Tops
 pub mod ExplainLaw
 pub mod GatheredFacts
 pub mod ItemsWritten
-pub mod LinesHeld
 pub mod PlayersAre
 pub mod RowsAdded

@@ -5,6 +5,7 @@ pub mod EntryRows
 pub mod Found
 pub mod Gameweeks
 pub mod Histories
+pub mod LinesHeld
 pub mod Lists
 pub mod Matches
 pub mod Numbered

@@ -3,7 +3,7 @@ use Rattle.std.specs.Option.{unwrap_or}
 use Rattle.rule_book.specs.ById.{at_id}
 use Rattle.rule_book.specs.MatchFacts.{lines_of}
 use Rattle.season_views.specs.Cells.{books_seen}
-use Rattle.bootstrap_window.proofs.LinesHeld.{some_among}
+use Rattle.season_views.proofs.LinesHeld.{some_among}
 use Rattle.bootstrap_window.proofs.table.add_fixture.Goals as goal
 
 pub add_rows-requires-clause-ascending : goal.add_rows-requires-clause-ascending

@@ -10,7 +10,7 @@ use Rattle.rule_book.specs.Points.{points_of}
 use Rattle.season_book.specs.Elements.{totals_over}
 use Rattle.season_book.specs.LineSums.{line_bonus}
 use Rattle.bootstrap_window.specs.declared.totals.Totals.{Totals}
-use Rattle.bootstrap_window.proofs.LinesHeld.{row_among, row_at, row_none}
+use Rattle.season_views.proofs.LinesHeld.{row_among, row_at, row_none}
 use Rattle.bootstrap_window.proofs.TableFacts.{beside, row_more, same_more}
 use Rattle.bootstrap_window.proofs.table.add_rows.Goals as goal
 

@@ -3,7 +3,7 @@ use Rattle.std.specs.Option.{unwrap_or}
 use Rattle.rule_book.specs.ById.{at_id}
 use Rattle.rule_book.specs.MatchFacts.{lines_of}
 use Rattle.season_views.specs.Cells.{books_seen}
-use Rattle.live_windows.proofs.LinesHeld.{some_among}
+use Rattle.season_views.proofs.LinesHeld.{some_among}
 use Rattle.live_windows.proofs.gathering.add_fixture.Goals as goal
 
 pub add_rows-requires-clause-told : goal.add_rows-requires-clause-told

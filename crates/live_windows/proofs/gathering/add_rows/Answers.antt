@@ -8,7 +8,7 @@ use Rattle.rule_book.specs.MatchFacts.{Lines, lines_of}
 use Rattle.rule_book.specs.PlayerFigures.{bonus_at}
 use Rattle.live_windows.specs.declared.sums.LiveLine.{LiveLine}
 use Rattle.live_windows.specs.Gathered.{line_with, live_line}
-use Rattle.live_windows.proofs.LinesHeld.{row_among, row_at}
+use Rattle.season_views.proofs.LinesHeld.{row_among, row_at}
 use Rattle.live_windows.proofs.RowsAdded.{mapped_next}
 use Rattle.live_windows.proofs.gathering.add_rows.Goals as goal
 
