@@ -13,9 +13,9 @@ use season_book::{Answer, Command, Made};
 use season_facts::Season;
 use std::alloc::Global;
 
-/// Does a command that nothing refuses on a running season, by what `RunningSeason::judge` worked out, and keeps it as its caller's last one
-/// under this number; tells what it made. It is put among the last commands before the season is changed, since the change
-/// may not be taken back, and what stood there is put back where memory is wanting.
+/// Does a command that nothing refuses on a running season, by what `RunningSeason::judge` worked out, and keeps it as its
+/// caller's last one under this number; tells what it made. It is put among the last commands before the season is
+/// changed, since the change may not be taken back, and what stood there is put back where memory is wanting.
 pub fn change(
     running: &mut RunningSeason,
     lasts: &mut Lasts,
