@@ -13,13 +13,12 @@ use Rattle.match_events.specs.declared.refusal.EventRefused.TheVariants as refus
 use Rattle.match_events.specs.declared.refusal.EventRule.{EventRule}
 use Rattle.request_handler.specs.Replying.{Served}
 use Rattle.request_handler.specs.Kept.{Kept, Leads}
-use Rattle.request_handler.proofs.KeptLemmas.{leads_same}
+use Rattle.request_handler.proofs.KeptLemmas.{leads_on, leads_same}
 use Rattle.local_requests.proofs.AskingLemmas.{leads_then}
 use Rattle.local_requests.specs.Printing.{PrintsOne}
 use Rattle.fpl_events.specs.Playing.{DoesRow, Edits, EndsBy, IsPlayed, PlaysOn, bare_sheet}
 use Rattle.fpl_events.specs.Sending.{SendsChanged}
 use Rattle.fpl_events.specs.Telling.{sent_text}
-use Rattle.fpl_events.proofs.SendingLemmas.{leads_on}
 
 -- an edit that was refused ends the run
 pub refused_as : (number : ℕ) (broken : Option EventRule) (edited behind : Sheet) (why : EventRefused) (before after : Option (List ℕ)) (status : ℕ)

@@ -14,7 +14,7 @@ use Rattle.season_book.specs.declared.request.Request.TheVariants as request
 use Rattle.season_running.specs.Standing.{HostRows, StandsIn, number_at}
 use Rattle.request_handler.specs.Replying.{Served}
 use Rattle.request_handler.specs.Kept.{Kept, Leads}
-use Rattle.request_handler.proofs.KeptLemmas.{leads_same}
+use Rattle.request_handler.proofs.KeptLemmas.{leads_on, leads_same}
 use Rattle.local_requests.proofs.AskingLemmas.{leads_then}
 use Rattle.local_requests.specs.Asking.{IsHeard}
 use Rattle.local_requests.specs.Printing.{EndsBy}
@@ -68,17 +68,6 @@ IsSending fixture sheet all rest before old mid =
     (after : Option (List ℕ)) (gave : Result (Unit {0}) ℕ) (new : Served) → SendsOn fixture sheet rest before after gave mid new → SendsOn fixture sheet all before after gave old new
 
 module _ (K : Type 0) (tells serves : K → Type 0) (holds passes : K → Map → Type 0) where
-  pub leads_on : (old new : Kept K) (how follows : Served → Served → Type 0) → ((served behind : Served) → how served behind → follows served behind)
-      → Leads tells serves holds passes old new how → Leads tells serves holds passes old new follows
-  leads_on old new how follows on leads = record {
-    by_rows = λ served stands. let led = leads.by_rows served stands in (led.0, led.1, on served led.0 led.2);
-    by_stops = λ tell served stands. let led = leads.by_stops tell served stands in (led.0, led.1, on served led.0 led.2);
-    by_records = λ tell serve served stands. let led = leads.by_records tell serve served stands in (led.0, led.1, on served led.0 led.2);
-    reread = leads.reread;
-    told = leads.told;
-    served = leads.served;
-  }
-
   -- the next number by the rows is that of each book for which the host stood
   pub heard_next : (number : ℕ) (command : Command) (told : Answer) (first last : Kept K) → number ≡ next_number (number_at first.host.rows.lasts caller.Operator) → first.host.stale ≡ false
       → Leads tells serves holds passes first last (λ served behind. IsHeard served caller.Operator (request.Command number command) told behind)
@@ -107,7 +96,7 @@ module _ (K : Type 0) (tells serves : K → Type 0) (holds passes : K → Map �
       → Leads tells serves holds passes first last (IsHeardOf command told)
       → Leads tells serves holds passes first last (IsSent fixture sheet player before before (Ok tt))
   line_done fixture sheet player command told before first last is done =
-      leads_on first last (IsHeardOf command told) (IsSent fixture sheet player before before (Ok tt))
+      leads_on K tells serves holds passes first last (IsHeardOf command told) (IsSent fixture sheet player before before (Ok tt))
       (λ s b heard. (told, subst (λ (c : Command). IsHeardOf c told s b) is heard, inl (done, refl, refl)))
 
   pub line_ends : (fixture : ℕ) (sheet : Sheet) (player : ℕ) (command : Command) (told : Answer) (before after : Option (List ℕ)) (status : ℕ) (first last : Kept K)
@@ -115,7 +104,7 @@ module _ (K : Type 0) (tells serves : K → Type 0) (holds passes : K → Map �
       → Leads tells serves holds passes first last (IsHeardOf command told)
       → Leads tells serves holds passes first last (IsSent fixture sheet player before after (Err status))
   line_ends fixture sheet player command told before after status first last is refused ends =
-      leads_on first last (IsHeardOf command told) (IsSent fixture sheet player before after (Err status))
+      leads_on K tells serves holds passes first last (IsHeardOf command told) (IsSent fixture sheet player before after (Err status))
       (λ s b heard. (told, subst (λ (c : Command). IsHeardOf c told s b) is heard, inr (refused, (status, refl, ends))))
 
   -- ---- lines one after another
@@ -152,7 +141,7 @@ module _ (K : Type 0) (tells serves : K → Type 0) (holds passes : K → Map �
       → Leads tells serves holds passes first last (IsSending fixture sheet all rest before)
       → Leads tells serves holds passes first last (SendsOn fixture sheet all before after (Ok tt))
   sending_end fixture sheet all rest before after first last is same =
-      leads_on first last (IsSending fixture sheet all rest before) (SendsOn fixture sheet all before after (Ok tt))
+      leads_on K tells serves holds passes first last (IsSending fixture sheet all rest before) (SendsOn fixture sheet all before after (Ok tt))
       (λ s b on. on after (Ok tt) b (subst (λ (xs : List ℕ). SendsOn fixture sheet xs before after (Ok tt) b b) (sym is) (refl, same, refl)))
 
   -- ---- all that changed
@@ -166,12 +155,12 @@ module _ (K : Type 0) (tells serves : K → Type 0) (holds passes : K → Map �
       → Leads tells serves holds passes first last (SendsOn fixture sheet players before after asked)
       → Leads tells serves holds passes first last (SendsAll fixture sheet players before after gave)
   all_sent fixture sheet players before after asked gave first last is =
-      leads_on first last (SendsOn fixture sheet players before after asked) (SendsAll fixture sheet players before after gave) (λ s b on. (asked, on, is))
+      leads_on K tells serves holds passes first last (SendsOn fixture sheet players before after asked) (SendsAll fixture sheet players before after gave) (λ s b on. (asked, on, is))
 
   pub changed_sent : (fixture : ℕ) (sheet behind : Sheet) (listed players : List ℕ) (before after : Option (List ℕ)) (gave : Result ℕ ℕ) (first last : Kept K)
       → players ≡ listed → AreChanged sheet.minutes sheet.told sheet.events listed → behind ≡ record sheet { told = sheet.events }
       → Leads tells serves holds passes first last (SendsAll fixture behind players before after gave)
       → Leads tells serves holds passes first last (SendsChanged fixture sheet behind before after gave)
   changed_sent fixture sheet behind listed players before after gave first last same changed told =
-      leads_on first last (SendsAll fixture behind players before after gave) (SendsChanged fixture sheet behind before after gave)
+      leads_on K tells serves holds passes first last (SendsAll fixture behind players before after gave) (SendsChanged fixture sheet behind before after gave)
       (λ s b all. inr (players, subst (λ (ps : List ℕ). AreChanged sheet.minutes sheet.told sheet.events ps) (sym same) changed, told, all))

@@ -22,7 +22,8 @@ use Rattle.season_running.specs.Standing.{StandsIn}
 use Rattle.season_keeping.specs.Answering.{Answers, IsCaused, StopsLeave, WouldChange}
 use Rattle.request_handler.specs.Kept.{Kept, Leads}
 use Rattle.request_handler.specs.Replying.{IsJudged, IsLeftAt, IsStaleBehind, Judges, Served, reply_of}
-use Rattle.request_handler.proofs.KeptLemmas.{agrees_with, served_is, stale_from, stale_is, with_book}
+use Rattle.request_handler.proofs.AnsweredLeads.{leads_answered}
+use Rattle.request_handler.proofs.KeptLemmas.{stale_from, with_book}
 
 -- behind each answer stands a book that may be left where memory ran out
 left_behind : (host : HostState) (failures : Failures) (after : Book) (caller : Caller) (now : ℕ) (request : Request) (reply : Answer)
@@ -117,54 +118,10 @@ module _ (K : Type 0) (tells serves : K → Type 0) (holds passes : K → Map �
   judges_served served left agrees stands may =
       subst (λ (s : Served). Judges s caller request (answer_in r) (behind served.host.book left)) (sym agrees) (judges served.host.book left stands may)
 
-  -- what a stop leaves
-  left_at : (book left : Book) (stale : Bool) → (stale ≡ false → (x : Map) → passes new.keeper x → x ≡ records left)
-      → ((x : Map) → passes new.keeper x → HoldsLeft old.host.rows.operator book caller now request x)
-      → (x : Map) → passes new.keeper x → IsLeftAt (with_book new left (stale_from stale book)) x
-  left_at book left false alone stop x passed = inl (alone refl x passed)
-  left_at book left true alone stop x passed =
-      inr (book, refl, (caller, now, request, subst (λ (own : List ℕ). HoldsLeft own book caller now request x) (sym operator) (stop x passed)))
-
   pub judged_leads : new.host.reread ≡ old.host.reread → (tells new.keeper → tells old.keeper) → (tells new.keeper → serves new.keeper → serves old.keeper)
       → Answers tells serves holds passes old.keeper new.keeper old.host new.host
       (λ book left. MayAnswer old.host.rows.operator (record { before = old.failed; behind = new.failed }) book caller now request answered left)
       → Leads tells serves holds passes old new (λ served after. Judges served caller request (answer_in r) after)
-  judged_leads reread tell_on serve_on each = record {
-    by_rows = λ served stands.
-        let book = served.host.book in
-        let stood = stands.rows fresh in
-        let led = (each book stood).by_rows in (
-          behind book led.0,
-          record { agrees = agrees_with K new led.0 _ (stale_is new.host.stale book); first = reread ∙ stands.first; rows = λ is. (led.1 is).0 },
-          judges_served served led.0 (served_is K old served fresh stands.agrees) stood led.2,
-        );
-    by_stops = λ tell served stands.
-        let book = served.host.book in
-        let stood = stands.by_rows.rows fresh in
-        let backs = stands.backs fresh in
-        let led = (each book stood).by_rows in (
-          behind book led.0,
-          record {
-            by_rows = record { agrees = agrees_with K new led.0 _ (stale_is new.host.stale book); first = reread ∙ stands.by_rows.first; rows = λ is. (led.1 is).0 };
-            backs = λ is. (led.1 is).1 tell backs;
-            left = left_at book led.0 new.host.stale (λ is. ((led.1 is).1 tell backs).alone is) (stops book stood tell backs);
-          },
-          judges_served served led.0 (served_is K old served fresh stands.by_rows.agrees) stood led.2,
-        );
-    by_records = λ tell serve served stands.
-        let book = served.host.book in
-        let backs = stands.backs in
-        let stood = backs.stands fresh in
-        let led = (each book stood).by_records tell serve backs in (
-          behind book led.0,
-          record {
-            agrees = agrees_with K new led.0 _ (stale_is new.host.stale book);
-            backs = led.1;
-            left = left_at book led.0 new.host.stale (λ is. led.1.alone is) (stops book stood tell backs);
-          },
-          judges_served served led.0 (served_is K old served fresh stands.agrees) stood led.2,
-        );
-    reread = reread;
-    told = tell_on;
-    served = serve_on;
-  }
+  judged_leads =
+      leads_answered K tells serves holds passes old new caller now request answered fresh operator stops
+      (λ served after. Judges served caller request (answer_in r) after) judges_served

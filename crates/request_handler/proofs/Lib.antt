@@ -5,6 +5,7 @@ pub mod StorelessFacts
 pub mod WholeFacts
 mod AnsweredLemmas
 pub mod KeptLemmas
+pub mod AnsweredLeads
 pub mod JudgedLemmas
 pub mod AlongLemmas
 pub mod LookLemmas

@@ -13,6 +13,8 @@ use Rattle.local_requests.specs.Asking.{IsHeardAt}
 use Rattle.local_requests.specs.Printing.{EndsBy, PrintsOne}
 use Rattle.request_handler.specs.Kept.{Kept, Leads}
 use Rattle.request_handler.specs.Replying.{Served}
+use Rattle.request_handler.proofs.KeptLemmas.{leads_on, leads_same}
+use Rattle.local_requests.proofs.AskingLemmas.{leads_then}
 use Rattle.season_generator.specs.Generating.{IsCorrected, IsGenerated, IsPlayed, IsTabled, PlaysOn, TabledBehind, is_done}
 use Rattle.season_generator.specs.Summaries.{summary_text, table_of}
 use Rattle.season_generator.specs.declared.table.Table.{Table}
@@ -57,58 +59,16 @@ IsUnderway seed start whole from left before old mid =
 -- ---- by each of the three views
 
 module _ (K : Type 0) (tells serves : K → Type 0) (holds passes : K → Map → Type 0) where
-  leads_same : (kept : Kept K) (how : Served → Served → Type 0) → ((served : Served) → how served served) → Leads tells serves holds passes kept kept how
-  leads_same kept how each = record {
-    by_rows = λ served stands. (served, stands, each served);
-    by_stops = λ tell served stands. (served, stands, each served);
-    by_records = λ tell serve served stands. (served, stands, each served);
-    reread = refl;
-    told = λ tell. tell;
-    served = λ tell serve. serve;
-  }
-
-  pub leads_on : (old new : Kept K) (how follows : Served → Served → Type 0) → ((served behind : Served) → how served behind → follows served behind)
-      → Leads tells serves holds passes old new how → Leads tells serves holds passes old new follows
-  leads_on old new how follows on leads = record {
-    by_rows = λ served stands. let led = leads.by_rows served stands in (led.0, led.1, on served led.0 led.2);
-    by_stops = λ tell served stands. let led = leads.by_stops tell served stands in (led.0, led.1, on served led.0 led.2);
-    by_records = λ tell serve served stands. let led = leads.by_records tell serve served stands in (led.0, led.1, on served led.0 led.2);
-    reread = leads.reread;
-    told = leads.told;
-    served = leads.served;
-  }
-
-  -- one thing after another
-  leads_then : (first mid last : Kept K) (one two both : Served → Served → Type 0) → ((s m b : Served) → one s m → two m b → both s b)
-      → Leads tells serves holds passes first mid one → Leads tells serves holds passes mid last two → Leads tells serves holds passes first last both
-  leads_then first mid last one two both join here there = record {
-    by_rows = λ served stands.
-        let a = here.by_rows served stands in
-        let b = there.by_rows a.0 a.1 in
-        (b.0, b.1, join served a.0 b.0 a.2 b.2);
-    by_stops = λ tell served stands.
-        let a = here.by_stops (there.told tell) served stands in
-        let b = there.by_stops tell a.0 a.1 in
-        (b.0, b.1, join served a.0 b.0 a.2 b.2);
-    by_records = λ tell serve served stands.
-        let a = here.by_records (there.told tell) (there.served tell serve) served stands in
-        let b = there.by_records tell serve a.0 a.1 in
-        (b.0, b.1, join served a.0 b.0 a.2 b.2);
-    reread = there.reread ∙ here.reread;
-    told = λ tell. here.told (there.told tell);
-    served = λ tell serve. here.served (there.told tell) (there.served tell serve);
-  }
-
   -- ---- one step
 
   pub step_lacks : (seed number : ℕ) (before : Option (List ℕ)) (kept : Kept K) → Leads tells serves holds passes kept kept (IsPlayed seed number before before (Err 6))
-  step_lacks seed number before kept = leads_same kept (IsPlayed seed number before before (Err 6)) (λ served. inl (refl, refl, refl))
+  step_lacks seed number before kept = leads_same K tells serves holds passes kept (IsPlayed seed number before before (Err 6)) (λ served. inl (refl, refl, refl))
 
   pub step_done : (seed number : ℕ) (step : Step) (told : Answer) (before : Option (List ℕ)) (first last : Kept K) → Some step ≡ step_of seed number → is_done told ≡ true
       → Leads tells serves holds passes first last (λ served behind. IsHeardAt step.moment served step.caller (request.Command step.number step.command) told behind)
       → Leads tells serves holds passes first last (IsPlayed seed number before before (Ok tt))
   step_done seed number step told before first last is done =
-      leads_on first last
+      leads_on K tells serves holds passes first last
       (λ served behind. IsHeardAt step.moment served step.caller (request.Command step.number step.command) told behind) (IsPlayed seed number before before (Ok tt))
       (λ s b heard. inr (step, told, sym is, heard, inl (done, refl, refl)))
 
@@ -117,7 +77,7 @@ module _ (K : Type 0) (tells serves : K → Type 0) (holds passes : K → Map �
       → Leads tells serves holds passes first last (λ served behind. IsHeardAt step.moment served step.caller (request.Command step.number step.command) told behind)
       → Leads tells serves holds passes first last (IsPlayed seed number before after (Err status))
   step_ends seed number step told before after status first last is refused ends =
-      leads_on first last
+      leads_on K tells serves holds passes first last
       (λ served behind. IsHeardAt step.moment served step.caller (request.Command step.number step.command) told behind) (IsPlayed seed number before after (Err status))
       (λ s b heard. inr (step, told, sym is, heard, inr (refused, (status, refl, ends))))
 
@@ -126,7 +86,7 @@ module _ (K : Type 0) (tells serves : K → Type 0) (holds passes : K → Map �
       → Leads tells serves holds passes first last (IsPlayed now number here there gave)
       → Leads tells serves holds passes first last (IsPlayed seed number before after gave)
   played_as seed now number before here after there gave first last is is_before is_after =
-      leads_on first last (IsPlayed now number here there gave) (IsPlayed seed number before after gave)
+      leads_on K tells serves holds passes first last (IsPlayed now number here there gave) (IsPlayed seed number before after gave)
       (λ s b played. subst (λ n. IsPlayed n number before after gave s b) is
       (subst (λ x. IsPlayed now number x after gave s b) is_before (subst (λ x. IsPlayed now number here x gave s b) is_after played)))
 
@@ -136,7 +96,7 @@ module _ (K : Type 0) (tells serves : K → Type 0) (holds passes : K → Map �
       → Leads tells serves holds passes first last (λ served behind. IsHeardAt now served caller.Operator (request.View (view.League 1)) told behind)
       → Leads tells serves holds passes first last (IsTabled before before (Ok table))
   table_told now told table before first last at is =
-      leads_on first last
+      leads_on K tells serves holds passes first last
       (λ served behind. IsHeardAt now served caller.Operator (request.View (view.League 1)) told behind) (IsTabled before before (Ok table))
       (λ s b heard. (told, subst (λ t. IsHeardAt t s caller.Operator (request.View (view.League 1)) told b) at heard, inl (table, is, refl, refl)))
 
@@ -144,7 +104,7 @@ module _ (K : Type 0) (tells serves : K → Type 0) (holds passes : K → Map �
       → Leads tells serves holds passes first last (λ served behind. IsHeardAt now served caller.Operator (request.View (view.League 1)) told behind)
       → Leads tells serves holds passes first last (IsTabled before after (Err status))
   table_ends now told before after status first last at none ends =
-      leads_on first last
+      leads_on K tells serves holds passes first last
       (λ served behind. IsHeardAt now served caller.Operator (request.View (view.League 1)) told behind) (IsTabled before after (Err status))
       (λ s b heard. (told, subst (λ t. IsHeardAt t s caller.Operator (request.View (view.League 1)) told b) at heard, inr (none, (status, refl, ends))))
 
@@ -152,14 +112,14 @@ module _ (K : Type 0) (tells serves : K → Type 0) (holds passes : K → Map �
 
   pub underway_start : (seed start whole : ℕ) (before : Option (List ℕ)) (kept : Kept K)
       → Leads tells serves holds passes kept kept (IsUnderway seed start whole start whole before)
-  underway_start seed start whole before kept = leads_same kept (IsUnderway seed start whole start whole before) (λ served after gave new on. on)
+  underway_start seed start whole before kept = leads_same K tells serves holds passes kept (IsUnderway seed start whole start whole before) (λ served after gave new on. on)
 
   pub underway_more : (seed start whole from left count : ℕ) (before : Option (List ℕ)) (first mid last : Kept K) → left ≡ suc count
       → Leads tells serves holds passes first mid (IsUnderway seed start whole from left before)
       → Leads tells serves holds passes mid last (IsPlayed seed from before before (Ok tt))
       → Leads tells serves holds passes first last (IsUnderway seed start whole (from + 1) count before)
   underway_more seed start whole from left count before first mid last is =
-      leads_then first mid last
+      leads_then K tells serves holds passes first mid last
       (IsUnderway seed start whole from left before) (IsPlayed seed from before before (Ok tt)) (IsUnderway seed start whole (from + 1) count before)
       (λ s m b on played after gave new rest. on after gave new (one_played seed from left count before after gave m b new is played rest))
 
@@ -168,7 +128,7 @@ module _ (K : Type 0) (tells serves : K → Type 0) (holds passes : K → Map �
       → Leads tells serves holds passes mid last (IsPlayed seed from before after (Err status))
       → Leads tells serves holds passes first last (PlaysOn seed start whole before after (Err status))
   underway_stop seed start whole from left count before after status first mid last is =
-      leads_then first mid last
+      leads_then K tells serves holds passes first mid last
       (IsUnderway seed start whole from left before) (IsPlayed seed from before after (Err status)) (PlaysOn seed start whole before after (Err status))
       (λ s m b on played. on after (Err status) b (one_ended seed from left count before after status m b is played))
 
@@ -176,7 +136,7 @@ module _ (K : Type 0) (tells serves : K → Type 0) (holds passes : K → Map �
       → Leads tells serves holds passes first last (IsUnderway seed start whole from left before)
       → Leads tells serves holds passes first last (PlaysOn seed start whole before after (Ok tt))
   underway_end seed start whole from left before after first last same is =
-      leads_on first last
+      leads_on K tells serves holds passes first last
       (IsUnderway seed start whole from left before) (PlaysOn seed start whole before after (Ok tt))
       (λ s b on. subst (λ x. PlaysOn seed start whole before x (Ok tt) s b) (sym same) (on before (Ok tt) b (none_left seed from left before b is)))
 
@@ -186,7 +146,7 @@ module _ (K : Type 0) (tells serves : K → Type 0) (holds passes : K → Map �
       → Leads tells serves holds passes first last (PlaysOn seed from count before after (Err status))
       → Leads tells serves holds passes first last (TabledBehind seed from count before after (Err status))
   table_stop seed from count before after status first last =
-      leads_on first last (PlaysOn seed from count before after (Err status)) (TabledBehind seed from count before after (Err status))
+      leads_on K tells serves holds passes first last (PlaysOn seed from count before after (Err status)) (TabledBehind seed from count before after (Err status))
       (λ s b on. inl (status, refl, on))
 
   pub table_behind : (seed from count : ℕ) (before between after : Option (List ℕ)) (gave : Result Table ℕ) (first mid last : Kept K) → between ≡ before
@@ -194,7 +154,7 @@ module _ (K : Type 0) (tells serves : K → Type 0) (holds passes : K → Map �
       → Leads tells serves holds passes mid last (IsTabled between after gave)
       → Leads tells serves holds passes first last (TabledBehind seed from count before after gave)
   table_behind seed from count before between after gave first mid last same =
-      leads_then first mid last
+      leads_then K tells serves holds passes first mid last
       (PlaysOn seed from count before between (Ok tt)) (IsTabled between after gave) (TabledBehind seed from count before after gave)
       (λ s m b on tabled. inr (m, subst (λ x. PlaysOn seed from count before x (Ok tt) s m) same on, subst (λ x. IsTabled x after gave m b) same tabled))
 
@@ -204,14 +164,14 @@ module _ (K : Type 0) (tells serves : K → Type 0) (holds passes : K → Map �
       → Leads tells serves holds passes first last (TabledBehind seed 2121 1 before after (Err status))
       → Leads tells serves holds passes first last (IsCorrected seed one before after status)
   corrected_stop seed one before after status first last =
-      leads_on first last (TabledBehind seed 2121 1 before after (Err status)) (IsCorrected seed one before after status) (λ s b behind. inl behind)
+      leads_on K tells serves holds passes first last (TabledBehind seed 2121 1 before after (Err status)) (IsCorrected seed one before after status) (λ s b behind. inl behind)
 
   pub corrected_end : (seed : ℕ) (one two : Table) (before between after : Option (List ℕ)) (status : ℕ) (first last : Kept K) → between ≡ before
       → PrintsOne (λ text. text ≡ summary_text one.sum two.sum two.entry two.total) 0 status between after
       → Leads tells serves holds passes first last (TabledBehind seed 2121 1 before between (Ok two))
       → Leads tells serves holds passes first last (IsCorrected seed one before after status)
   corrected_end seed one two before between after status first last same prints =
-      leads_on first last (TabledBehind seed 2121 1 before between (Ok two)) (IsCorrected seed one before after status)
+      leads_on K tells serves holds passes first last (TabledBehind seed 2121 1 before between (Ok two)) (IsCorrected seed one before after status)
       (λ s b behind. inr (
         two,
         subst (λ x. TabledBehind seed 2121 1 before x (Ok two) s b) same behind,
@@ -222,7 +182,7 @@ module _ (K : Type 0) (tells serves : K → Type 0) (holds passes : K → Map �
       → Leads tells serves holds passes first last (TabledBehind now 0 2121 before after (Err status))
       → Leads tells serves holds passes first last (IsGenerated seed before after status)
   season_stop seed now before after status first last is =
-      leads_on first last (TabledBehind now 0 2121 before after (Err status)) (IsGenerated seed before after status)
+      leads_on K tells serves holds passes first last (TabledBehind now 0 2121 before after (Err status)) (IsGenerated seed before after status)
       (λ s b behind. inl (subst (λ n. TabledBehind n 0 2121 before after (Err status) s b) is behind))
 
   pub season_end : (seed now later : ℕ) (table : Table) (before between after : Option (List ℕ)) (status : ℕ) (first mid last : Kept K) → now ≡ seed → later ≡ now → between ≡ before
@@ -230,7 +190,7 @@ module _ (K : Type 0) (tells serves : K → Type 0) (holds passes : K → Map �
       → Leads tells serves holds passes mid last (IsCorrected later table between after status)
       → Leads tells serves holds passes first last (IsGenerated seed before after status)
   season_end seed now later table before between after status first mid last is stays same =
-      leads_then first mid last
+      leads_then K tells serves holds passes first mid last
       (TabledBehind now 0 2121 before between (Ok table)) (IsCorrected later table between after status) (IsGenerated seed before after status)
       (λ s m b behind rest. inr (
         table,
