@@ -3,4 +3,3 @@ pub mod Texts
 pub mod Totals
 pub mod Drafting
 pub mod Steps
-pub mod Telling

@@ -5,8 +5,8 @@ use Rattle.csv.specs.Records.{field_at}
 use Rattle.fpl_reports.specs.Rows.{HasRows, HasWrongRow}
 use Rattle.fpl_drafting.specs.declared.row.DraftRow.{DraftRow}
 use Rattle.fpl_drafting.specs.declared.row.DraftRow.TheVariants as row
-use Rattle.fpl_drafting.specs.declared.rows.RowFault.{RowFault}
-use Rattle.fpl_drafting.specs.declared.rows.RowFault.TheVariants as fault
+use Rattle.fpl_reports.specs.declared.rows.RowFault.{RowFault}
+use Rattle.fpl_reports.specs.declared.rows.RowFault.TheVariants as fault
 
 -- a field spells this number, which is from 1 to the greatest: in decimal, without sign or leading zero
 abbrev pub IsNumberAt : List (List ℕ) → ℕ → ℕ → ℕ → Type 0

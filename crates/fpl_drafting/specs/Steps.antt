@@ -20,7 +20,7 @@ use Rattle.draft_league.specs.declared.rule.DraftRefused.TheVariants as refused
 use Rattle.draft_league.specs.declared.rule.DraftRule.{DraftRule}
 use Rattle.fpl_drafting.specs.declared.row.DraftRow.{DraftRow}
 use Rattle.fpl_drafting.specs.declared.row.DraftRow.TheVariants as row
-use Rattle.fpl_drafting.specs.Telling.{refused_text}
+use Rattle.local_requests.specs.RowFaults.{refused_text}
 
 -- Each part goes on with something, `Ok`, and then nothing was written; or it ends the command with an exit status, `Err`, and
 -- nothing is asked behind it.

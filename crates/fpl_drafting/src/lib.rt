@@ -13,7 +13,6 @@ mod totals;
 
 pub use drafting::drafted;
 pub use row::DraftRow;
-pub use rows::{RowFault, draft_rows};
-pub use telling::undrafted;
+pub use rows::draft_rows;
 pub use texts::{outcomes_text, picks_text};
 pub use totals::{Told, questions_of, table_of};

@@ -5,16 +5,8 @@ ghost use Rattle.fpl_drafting.specs.Rows.{AreRowsOf, ExplainsRows, HasDraftRows}
 
 use crate::row::{DraftRow, row_of};
 use csv::ReaderBuilder;
+use fpl_reports::RowFault;
 use std::alloc::Global;
-
-/// Why there are no rows.
-#[derive(Clone, Copy, Debug, PartialEq, Eq)]
-pub enum RowFault {
-    /// The record of this number, from 1, is the first that is no row. Blank lines are not counted.
-    Wrong(u32),
-    /// There was no memory, as for 2^32 rows.
-    Memory,
-}
 
 /// The rows of a league of so many members, from the bytes: `pick,PLAYER`, `bid,GAMEWEEK,MEMBER,INTO,OUT` and
 /// `waive,GAMEWEEK`, as docs/FORMATS.md has them under `draft`.

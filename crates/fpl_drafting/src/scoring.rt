@@ -141,7 +141,7 @@ fn points_asked<W: Sink, C: Clock, K: Keeper, L: Ledger>(
     ensures later { K.faults keeper.old ≤ K.faults keeper.new }
 {
     let mut so_far = ListOf::new(alloc);
-    'questions: for place in 0..questions.len() {
+    for place in 0..questions.len() {
         let question = questions[place];
         let asked = request_of_points(question.0, question.1);
         let told = ask(host, keeper, clock, steps, Caller::Operator, &asked);

@@ -11,11 +11,10 @@ ghost use Rattle.fpl_drafting.specs.Rows.{AreRowsOf, IsRowOf};
 ghost use Rattle.fpl_drafting.specs.Steps.{Changes, IsDone, IsStep, StepsOn, StopsBy, Waives, asked_of, position_in, refusal_of};
 
 use crate::row::DraftRow;
-use crate::telling::refused;
 use draft_league::{Draft, DraftRefused};
 use fpl_base::{Caller, Clock, Gw, Keeper, PlayerId, Position, ReadCount, Sink};
 use local_requests::status::MEMORY;
-use local_requests::{ask, halted};
+use local_requests::{ask, halted, refused_row};
 use season_book::{Answer, Request, Shown, View};
 use season_keeping::Host;
 use std::alloc::Global;
@@ -47,7 +46,7 @@ pub(crate) fn steps_done<W: Sink, C: Clock, K: Keeper, L: Ledger>(
     ensures later { K.faults keeper.old ≤ K.faults keeper.new }
 {
     let mut draft = draft;
-    'rows: for place in 0..rows.len() {
+    for place in 0..rows.len() {
         match step_done(
             alloc,
             host,
@@ -201,7 +200,7 @@ fn ended<W: Sink>(alloc: Global, number: usize, why: DraftRefused, output: &mut 
     ensures write { result ≡ 3 → Rose (W.faults output.old) (W.faults output.new) }
 {
     match why {
-        DraftRefused::Rule(rule) => refused(alloc, number, rule, output),
+        DraftRefused::Rule(rule) => refused_row(alloc, number, rule.number(), output),
         DraftRefused::Memory => MEMORY,
     }
 }

@@ -10,7 +10,8 @@ use Rattle.match_events.specs.declared.refusal.EventRule.{EventRule}
 use Rattle.request_handler.specs.Replying.{Served}
 use Rattle.local_requests.specs.Printing.{PrintsOne}
 use Rattle.fpl_events.specs.Sending.{SendsChanged}
-use Rattle.fpl_events.specs.Telling.{refused_text, sent_text}
+use Rattle.fpl_events.specs.Telling.{sent_text}
+use Rattle.local_requests.specs.RowFaults.{refused_text}
 
 -- a rule is why an edit is refused exactly where it is broken; want of memory needs no reason
 abbrev pub Explains : Option EventRule → EventRefused → Type 0

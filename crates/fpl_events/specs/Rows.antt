@@ -5,8 +5,8 @@ use Rattle.match_events.specs.Events.{is_event}
 use Rattle.fpl_events.specs.Words.{Begins, IsNumberAt, SpellsEvent}
 use Rattle.fpl_events.specs.declared.row.EventRow.{EventRow}
 use Rattle.fpl_events.specs.declared.row.EventRow.TheVariants as row
-use Rattle.fpl_events.specs.declared.sheet.RowFault.{RowFault}
-use Rattle.fpl_events.specs.declared.sheet.RowFault.TheVariants as fault
+use Rattle.fpl_reports.specs.declared.rows.RowFault.{RowFault}
+use Rattle.fpl_reports.specs.declared.rows.RowFault.TheVariants as fault
 
 -- how many events stand behind a row, if as many stood before it: each insertion and each removal counts
 abbrev pub events_after : ℕ → EventRow → ℕ

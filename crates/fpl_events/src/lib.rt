@@ -11,5 +11,4 @@ mod telling;
 
 pub use playing::played;
 pub use row::EventRow;
-pub use sheet::{RowFault, event_rows};
-pub use telling::unplayed;
+pub use sheet::event_rows;

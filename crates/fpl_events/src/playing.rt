@@ -44,7 +44,7 @@ pub fn played<W: Sink, C: Clock, K: Keeper, L: Ledger>(
 {
     let mut events = MatchEvents::new(alloc, minutes);
     let mut sent = 0u64;
-    'rows: for place in 0..rows.len() {
+    for place in 0..rows.len() {
         match row_done(
             alloc,
             host,

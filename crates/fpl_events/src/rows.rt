@@ -9,8 +9,8 @@ ghost use Rattle.fpl_events.specs.Playing.{DoesRow, Edits, EndsBy};
 
 use crate::row::EventRow;
 use crate::sending::send_changed;
-use crate::telling::refused;
 use fpl_base::{Clock, Keeper, ReadCount, Sink};
+use local_requests::refused_row;
 use local_requests::status::MEMORY;
 use match_events::{Event, EventRefused, MatchEvents};
 use season_keeping::Host;
@@ -117,7 +117,7 @@ fn ended<W: Sink>(alloc: Global, number: usize, why: EventRefused, output: &mut 
     ensures write { result ≡ 3 → Rose (W.faults output.old) (W.faults output.new) }
 {
     match why {
-        EventRefused::Rule(rule) => refused(alloc, number, rule, output),
+        EventRefused::Rule(rule) => refused_row(alloc, number, rule.number(), output),
         EventRefused::Memory => MEMORY,
     }
 }

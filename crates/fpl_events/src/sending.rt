@@ -128,7 +128,7 @@ fn send_lines<W: Sink, C: Clock, K: Keeper, L: Ledger>(
     ensures write { result ≡ Err 3 → Rose (W.faults output.old) (W.faults output.new) }
     ensures later { K.faults keeper.old ≤ K.faults keeper.new }
 {
-    'players: for place in 0..players.len() {
+    for place in 0..players.len() {
         match send_line(
             alloc,
             host,

@@ -5,16 +5,8 @@ ghost use Rattle.fpl_events.specs.Rows.{AreDoable, ExplainsRows, HasEventRows, e
 
 use crate::row::{EventRow, row_of};
 use csv::ReaderBuilder;
+use fpl_reports::RowFault;
 use std::alloc::Global;
-
-/// Why there are no rows.
-#[derive(Clone, Copy, Debug, PartialEq, Eq)]
-pub enum RowFault {
-    /// The record of this number, from 1, is the first that is no row. Blank lines are not counted.
-    Wrong(u32),
-    /// There was no memory, as for 2^32 rows.
-    Memory,
-}
 
 /// The rows of a match of so many minutes, from the bytes: `insert,PLACE,MINUTE,KIND,SIDE,PLAYER,OTHER`, `remove,PLACE` and
 /// `send`, as docs/FORMATS.md has them under `events`. A place is judged by how many events the rows before it leave.

@@ -17,3 +17,4 @@ mod tables;
 pub use folder::{FileFault, season_files};
 pub use laws::season_files_say_once;
 pub use report::report_text;
+pub use rows::RowFault;

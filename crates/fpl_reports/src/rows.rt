@@ -17,12 +17,12 @@ pub(crate) trait Row: Sized + Drop {
         ensures { IfOk result (Finds (adds before.now (fields_of read.now))) };
 }
 
-// Why there are no rows.
-#[derive(Clone, Copy, Debug)]
-pub(crate) enum RowFault {
-    // The record of this number, from 1, is the first that is no row.
+/// Why there are no rows.
+#[derive(Clone, Copy, Debug, PartialEq, Eq)]
+pub enum RowFault {
+    /// The record of this number, from 1, is the first that is no row. Blank lines are not counted.
     Wrong(u32),
-    // There was no memory, as for 2^32 rows.
+    /// There was no memory, as for 2^32 rows.
     Memory,
 }
 

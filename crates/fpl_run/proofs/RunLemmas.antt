@@ -12,7 +12,8 @@ use Rattle.season_opening.specs.declared.loading.OpenFault.TheVariants as fault
 use Rattle.fpl_loading.specs.declared.files.LoadFault.TheVariants as load_fault
 use Rattle.fpl_run.proofs.PipeLemmas.{holds_still}
 use Rattle.fpl_run.proofs.Taken.{none_taken}
-use Rattle.fpl_run.specs.Run.{Ends, IsNotReadDue, IsScoreDue, IsUnread, LeavesHost, LeavesInput, Outside, RunsAs, not_read_text, row_text}
+use Rattle.fpl_run.specs.Run.{Ends, IsNotReadDue, IsScoreDue, IsUnread, LeavesHost, LeavesInput, Outside, RunsAs, not_read_text}
+use Rattle.local_requests.specs.RowFaults.{row_text}
 
 -- one write of the text for words that are no command
 pub not_read_ends : (status : ℕ) (before after : Option (List ℕ)) (text : List ℕ) → text ≡ not_read_text → Prints text 2 status before after → Ends IsNotReadDue status before after

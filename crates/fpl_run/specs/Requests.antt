@@ -12,14 +12,12 @@ use Rattle.season_generator.specs.Generating.{IsGenerated}
 use Rattle.fpl_dreaming.specs.Dreaming.{IsDreamed}
 use Rattle.fpl_events.specs.Rows.{ExplainsRows, HasEventRows}
 use Rattle.fpl_events.specs.declared.row.EventRow.{EventRow}
-use Rattle.fpl_events.specs.declared.sheet.RowFault.{RowFault}
+use Rattle.fpl_reports.specs.declared.rows.RowFault.{RowFault}
 use Rattle.fpl_events.specs.Playing.{IsPlayed}
-use Rattle.fpl_events.specs.Telling.{TellsRowFault}
+use Rattle.local_requests.specs.RowFaults.{TellsRowFault}
 use Rattle.fpl_drafting.specs.Rows.{ExplainsRows as ExplainsDraft, HasDraftRows}
 use Rattle.fpl_drafting.specs.declared.row.DraftRow.{DraftRow}
-use Rattle.fpl_drafting.specs.declared.rows.RowFault.{RowFault as DraftFault}
 use Rattle.fpl_drafting.specs.Drafting.{IsDrafted}
-use Rattle.fpl_drafting.specs.Telling.{TellsRowFault as TellsDraftFault}
 use Rattle.fpl_run.specs.Keeping.{IsUnopened, Runs}
 
 -- what is asked leads from each book to one: the keeper is not read again on the way
@@ -68,7 +66,7 @@ Plays tells serves holds passes faults old new key fixture minutes bytes moments
 abbrev pub Drafts : {K : Type 0} → (K → Type 0) → (K → Type 0) → (K → Map → Type 0) → (K → Map → Type 0) → (K → ℕ) → K → K → List ℕ → ℕ → List ℕ
     → Option Moments → Option Moments → Option (List ℕ) → Option (List ℕ) → ℕ → Type 0
 Drafts tells serves holds passes faults old new key members bytes moments later before after status =
-    ((why : DraftFault) × ExplainsDraft members bytes why × TellsDraftFault why status before after × (new ≡ old) × (later ≡ moments))
+    ((why : RowFault) × ExplainsDraft members bytes why × TellsRowFault why status before after × (new ≡ old) × (later ≡ moments))
     ⊎ ((rows : List DraftRow) × HasDraftRows members bytes rows
     × RunsThrough tells serves holds passes faults old new key moments later before after status (IsDrafted members rows before after status))
 

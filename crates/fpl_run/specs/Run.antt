@@ -1,6 +1,5 @@
 -- What a run owes to its words and its input, and how it may end.
 use Rattle.std.specs.Prelude.{◌≡◌, ◌≤◌, ◌<◌, ◌++◌, ◌⊎◌, [], ◌∷◌, ℕ, List, Option, Some, None, Result, IfSome, length, codes}
-use Rattle.std.specs.Fmt.{decimal}
 use Rattle.std.specs.Io.KnownBytes.{Appends, IsAtEnd, Keeps}
 use Rattle.fpl_base.specs.Causes.{AppendsFront}
 use Rattle.fpl_base.specs.declared.kinds.Profile.{Profile}
@@ -12,6 +11,7 @@ use Rattle.command_line.specs.declared.words.Words.TheVariants as order
 use Rattle.score_sheet.specs.Sheets.{Scores, HasWrongRow}
 use Rattle.fpl_run.specs.Input.{TakesAtMost}
 use Rattle.fpl_run.specs.Pipe.{Pipes}
+use Rattle.local_requests.specs.RowFaults.{row_text}
 use Rattle.fpl_run.specs.Requests.{Dreams, Generates, Reports}
 use Rattle.fpl_run.specs.Reading.{PipeCounts, ServeCounts}
 use Rattle.fpl_run.specs.Serve.{DoorState, Serves}
@@ -22,10 +22,6 @@ use Rattle.fpl_run.specs.Loads.{Handed, Loaded}
 -- the text for words that are not read
 abbrev pub not_read_text : List ℕ
 not_read_text = codes "words not read" ++ 10 ∷ []
-
--- the text that names a wrong row
-abbrev pub row_text : ℕ → List ℕ
-row_text n = codes "row " ++ (decimal n ++ 10 ∷ [])
 
 -- what is due for words that are not read: a line that says so, and status 2
 abbrev pub IsNotReadDue : ℕ → List ℕ → Type 0

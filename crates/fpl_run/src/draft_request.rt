@@ -7,7 +7,8 @@ ghost use Rattle.fpl_run.specs.Requests.{Drafts, RunsThrough};
 
 use crate::opening::unopened;
 use fpl_base::{Clock, Keeper, Key, ReadCount, Sink};
-use fpl_drafting::{DraftRow, draft_rows, drafted, undrafted};
+use fpl_drafting::{DraftRow, draft_rows, drafted};
+use local_requests::unread_rows;
 use season_keeping::Host;
 use std::alloc::Global;
 use std::sync::ledger::Ledger;
@@ -44,7 +45,7 @@ pub fn draft<W: Sink, C: Clock, K: Keeper, L: Ledger>(
             keeper,
             steps,
         ),
-        Err(fault) => undrafted(alloc, fault, output),
+        Err(fault) => unread_rows(alloc, fault, output),
     }
 }
 

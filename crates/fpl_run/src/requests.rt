@@ -11,9 +11,9 @@ use crate::opening::unopened;
 use command_line::What;
 use fpl_base::{Clock, Gw, Keeper, Key, Memory, ReadCount, Sink};
 use fpl_dreaming::dreamed;
-use fpl_events::{EventRow, event_rows, played, unplayed};
-use local_requests::reported;
+use fpl_events::{EventRow, event_rows, played};
 use local_requests::status::MEMORY;
+use local_requests::{reported, unread_rows};
 use season_book::View;
 use season_generator::generated;
 use season_keeping::Host;
@@ -128,7 +128,7 @@ pub fn play<W: Sink, C: Clock, K: Keeper, L: Ledger>(
             keeper,
             steps,
         ),
-        Err(fault) => unplayed(alloc, fault, output),
+        Err(fault) => unread_rows(alloc, fault, output),
     }
 }
 

@@ -3,13 +3,14 @@ ghost use Rattle.std.specs.Prelude.{◌≡◌, ◌≤◌, ◌<◌, ◌⊎◌, If
 ghost use Rattle.std.specs.Io.KnownBytes.{IsAtEnd};
 ghost use Rattle.fpl_base.specs.Causes.{Rose};
 ghost use Rattle.fpl_run.specs.Input.{TakesAtMost};
-ghost use Rattle.fpl_run.specs.Run.{IsScoreDue, row_text};
+ghost use Rattle.fpl_run.specs.Run.{IsScoreDue};
 
 use crate::input::{InputFault, read_all};
 use fpl_base::{Memory, Profile, Source};
+use local_requests::row_line;
 use local_requests::status::{DONE, TOO_LONG, WRONG_ROW};
 use score_sheet::{SheetFault, score_sheet};
-use std::alloc::{AllocError, Global};
+use std::alloc::Global;
 
 /// What is due to the output, and the status behind it.
 #[derive(Drop)]
@@ -74,10 +75,4 @@ fn sheet_due(alloc: Global, profile: Profile, bytes: &[u8]) -> Result<Due, Memor
         }),
         Err(SheetFault::Memory) => Err(Memory),
     }
-}
-
-fn row_line(alloc: Global, place: usize) -> Result<String, AllocError>
-    ensures { IfOk result (λ text. string_bytes text ≡ row_text place) }
-{
-    format!(in alloc; "row {place}\n")
 }

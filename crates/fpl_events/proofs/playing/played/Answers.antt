@@ -13,8 +13,8 @@ use Rattle.fpl_events.proofs.playing.played.Goals as goal
 err_is : (one other : ℕ) → one ≡ other → ◌≡◌ {A = Result ℕ ℕ} (Err one) (Err other)
 err_is one other same = ap (λ (status : ℕ). Err status) same
 
-pub rows-init : goal.rows-init
-rows-init g c =
+pub loop-place-init : goal.loop-place-init
+loop-place-init g c =
     let first : Kept _ = record { host = c.args.host.now; moments = g.C.Clock.left c.args.clock.now; failed = g.K.Keeper.faults c.args.keeper.now; keeper = c.args.keeper.now } in
     let bare : c.new-events.result ≡ bare_sheet c.args.minutes = c.new-events.ensures in
     record {
@@ -29,22 +29,22 @@ rows-init g c =
 
 pub row_done-requires-clause-doable : goal.row_done-requires-clause-doable
 row_done-requires-clause-doable g c =
-    let at = c.rows in
+    let at = c.loop-place in
     let row = c.index-rows-place.result in
-    let next = next_of c.args.rows.now at.place row c.rows-test.true c.index-rows-place.is in
+    let next = next_of c.args.rows.now at.place row c.loop-place-test.true c.index-rows-place.is in
     let doable = subst (λ (rows : List EventRow). AreDoable c.args.minutes (length at.events.events) rows) next at.invariant.doable in
     subst (λ (minutes : ℕ). IsDoable minutes (length at.events.events) row) (sym at.invariant.minutes) doable.0
 
 pub overflow_add-sent : goal.overflow_add-sent
-overflow_add-sent g c = omega (arith, c.rows.invariant.few, c.in-Ok.ensures.few, c.rows-test.true, c.requires.few)
+overflow_add-sent g c = omega (arith, c.loop-place.invariant.few, c.in-Ok.ensures.few, c.loop-place-test.true, c.requires.few)
 
-pub rows-preserved : goal.rows-preserved
-rows-preserved g c =
-    let at = c.rows in
+pub loop-place-preserved : goal.loop-place-preserved
+loop-place-preserved g c =
+    let at = c.loop-place in
     let all = c.args.rows.now in
     let row = c.index-rows-place.result in
     let one = c.row_done.new in
-    let next = next_of all at.place row c.rows-test.true c.index-rows-place.is in
+    let next = next_of all at.place row c.loop-place-test.true c.index-rows-place.is in
     let doable = subst (λ (rows : List EventRow). AreDoable c.args.minutes (length at.events.events) rows) next at.invariant.doable in
     let first : Kept _ = record { host = c.args.host.now; moments = g.C.Clock.left c.args.clock.now; failed = g.K.Keeper.faults c.args.keeper.now; keeper = c.args.keeper.now } in
     let mid : Kept _ = record { host = at.host; moments = g.C.Clock.left at.clock; failed = g.K.Keeper.faults at.keeper; keeper = at.keeper } in
@@ -63,7 +63,7 @@ rows-preserved g c =
 
 pub returns-in-Err-clause-played : goal.returns-in-Err-clause-played
 returns-in-Err-clause-played g c =
-    let at = c.rows in
+    let at = c.loop-place in
     let all = c.args.rows.now in
     let row = c.index-rows-place.result in
     let one = c.row_done.new in
@@ -72,23 +72,23 @@ returns-in-Err-clause-played g c =
     let last : Kept _ = record { host = one.host; moments = g.C.Clock.left one.clock; failed = g.K.Keeper.faults one.keeper; keeper = one.keeper } in
     going_stop _ g.K.Keeper.tells g.K.Keeper.serves g.K.Keeper.holds g.K.Keeper.passes c.args.fixture c.args.minutes (at.place + 1) at.sent c.in-Err.status all (drop at.place all) (drop (at.place + 1) all) row at.events one.events
     (g.W.Sink.taken c.args.output.now) (g.W.Sink.taken at.output) (g.W.Sink.taken one.output) first mid last
-    (next_of all at.place row c.rows-test.true c.index-rows-place.is) (ap g.W.Sink.taken at.invariant.output) at.invariant.on c.in-Err.ensures.done
+    (next_of all at.place row c.loop-place-test.true c.index-rows-place.is) (ap g.W.Sink.taken at.invariant.output) at.invariant.on c.in-Err.ensures.done
 
 pub returns-in-Err-clause-keeper : goal.returns-in-Err-clause-keeper
-returns-in-Err-clause-keeper g c = λ is. rose_since _ _ _ c.rows.invariant.later (c.in-Err.ensures.keeper (err_is _ _ is))
+returns-in-Err-clause-keeper g c = λ is. rose_since _ _ _ c.loop-place.invariant.later (c.in-Err.ensures.keeper (err_is _ _ is))
 
 pub returns-in-Err-clause-write : goal.returns-in-Err-clause-write
-returns-in-Err-clause-write g c = λ is. rose_from g.W.Sink.faults _ _ _ c.rows.invariant.output (c.in-Err.ensures.write (err_is _ _ is))
+returns-in-Err-clause-write g c = λ is. rose_from g.W.Sink.faults _ _ _ c.loop-place.invariant.output (c.in-Err.ensures.write (err_is _ _ is))
 
 pub returns-clause-played : goal.returns-clause-played
 returns-clause-played g c =
-    let at = c.rows in
+    let at = c.loop-place in
     let all = c.args.rows.now in
     let first : Kept _ = record { host = c.args.host.now; moments = g.C.Clock.left c.args.clock.now; failed = g.K.Keeper.faults c.args.keeper.now; keeper = c.args.keeper.now } in
     let mid : Kept _ = record { host = at.host; moments = g.C.Clock.left at.clock; failed = g.K.Keeper.faults at.keeper; keeper = at.keeper } in
     going_end _ g.K.Keeper.tells g.K.Keeper.serves g.K.Keeper.holds g.K.Keeper.passes c.args.fixture c.args.minutes (at.place + 1) at.sent c.tell.result all (drop at.place all) at.events
     (g.W.Sink.taken c.args.output.now) (g.W.Sink.taken at.output) (g.W.Sink.taken c.tell.new.output) first mid
-    (drop_all at.place all c.rows-test.false) (ap g.W.Sink.taken at.invariant.output) c.tell.ensures.told at.invariant.on
+    (drop_all at.place all c.loop-place-test.false) (ap g.W.Sink.taken at.invariant.output) c.tell.ensures.told at.invariant.on
 
 pub returns-clause-write : goal.returns-clause-write
-returns-clause-write g c = λ is. rose_from g.W.Sink.faults _ _ _ c.rows.invariant.output (c.tell.ensures.write is)
+returns-clause-write g c = λ is. rose_from g.W.Sink.faults _ _ _ c.loop-place.invariant.output (c.tell.ensures.write is)

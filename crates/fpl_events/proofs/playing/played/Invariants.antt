@@ -5,8 +5,8 @@ use Rattle.fpl_events.proofs.PlayingLemmas.{IsGoing}
 use Rattle.fpl_events.proofs.playing.played.Given as goal
 
 -- the rows before this one were done, and nothing was written
-abbrev pub invariant-rows : goal.invariant-rows
-invariant-rows g l = record {
+abbrev pub invariant-loop-place : goal.invariant-loop-place
+invariant-loop-place g l = record {
   on : Leads g.K.Keeper.tells g.K.Keeper.serves g.K.Keeper.holds g.K.Keeper.passes
       (record { host = l.fn.host; moments = g.C.Clock.left l.fn.clock; failed = g.K.Keeper.faults l.fn.keeper; keeper = l.fn.keeper })
       (record { host = l.host; moments = g.C.Clock.left l.clock; failed = g.K.Keeper.faults l.keeper; keeper = l.keeper })

@@ -4,8 +4,8 @@ use Rattle.fpl_events.proofs.SendingLemmas.{IsSending}
 use Rattle.fpl_events.proofs.sending.send_lines.Given as goal
 
 -- the lines of the players before this one were sent, and nothing was written
-abbrev pub invariant-players : goal.invariant-players
-invariant-players g l = record {
+abbrev pub invariant-loop-place : goal.invariant-loop-place
+invariant-loop-place g l = record {
   on : Leads g.K.Keeper.tells g.K.Keeper.serves g.K.Keeper.holds g.K.Keeper.passes
       (record { host = l.fn.host; moments = g.C.Clock.left l.fn.clock; failed = g.K.Keeper.faults l.fn.keeper; keeper = l.fn.keeper })
       (record { host = l.host; moments = g.C.Clock.left l.clock; failed = g.K.Keeper.faults l.keeper; keeper = l.keeper })

@@ -21,4 +21,4 @@ returns-in-Ok-clause-drafts g c =
     )
 
 pub returns-in-Err-clause-drafts : goal.returns-in-Err-clause-drafts
-returns-in-Err-clause-drafts g c = inl (c.in-Err.fault, c.in-Err.ensures.fault, c.undrafted.ensures.told, refl, refl)
+returns-in-Err-clause-drafts g c = inl (c.in-Err.fault, c.in-Err.ensures.fault, c.unread_rows.ensures.told, refl, refl)

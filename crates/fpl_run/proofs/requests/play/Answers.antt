@@ -24,4 +24,4 @@ returns-in-Ok-clause-plays g c =
     )
 
 pub returns-in-Err-clause-plays : goal.returns-in-Err-clause-plays
-returns-in-Err-clause-plays g c = inl (c.in-Err.fault, c.in-Err.ensures.fault, c.unplayed.ensures.told, refl, refl)
+returns-in-Err-clause-plays g c = inl (c.in-Err.fault, c.in-Err.ensures.fault, c.unread_rows.ensures.told, refl, refl)

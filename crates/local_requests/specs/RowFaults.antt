@@ -1,8 +1,8 @@
--- What is written of rows that are not done.
+-- What is written of rows of an input that are not done.
 use Rattle.std.specs.Prelude.{◌≡◌, ℕ, List, [], ◌∷◌, ◌++◌, Option, codes}
 use Rattle.std.specs.Fmt.{decimal}
-use Rattle.fpl_drafting.specs.declared.rows.RowFault.{RowFault}
-use Rattle.fpl_drafting.specs.declared.rows.RowFault.TheVariants as fault
+use Rattle.fpl_reports.specs.declared.rows.RowFault.{RowFault}
+use Rattle.fpl_reports.specs.declared.rows.RowFault.TheVariants as fault
 use Rattle.local_requests.specs.Printing.{PrintsOne}
 
 -- the line that names a wrong row
