@@ -1,25 +1,12 @@
 -- What keeps a running season in step.
-use Rattle.std.proofs.Common.{◌≡◌, ◌≤◌, ◌++◌, ◌∷◌, [], ℕ, zero, suc, List, Option, Some, None, length, map, arith, refl, sym, ap, ◌∙◌, subst}
+use Rattle.std.proofs.Common.{◌≡◌, ◌≤◌, ◌++◌, ◌∷◌, [], ℕ, zero, suc, List, length, map, arith, refl, sym, ap, ◌∙◌, subst}
 use Rattle.std.specs.Prelude.{Result, Ok, Err, OnOk, OnErr}
-use Rattle.std.proofs.lemmas.Option.{none-some}
-use Rattle.fpl_base.specs.declared.rule.Rule.{Rule}
-use Rattle.fpl_base.specs.declared.rule.Rule.TheVariants as rule
 use Rattle.rule_book.specs.declared.player.Player.{Player}
-use Rattle.rule_book.specs.EntryCalls.{in_next}
 use Rattle.rule_book.specs.Leagues.{LeagueFacts}
 use Rattle.manager_book.specs.declared.manager.Manager.{Manager}
 use Rattle.manager_book.specs.Managers.{Managers, rekeyed}
 use Rattle.season_book.specs.Book.{Facts}
 use Rattle.season_running.specs.Standing.{InStep}
-
--- where a deed is not refused there is a next gameweek
-pub record Open (next : Option ℕ) : Type 0 where
-  pub gameweek : ℕ
-  pub is : next ≡ Some gameweek
-
-pub open_then : (next : Option ℕ) (judged : ℕ → Option Rule) → in_next next judged ≡ None → Open next
-open_then None judged is = absurd (none-some rule.SeasonOver (sym is))
-open_then (Some g) judged is = record { gameweek = g; is = refl }
 
 -- there are as many as there are keys
 long_map : {X Y : Type 0} (f : X → Y) (xs : List X) → length (map f xs) ≡ length xs
