@@ -1,13 +1,10 @@
 -- What a keeper gave, and what was made of it.
-use Rattle.std.specs.Prelude.{◌≡◌, ℕ, List, Some, Result, Ok, Err, IfOk, OnErr, OnOk}
-use Rattle.std.proofs.Common.{◌∙◌, ap, sym}
-use Rattle.fpl_base.specs.Keeping.{KeysRise, Map, map_of}
-use Rattle.fpl_base.specs.declared.records.RecordKey.{RecordKey}
+use Rattle.std.specs.Prelude.{◌≡◌, ℕ, List, Result, Ok, Err, IfOk, OnErr, OnOk}
+use Rattle.fpl_base.specs.Keeping.{Map, map_of}
 use Rattle.stored_records.specs.Stored.{Rows}
-use Rattle.store_validation.specs.Lawful.{judged}
 use Rattle.season_running.specs.Standing.{host_rows}
 use Rattle.season_restoring.specs.declared.books.Restored.{Restored}
-use Rattle.season_opening.specs.Opening.{AreLoaded, AreMadeOf, IsDamaged, IsLoaded}
+use Rattle.season_opening.specs.Opening.{AreLoaded, AreMadeOf, IsLoaded}
 use Rattle.season_opening.specs.declared.loading.OpenFault.{OpenFault}
 
 -- what holds holds behind an error, and behind none
@@ -21,14 +18,10 @@ behind_ok (Err e) p = tt
 
 module _ (tells : Type 0) (before after passes : Map → Type 0) where
   -- a keeper that gave these pairs gave their map
-  pub pairs_loaded : (rows pairs : Rows) → rows ≡ pairs → (tells → (m : Map) → before m → m ≡ map_of pairs)
+  pub pairs_loaded : (pairs : Rows) → (tells → (m : Map) → before m → m ≡ map_of pairs)
       → (tells → (m : Map) → before m → after m) → (tells → (m : Map) → before m → (x : Map) → passes x → x ≡ m)
-      → IsLoaded tells before after passes (map_of rows)
-  pairs_loaded rows pairs is gave done alone = record {
-    same = λ so m held. gave so m held ∙ ap map_of (sym is);
-    holds = done;
-    alone = alone;
-  }
+      → IsLoaded tells before after passes (map_of pairs)
+  pairs_loaded pairs gave done alone = record { same = gave; holds = done; alone = alone }
 
   -- what was made of the map was loaded
   pub made_loaded : (m : Map) → IsLoaded tells before after passes m → (result : Result Restored OpenFault)
@@ -36,12 +29,3 @@ module _ (tells : Type 0) (before after passes : Map → Type 0) where
       → IfOk result (λ made. (operator : List ℕ) → AreLoaded tells before after passes (host_rows operator made.running made.lasts))
   made_loaded m loaded (Ok made) each = λ operator. record { map = m; loaded = loaded; made = each operator }
   made_loaded m loaded (Err fault) each = tt
-
-  -- and where a record is not lawful, the map is damaged
-  pub judged_damaged : (rows pairs : Rows) → rows ≡ pairs → KeysRise pairs → IsLoaded tells before after passes (map_of rows)
-      → (key : RecordKey) → judged rows ≡ Some key → IsDamaged tells before after passes key
-  judged_damaged rows pairs is rise loaded key wrong = record {
-    map = map_of rows;
-    loaded = loaded;
-    judged = record { rows = pairs; rise = rise; map = ap map_of is; judged = ap judged (sym is) ∙ wrong };
-  }

@@ -3,15 +3,15 @@ ghost use Rattle.std.specs.Prelude.{◌≡◌, ◌≢◌, ◌≤◌, ℕ, Err, I
 ghost use Rattle.fpl_base.specs.Causes.{Rose};
 ghost use Rattle.fpl_base.specs.Keeping.{KeysRise, Map, map_of};
 ghost use Rattle.fpl_base.specs.declared.records.RecordKey.{RecordKey};
-ghost use Rattle.store_validation.specs.Lawful.{judged};
 ghost use Rattle.season_running.specs.Standing.{host_rows};
-ghost use Rattle.season_opening.specs.Opening.{AreLoaded, AreMadeOf, IsDamaged};
+ghost use Rattle.season_opening.specs.Opening.{AreLoaded, AreMadeOf, IsDamaged, IsJudgedAs};
 ghost use Rattle.season_opening.specs.declared.loading.OpenFault.TheVariants as fault;
 
 use fpl_base::{Bytes, Keeper, KeeperFault, Memory, RecordKey};
 use season_restoring::{Restored, books_of};
 use std::alloc::Global;
 use store_validation::judge;
+use stored_records::{Stored, terms_of};
 
 /// Why a host could not be opened or made ready.
 #[derive(Clone, Copy, Debug, PartialEq, Eq)]
@@ -22,6 +22,14 @@ pub enum OpenFault {
     Damaged(RecordKey),
     /// There was no memory.
     Memory,
+}
+
+impl From<Memory> for OpenFault {
+    ghost from_gives = { λ _ gives. gives ≡ fault.Memory };
+
+    fn from(_: Memory) -> Self {
+        OpenFault::Memory
+    }
 }
 
 /// The books that the keeper's records tell. It takes memory in proportion to the records.
@@ -46,28 +54,26 @@ pub fn loaded<K: Keeper>(alloc: Global, keeper: &mut K) -> Result<Restored, Open
     ensures counts { result ≢ Err fault.Keeper → K.faults keeper.new ≡ K.faults keeper.old }
 {
     match keeper.load(alloc) {
-        Ok(rows) => restored(alloc, &rows),
+        Ok(rows) => restored(alloc, rows),
         Err(KeeperFault::Failed) => Err(OpenFault::Keeper),
         Err(KeeperFault::Memory) => Err(OpenFault::Memory),
     }
 }
 
 // The books that records tell.
-fn restored(alloc: Global, rows: &[(RecordKey, Bytes)]) -> Result<Restored, OpenFault>
-    requires { KeysRise rows.now }
+fn restored(alloc: Global, rows: Vec<(RecordKey, Bytes)>) -> Result<Restored, OpenFault>
+    requires { KeysRise rows.items }
     ensures made { IfOk result
         (λ made. (operator : List ℕ)
-        → AreMadeOf (map_of rows.now) (host_rows operator made.running made.lasts)) }
+        → AreMadeOf (map_of rows.items) (host_rows operator made.running made.lasts)) }
     ensures damaged { (key : RecordKey) → result ≡ Err (fault.Damaged key)
-        → judged rows.now ≡ Some key }
+        → IsJudgedAs (map_of rows.items) (Some key) }
     ensures given { result ≢ Err fault.Keeper }
 {
-    match judge(alloc, rows) {
-        Ok(None) => match books_of(alloc, rows) {
-            Ok(made) => Ok(made),
-            Err(Memory) => Err(OpenFault::Memory),
-        },
-        Ok(Some(key)) => Err(OpenFault::Damaged(key)),
-        Err(Memory) => Err(OpenFault::Memory),
+    let stored = Stored::read(alloc, rows)?;
+    let terms = terms_of(alloc, &stored)?;
+    match judge(&stored, &terms) {
+        None => Ok(books_of(alloc, &stored)?),
+        Some(key) => Err(OpenFault::Damaged(key)),
     }
 }

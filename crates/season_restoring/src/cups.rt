@@ -13,17 +13,18 @@ ghost use Rattle.season_records.specs.Records.{cup_item};
 ghost use Rattle.season_restoring.specs.CupRows.{IsCupRow, TellsCups};
 
 use crate::league_parts::of_kind;
-use fpl_base::{Bytes, Memory, RecordKey, Refused};
+use fpl_base::{Memory, Refused};
 use leagues_and_cups::Cups;
 use rule_book::Bracket;
-use season_records::{Item, decode};
+use season_records::Item;
 use std::alloc::Global;
+use stored_records::Kept;
 
 // The kind of a record of a cup.
 const CUP: u8 = 11;
 
 /// The cups that lawful records tell, by number from 1.
-pub fn cups_of(alloc: Global, rows: &[(RecordKey, Bytes)]) -> Result<Cups, Memory>
+pub fn cups_of(alloc: Global, rows: &[Kept]) -> Result<Cups, Memory>
     requires rise { KeysRise rows.now }
     requires lawful { judged rows.now ≡ None }
     ensures { IfOk result
@@ -32,13 +33,13 @@ pub fn cups_of(alloc: Global, rows: &[(RecordKey, Bytes)]) -> Result<Cups, Memor
 {
     let mut cups = Cups::new(alloc);
     for row in of_kind(rows, CUP) {
-        add_cup(alloc, row, &mut cups)?;
+        add_cup(row, &mut cups)?;
     }
     Ok(cups)
 }
 
 // Adds the cup that a record tells of behind the others.
-fn add_cup(alloc: Global, row: &(RecordKey, Bytes), cups: &mut Cups) -> Result<(), Memory>
+fn add_cup(row: &Kept, cups: &mut Cups) -> Result<(), Memory>
     requires room { length cups.old < most_cups }
     requires row { IsCupRow (length cups.old + 1) row.now.0 row.now.1 }
     ensures told { OnOk result
@@ -46,7 +47,7 @@ fn add_cup(alloc: Global, row: &(RecordKey, Bytes), cups: &mut Cups) -> Result<(
         → TellsCups (applied_one m (op.Put row.now.0 row.now.1)) cups.new) }
     ensures one_more { OnOk result (length cups.new ≡ length cups.old + 1) }
 {
-    match &decode(alloc, row.0, row.1.as_slice())? {
+    match row.item() {
         Some(
             Item::Cup {
                 start,

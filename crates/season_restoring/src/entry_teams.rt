@@ -1,5 +1,6 @@
 // The teams that records tell of an entry.
 ghost use Rattle.std.specs.Prelude.{◌≡◌, ◌≤◌, ◌++◌, IfOk, OnOk, map};
+ghost use Rattle.std.specs.Option.{option_map};
 ghost use Rattle.fpl_base.specs.Keeping.{map_of};
 ghost use Rattle.rule_book.specs.PlayerFigures.{position_in};
 ghost use Rattle.season_restoring.specs.Restoring.{HaveBanks, HasBank, beside, pick_placed, placed, team_placed, teams_told};
@@ -66,9 +67,10 @@ fn picks_of(players: &Players, picks: &[(PlayerId, u16); 15]) -> [Pick; 15]
 }
 
 // The team that a record tells, each player at his position.
-fn team_in(players: &Players, item: &Option<Item>) -> Option<Team>
-    requires { HasBank item.now }
-    ensures { result ≡ team_placed (position_in players.now) item.now }
+fn team_in(players: &Players, item: Option<&Item>) -> Option<Team>
+    requires { HasBank (option_map (λ item. item.now) item) }
+    ensures { result
+        ≡ team_placed (position_in players.now) (option_map (λ item. item.now) item.entry) }
 {
     match item {
         Some(
@@ -95,25 +97,16 @@ fn team_in(players: &Players, item: &Option<Item>) -> Option<Team>
 }
 
 // The team of an entry in a gameweek.
-fn team_of(
-    alloc: Global,
-    stored: &Stored,
-    players: &Players,
-    entry: EntryId,
-    gameweek: Gw,
-) -> Result<Option<Team>, Memory>
+fn team_of(stored: &Stored, players: &Players, entry: EntryId, gameweek: Gw) -> Option<Team>
     requires { HaveBanks (map_of stored.now) entry }
-    ensures { IfOk result
-        (λ team. team ≡ placed (position_in players.now) (map_of stored.now) entry gameweek) }
+    ensures { result ≡ placed (position_in players.now) (map_of stored.now) entry gameweek }
 {
     let slot = Slot::Team(entry.get(), u32::from(gameweek.get()));
-    let item = stored.item(alloc, slot)?;
-    Ok(team_in(players, &item))
+    team_in(players, stored.item(slot))
 }
 
 // Adds the team of a gameweek, where there is one.
 fn add_team(
-    alloc: Global,
     stored: &Stored,
     players: &Players,
     entry: EntryId,
@@ -126,7 +119,7 @@ fn add_team(
         ≡ teams.old.items
         ++ beside gameweek (placed (position_in players.now) (map_of stored.now) entry gameweek)) }
 {
-    match team_of(alloc, stored, players, entry, gameweek)? {
+    match team_of(stored, players, entry, gameweek) {
         Some(team) => {
             // Field by field, since the prover wants the type of the picks to be named where a team is added.
             let picks: [Pick; 15] = team.picks;
@@ -160,7 +153,7 @@ pub(crate) fn teams_of(
 {
     let mut teams = Vec::new(alloc);
     for number in 1..39u8 {
-        add_team(alloc, stored, players, entry, gameweek(number), &mut teams)?;
+        add_team(stored, players, entry, gameweek(number), &mut teams)?;
     }
     Ok(teams)
 }

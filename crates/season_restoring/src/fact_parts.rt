@@ -10,20 +10,18 @@ ghost use Rattle.season_book.specs.Commands.{new_season};
 ghost use Rattle.season_facts.specs.Kept.{AreFacts};
 ghost use Rattle.season_restoring.specs.Restored.{Fits, FitsSpelled, with_item, with_locked, with_row};
 
-use fpl_base::{
-    Bytes, ClubId, FixtureId, Gw, Memory, Moment, Name, PlayerId, Profile, RecordKey, Refused,
-    Tenths,
-};
+use fpl_base::{ClubId, FixtureId, Gw, Memory, Moment, Name, PlayerId, Profile, Refused, Tenths};
 use match_facts::MatchFacts;
 use player_market::Players;
 use rule_book::{Fixture, Line, Player};
 use season_book::{Clubs, Moments, SharedClubs};
 use season_calendar::Calendar;
 use season_facts::Season;
-use season_records::{Item, decode};
+use season_records::Item;
 use std::alloc::Global;
 use std::collections::BTreeMap;
 use std::marker::Model;
+use stored_records::Kept;
 
 // The last kind of a record that tells of the facts: a line.
 const LAST_KIND: u8 = 5;
@@ -85,26 +83,26 @@ impl Parts {
     }
 
     /// Takes what a record tells, where it tells of these parts.
-    pub fn take_row(&mut self, alloc: Global, row: &(RecordKey, Bytes)) -> Result<(), Memory>
+    pub fn take_row(&mut self, row: &Kept) -> Result<(), Memory>
         requires { FitsSpelled self.old (item_of row.now.0 row.now.1) }
         ensures { OnOk result (self.new ≡ with_row self.old row.now) }
     {
-        if row.0.kind > LAST_KIND {
+        if row.key().kind > LAST_KIND {
             return Ok(());
         }
-        match decode(alloc, row.0, row.1.as_slice())? {
+        match row.item() {
             Some(item) => self.take(item),
             None => Ok(()),
         }
     }
 
     // Takes what an item tells.
-    fn take(&mut self, item: Item) -> Result<(), Memory>
-        requires { Fits self.old item }
-        ensures { OnOk result (self.new ≡ with_item self.old item) }
+    fn take(&mut self, item: &Item) -> Result<(), Memory>
+        requires { Fits self.old item.now }
+        ensures { OnOk result (self.new ≡ with_item self.old item.now) }
     {
         match item {
-            Item::Club { club, name } => self.take_club(club, name),
+            Item::Club { club, name } => self.take_club(*club, name.copy()?),
             Item::Player {
                 player,
                 position,
@@ -113,12 +111,12 @@ impl Parts {
                 gone,
                 name,
             } => self.take_player(Player {
-                id: player,
-                name,
-                position,
-                club,
-                price: Tenths::new(u32::from(price)).unwrap(),
-                gone,
+                id: *player,
+                name: name.copy()?,
+                position: *position,
+                club: *club,
+                price: Tenths::new(u32::from(*price)).unwrap(),
+                gone: *gone,
             }),
             Item::Fixture {
                 fixture,
@@ -129,19 +127,19 @@ impl Parts {
                 finished,
             } => self.take_fixture(
                 Fixture {
-                    id: fixture,
-                    home,
-                    away,
-                    gw: gameweek,
-                    kickoff,
+                    id: *fixture,
+                    home: *home,
+                    away: *away,
+                    gw: *gameweek,
+                    kickoff: *kickoff,
                 },
-                finished,
+                *finished,
             ),
             Item::Line {
                 fixture,
                 player,
                 line,
-            } => self.take_line(fixture, player, &line),
+            } => self.take_line(*fixture, *player, line),
             _ => Ok(()),
         }
     }

@@ -14,17 +14,18 @@ ghost use Rattle.season_records.specs.Told.{made_by};
 ghost use Rattle.season_restoring.specs.LastCommands.{AreLasts, CanMake, IsLastRow};
 
 use crate::league_parts::of_kind;
-use fpl_base::{Bytes, Caller, CupId, EntryId, LeagueId, Memory, RecordKey};
+use fpl_base::{Caller, CupId, EntryId, LeagueId, Memory};
 use season_book::{Command, Made};
-use season_records::{Item, decode};
+use season_records::Item;
 use season_running::{LastCommand, Lasts};
 use std::alloc::Global;
+use stored_records::Kept;
 
 // The kind of a record of a last command.
 const LAST: u8 = 12;
 
 /// The last command of each caller of whom lawful records tell one.
-pub fn lasts_of(alloc: Global, rows: &[(RecordKey, Bytes)]) -> Result<Lasts, Memory>
+pub fn lasts_of(alloc: Global, rows: &[Kept]) -> Result<Lasts, Memory>
     requires rise { KeysRise rows.now }
     requires lawful { judged rows.now ≡ None }
     ensures told { IfOk result
@@ -39,19 +40,19 @@ pub fn lasts_of(alloc: Global, rows: &[(RecordKey, Bytes)]) -> Result<Lasts, Mem
 {
     let mut lasts = Lasts::new(alloc);
     for row in of_kind(rows, LAST) {
-        put_last(alloc, row, &mut lasts)?;
+        put_last(row, &mut lasts)?;
     }
     Ok(lasts)
 }
 
 // Puts what the record of a last command tells of in its caller's place.
-fn put_last(alloc: Global, row: &(RecordKey, Bytes), lasts: &mut Lasts) -> Result<(), Memory>
+fn put_last(row: &Kept, lasts: &mut Lasts) -> Result<(), Memory>
     requires { IsLastRow row.now.0 row.now.1 }
     ensures { OnOk result
         ((m : Map) → AreLasts m lasts.old
         → AreLasts (applied_one m (op.Put row.now.0 row.now.1)) lasts.new) }
 {
-    match &decode(alloc, row.0, row.1.as_slice())? {
+    match row.item() {
         Some(
             Item::Last {
                 caller,

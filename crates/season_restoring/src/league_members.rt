@@ -26,7 +26,7 @@ pub(crate) fn members_of(alloc: Global, stored: &Stored, league: LeagueId) -> Re
     let rows = stored.members(league);
     let mut ids = Ids::with_room(alloc, rows.len())?;
     for row in rows {
-        ids.push(entry(row.0.b))?;
+        ids.push(entry(row.key().b))?;
     }
     Ok(ids)
 }

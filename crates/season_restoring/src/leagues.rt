@@ -13,7 +13,7 @@ ghost use Rattle.season_records.specs.Records.{league_item, member_told};
 ghost use Rattle.season_restoring.specs.LeagueRestoring.{AreLeaguesRestored, GoesOn, IsLeagueRestored, IsMadeOf, LeaguesEnd};
 
 use crate::league_members::members_of;
-use fpl_base::{Bytes, Code, EntryId, Gw, LeagueId, Memory, Name, RecordKey};
+use fpl_base::{Code, EntryId, Gw, LeagueId, Memory, Name};
 use leagues_and_cups::{League, Leagues};
 use rule_book::LeagueKind;
 use season_book::Order;
@@ -59,12 +59,14 @@ fn made_of(
     alloc: Global,
     stored: &Stored,
     number: LeagueId,
-    item: &Option<Item>,
+    item: Option<&Item>,
 ) -> Result<Option<League>, Memory>
     requires rise { KeysRise stored.now }
     requires lawful { judged stored.now ≡ None }
-    requires told { item.now ≡ told (map_of stored.now) (slot.League number) }
-    ensures { IfOk result (λ made. IsMadeOf stored.now number item.now made) }
+    requires told { option_map (λ item. item.now) item
+        ≡ told (map_of stored.now) (slot.League number) }
+    ensures { IfOk result
+        (λ made. IsMadeOf stored.now number (option_map (λ item. item.now) item.entry) made) }
 {
     match item {
         Some(
@@ -102,8 +104,8 @@ fn with_next(alloc: Global, stored: &Stored, book: Leagues) -> Result<Leagues, M
     ensures restored { IfOk result (λ more. AreLeaguesRestored stored.now more) }
 {
     let next = numbered(book.count() + 1);
-    let item = stored.item(alloc, Slot::League(next.get()))?;
-    match made_of(alloc, stored, next, &item)? {
+    let item = stored.item(Slot::League(next.get()));
+    match made_of(alloc, stored, next, item)? {
         Some(league) => book.restore(league),
         None => unreachable!(),
     }
@@ -127,23 +129,23 @@ fn restored(alloc: Global, stored: &Stored) -> Result<Leagues, Memory>
 }
 
 /// The leagues that lawful records tell, by number from 1, each with its members.
-pub fn leagues_of(alloc: Global, rows: &[(RecordKey, Bytes)]) -> Result<Leagues, Memory>
-    requires rise { KeysRise rows.now }
-    requires lawful { judged rows.now ≡ None }
+pub fn leagues_of(alloc: Global, stored: &Stored) -> Result<Leagues, Memory>
+    requires rise { KeysRise stored.now }
+    requires lawful { judged stored.now ≡ None }
     ensures leagues { IfOk result
         (λ book. (l : ℕ)
-        → option_map (league_item l) (entry_in book l) ≡ told (map_of rows.now) (slot.League l)) }
+        → option_map (league_item l) (entry_in book l) ≡ told (map_of stored.now) (slot.League l)) }
     ensures members { IfOk result
         (λ book. (l e : ℕ)
         → option_and_then (member_told l e) (entry_in book l)
-        ≡ told (map_of rows.now) (slot.Member l e)) }
+        ≡ told (map_of stored.now) (slot.Member l e)) }
     ensures ordered { IfOk result
         (λ book. (l : ℕ) (league : LeagueFacts) → entry_in book l ≡ Some league
         → AllPairs (λ m n. m < n) league.members) }
     ensures entries { IfOk result
         (λ book. (n : ℕ)
-        → ((e : ℕ) (i : Item) → told (map_of rows.now) (slot.Entry e) ≡ Some i → e ≤ n)
+        → ((e : ℕ) (i : Item) → told (map_of stored.now) (slot.Entry e) ≡ Some i → e ≤ n)
         → AreMembers n book) }
 {
-    restored(alloc, &Stored::new(rows))
+    Ok(restored(alloc, stored)?)
 }

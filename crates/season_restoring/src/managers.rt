@@ -2,7 +2,7 @@
 ghost use Rattle.std.specs.Prelude.{◌≡◌, ◌+◌, ℕ, IfOk, None, length};
 ghost use Rattle.std.specs.List.{AllByRecursion as Each};
 ghost use Rattle.std.specs.Option.{option_and_then, option_map};
-ghost use Rattle.fpl_base.specs.Keeping.{KeysRise, map_of};
+ghost use Rattle.fpl_base.specs.Keeping.{map_of};
 ghost use Rattle.season_records.specs.declared.slot.Slot.TheVariants as slot;
 ghost use Rattle.rule_book.specs.Entries.{entry_in};
 ghost use Rattle.season_book.specs.Book.{Facts};
@@ -16,7 +16,7 @@ ghost use Rattle.season_restoring.specs.Restoring.{ArePlayersTold, AreRestored, 
 
 use crate::entry_sales::sales_of;
 use crate::entry_teams::teams_of;
-use fpl_base::{Bytes, EntryId, Gw, Key, Memory, Name, Profile, RecordKey};
+use fpl_base::{EntryId, Gw, Key, Memory, Name, Profile};
 use manager_book::ManagerBook;
 use player_market::Players;
 use season_records::{Item, Slot};
@@ -61,8 +61,8 @@ fn restore(
 }
 
 // What the record of an entry tells.
-fn parts_of(item: Option<Item>) -> Option<Parts>
-    ensures { result ≡ parts_of item }
+fn parts_of(item: Option<&Item>) -> Result<Option<Parts>, Memory>
+    ensures { IfOk result (λ parts. parts ≡ parts_of (option_map (λ item. item.now) item.entry)) }
 {
     match item {
         Some(
@@ -72,8 +72,12 @@ fn parts_of(item: Option<Item>) -> Option<Parts>
                 name,
                 ..
             },
-        ) => Some(Parts { first, key, name }),
-        _ => None,
+        ) => Ok(Some(Parts {
+            first: *first,
+            key: key.copy()?,
+            name: name.copy()?,
+        })),
+        _ => Ok(None),
     }
 }
 
@@ -97,8 +101,7 @@ fn restore_next(
     let Some(entry) = EntryId::new(book.entries() + 1) else {
         unreachable!();
     };
-    let item = stored.item(alloc, Slot::Entry(entry.get()))?;
-    match parts_of(item) {
+    match parts_of(stored.item(Slot::Entry(entry.get())))? {
         Some(Parts { first, key, name }) => {
             restore(alloc, stored, players, entry, first, key, name, book)?;
             Ok(true)
@@ -134,27 +137,26 @@ fn restored(
 /// players are those that the records tell; each one of a team has his position.
 pub fn managers_of(
     alloc: Global,
-    rows: &[(RecordKey, Bytes)],
+    stored: &Stored,
     profile: Profile,
     players: &Players,
 ) -> Result<ManagerBook, Memory>
-    requires rise { KeysRise rows.now }
-    requires lawful { judged rows.now ≡ None }
-    requires players { ArePlayersTold players.now (map_of rows.now) }
+    requires lawful { judged stored.now ≡ None }
+    requires players { ArePlayersTold players.now (map_of stored.now) }
     ensures profile { IfOk result (λ book. book.profile ≡ profile) }
     ensures entries { IfOk result (λ book. (e : ℕ) →
         option_map (manager_item e) (entry_in book.managers e)
-        ≡ told (map_of rows.now) (slot.Entry e)) }
+        ≡ told (map_of stored.now) (slot.Entry e)) }
     ensures teams { IfOk result (λ book. (e g : ℕ) →
         option_and_then (team_by e g) (entry_in book.managers e)
-        ≡ told (map_of rows.now) (slot.Team e g)) }
+        ≡ told (map_of stored.now) (slot.Team e g)) }
     ensures transfers { IfOk result (λ book. (e g n : ℕ) →
         option_and_then (transfer_by e g n) (entry_in book.managers e)
-        ≡ told (map_of rows.now) (slot.Transfer e g n)) }
+        ≡ told (map_of stored.now) (slot.Transfer e g n)) }
     ensures ordered { IfOk result (λ book. Each (IsManagerInOrder players.now) book.managers) }
     ensures early { IfOk result (λ book. (facts : Facts) →
-        told_in facts slot.Season ≡ told (map_of rows.now) slot.Season
+        told_in facts slot.Season ≡ told (map_of stored.now) slot.Season
         → AreEarly facts book.managers) }
 {
-    restored(alloc, &Stored::new(rows), profile, players)
+    Ok(restored(alloc, stored, profile, players)?)
 }

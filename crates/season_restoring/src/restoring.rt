@@ -7,15 +7,16 @@ ghost use Rattle.season_records.specs.ItemReading.{item_of};
 ghost use Rattle.season_restoring.specs.Restored.{AreTerms, RowsFit, TellsFacts, begun, season_told, terms_in, with_locked, with_rows};
 
 use crate::fact_parts::Parts;
-use fpl_base::{Bytes, Memory, Profile, RecordKey};
+use fpl_base::{Memory, Profile};
 use season_book::Moments;
 use season_facts::Season;
-use season_records::{Item, decode};
+use season_records::Item;
 use std::alloc::Global;
+use stored_records::Kept;
 
 /// The facts that lawful records tell; `None` where they tell of no season, which is where there are none at all. It takes
 /// memory.
-pub fn facts_of(alloc: Global, rows: &[(RecordKey, Bytes)]) -> Result<Option<Season>, Memory>
+pub fn facts_of(alloc: Global, rows: &[Kept]) -> Result<Option<Season>, Memory>
     requires rise { KeysRise rows.now }
     requires lawful { judged rows.now ≡ None }
     ensures none { IfOk result (λ season. IsNone season → rows.now ≡ []) }
@@ -26,7 +27,7 @@ pub fn facts_of(alloc: Global, rows: &[(RecordKey, Bytes)]) -> Result<Option<Sea
     let Some(first) = rows.first() else {
         return Ok(None);
     };
-    let terms = terms_at(alloc, first)?;
+    let terms = terms_at(first)?;
     let season = restored(alloc, &terms, rows)?;
     Ok(Some(season))
 }
@@ -44,11 +45,11 @@ pub struct Terms {
 }
 
 // What the record of the season tells.
-fn terms_at(alloc: Global, row: &(RecordKey, Bytes)) -> Result<Terms, Memory>
+fn terms_at(row: &Kept) -> Result<Terms, Memory>
     requires { IsSome (terms_in (item_of row.now.0 row.now.1)) }
     ensures { IfOk result (λ terms. item_of row.now.0 row.now.1 ≡ Some (season_told terms)) }
 {
-    match decode(alloc, row.0, row.1.as_slice())? {
+    match row.item() {
         Some(
             Item::Season {
                 profile,
@@ -57,17 +58,17 @@ fn terms_at(alloc: Global, row: &(RecordKey, Bytes)) -> Result<Terms, Memory>
                 deadlines,
             },
         ) => Ok(Terms {
-            profile,
-            split,
-            locked,
-            deadlines,
+            profile: *profile,
+            split: *split,
+            locked: *locked,
+            deadlines: deadlines.copy()?,
         }),
         _ => unreachable!(),
     }
 }
 
 // The season of these terms with what each record tells.
-fn restored(alloc: Global, terms: &Terms, rows: &[(RecordKey, Bytes)]) -> Result<Season, Memory>
+fn restored(alloc: Global, terms: &Terms, rows: &[Kept]) -> Result<Season, Memory>
     requires rise { KeysRise rows.now }
     requires lawful { judged rows.now ≡ None }
     requires terms { AreTerms rows.now terms.now }
@@ -75,17 +76,17 @@ fn restored(alloc: Global, terms: &Terms, rows: &[(RecordKey, Bytes)]) -> Result
         (λ season. season ≡ with_locked (with_rows (begun terms.now) rows.now) terms.now.locked) }
 {
     let begun = Parts::begin(alloc, terms.profile, &terms.deadlines, terms.split)?;
-    with_rows(alloc, begun, rows)?.into_season(alloc, terms.locked)
+    with_rows(begun, rows)?.into_season(alloc, terms.locked)
 }
 
 // The parts with what each record tells.
-fn with_rows(alloc: Global, begun: Parts, rows: &[(RecordKey, Bytes)]) -> Result<Parts, Memory>
+fn with_rows(begun: Parts, rows: &[Kept]) -> Result<Parts, Memory>
     requires { RowsFit begun rows.now }
     ensures { IfOk result (λ parts. parts ≡ with_rows begun rows.now) }
 {
     let mut parts = begun;
     'rows: for row in rows {
-        parts.take_row(alloc, row)?;
+        parts.take_row(row)?;
     }
     Ok(parts)
 }

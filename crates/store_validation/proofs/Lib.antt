@@ -1,6 +1,5 @@
 pub mod EntriesJudged
 pub mod Judged
-pub mod KeyPlaces
 pub mod Lawful
 pub mod Listed
 pub mod Numbered

@@ -1,5 +1,5 @@
 -- The rules on entries, leagues, members, cups and last commands: when a record of a store breaks one of them.
-use Rattle.std.specs.Prelude.{ℕ, ◌+◌, ◌-◌, Bool, false, not, ◌&&◌, ◌||◌, ◌==◌, List, Option, Some, None, is_some, nat_le, count_by, filter, map, length, slice_range}
+use Rattle.std.specs.Prelude.{ℕ, ◌-◌, Bool, false, not, ◌&&◌, ◌||◌, ◌==◌, List, Option, Some, None, is_some, nat_le, count_by, filter, map, length}
 use Rattle.std.specs.List.{list_any, range_with_len}
 use Rattle.std.specs.Option.{option_map_or}
 use Rattle.std.specs.Str.{bytes_eq}
@@ -42,10 +42,6 @@ plays_from m start e = option_map_or (λ first. nat_le first start) (first_told 
 abbrev pub has_key : List ℕ → Option Item → Bool
 has_key key (Some (item.Entry entry first own name)) = bytes_eq own key
 has_key key other = false
-
--- bytes stand behind two others
-abbrev pub stands_at_two : List ℕ → List ℕ → Bool
-stands_at_two body bytes = nat_le (length bytes + 2) (length body) && bytes_eq (slice_range body 2 (length bytes + 2)) bytes
 
 -- an entry of a smaller id has the same key
 abbrev pub has_other_key : Rows → ℕ → List ℕ → Bool

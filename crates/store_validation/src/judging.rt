@@ -1,7 +1,7 @@
 // Which records of a store are lawful.
-ghost use Rattle.std.specs.Prelude.{◌≡◌, IfOk, nat_le};
+ghost use Rattle.std.specs.Prelude.{◌≡◌, nat_le};
 ghost use Rattle.std.specs.List.{list_all};
-ghost use Rattle.fpl_base.specs.Keeping.{KeysRise, map_of};
+ghost use Rattle.fpl_base.specs.Keeping.{map_of};
 ghost use Rattle.stored_records.specs.SeasonRules.{terms_told};
 ghost use Rattle.store_validation.specs.Lawful.{breaks, first_not_spelled, first_wrong, is_in_range, is_spelled, is_wrong, judged, rules_broken};
 ghost use Rattle.store_validation.specs.TransferRules.{IsKnown};
@@ -9,51 +9,47 @@ ghost use Rattle.store_validation.specs.TransferRules.{IsKnown};
 use crate::entry_rules::{team_breaks, transfer_breaks};
 use crate::league_rules::{cup_breaks, issue_breaks, last_breaks, league_breaks, member_breaks};
 use crate::transfer_rules::Term;
-use fpl_base::{Bytes, Memory, RecordKey};
+use fpl_base::RecordKey;
 use match_facts::line_ok;
 use rule_book::Fixture;
-use season_records::{Item, Slot, decode};
-use std::alloc::Global;
+use season_records::{Item, Slot};
 use stored_records::{
-    Stored, Terms, club_breaks, fixture_breaks, line_breaks, misses, player_breaks, season_breaks,
-    terms_of,
+    Kept, Stored, Terms, Transfer, club_breaks, fixture_breaks, line_breaks, misses, player_breaks,
+    season_breaks,
 };
 
-/// The key of the first record that is not lawful; `Ok(None)` exactly where all are. First each record is looked at alone:
+/// The key of the first record that is not lawful; `None` exactly where all are. First each record is looked at alone:
 /// whether it is spelled as an item whose values are in their ranges. Where all are, each is held against the rules of a
-/// season, which `specs/Lawful.antt` lists by what a record tells of.
-pub fn judge(alloc: Global, rows: &[(RecordKey, Bytes)]) -> Result<Option<RecordKey>, Memory>
-    requires { KeysRise rows.now }
-    ensures { IfOk result (λ key. key ≡ judged rows.now) }
+/// season, which `specs/Lawful.antt` lists by what a record tells of. The terms are those of the season's record.
+pub fn judge(stored: &Stored, terms: &Terms) -> Option<RecordKey>
+    requires { terms.now ≡ terms_told (map_of stored.now) }
+    ensures { result ≡ judged stored.now }
 {
-    if let Some(key) = first_not_spelled(alloc, rows)? {
-        return Ok(Some(key));
+    match first_not_spelled(stored.as_slice()) {
+        Some(key) => Some(key),
+        None => first_wrong(stored, terms),
     }
-    first_wrong(alloc, &Stored::new(rows))
 }
 
 // The key of the first record that is spelled as no item in range.
-fn first_not_spelled(
-    alloc: Global,
-    rows: &[(RecordKey, Bytes)],
-) -> Result<Option<RecordKey>, Memory>
-    ensures { IfOk result (λ key. key ≡ first_not_spelled rows.now) }
+fn first_not_spelled(rows: &[Kept]) -> Option<RecordKey>
+    ensures { result ≡ first_not_spelled rows.now }
 {
     for row in rows {
-        if !is_spelled(alloc, row)? {
-            return Ok(Some(row.0));
+        if !is_spelled(row) {
+            return Some(row.key());
         }
     }
-    Ok(None)
+    None
 }
 
-// Whether a record is spelled as an item that is in range.
-fn is_spelled(alloc: Global, row: &(RecordKey, Bytes)) -> Result<bool, Memory>
-    ensures { IfOk result (λ b. b ≡ is_spelled row.now) }
+// Whether a record is spelled as an item that is in range, as each transfer is.
+fn is_spelled(row: &Kept) -> bool
+    ensures { result ≡ is_spelled row.now }
 {
-    match &decode(alloc, row.0, row.1.as_slice())? {
-        Some(item) => Ok(is_in_range(item)),
-        None => Ok(false),
+    match row.item() {
+        Some(item) => is_in_range(item),
+        None => row.transfer().is_some(),
     }
 }
 
@@ -89,68 +85,52 @@ fn are_coins(coins: &[u8]) -> bool
 }
 
 // The key of the first record that breaks a rule.
-fn first_wrong(alloc: Global, stored: &Stored) -> Result<Option<RecordKey>, Memory>
-    ensures { IfOk result (λ key. key ≡ first_wrong stored.now) }
+fn first_wrong(stored: &Stored, terms: &Terms) -> Option<RecordKey>
+    requires { terms.now ≡ terms_told (map_of stored.now) }
+    ensures { result ≡ first_wrong stored.now }
 {
-    let terms = terms_of(alloc, stored)?;
     let mut known = None;
     for row in stored.as_slice() {
-        if is_wrong(alloc, stored, &terms, &mut known, row)? {
-            return Ok(Some(row.0));
+        if is_wrong(stored, terms, &mut known, row) {
+            return Some(row.key());
         }
     }
-    Ok(None)
+    None
 }
 
 // Whether a record breaks a rule.
-fn is_wrong(
-    alloc: Global,
-    stored: &Stored,
-    terms: &Terms,
-    known: &mut Option<Term>,
-    row: &(RecordKey, Bytes),
-) -> Result<bool, Memory>
+fn is_wrong(stored: &Stored, terms: &Terms, known: &mut Option<Term>, row: &Kept) -> bool
     requires terms { terms.now ≡ terms_told (map_of stored.now) }
     requires known { IsKnown (map_of stored.now) known.old }
-    ensures wrong { IfOk result (λ b. b ≡ is_wrong stored.now row.now) }
+    ensures wrong { result ≡ is_wrong stored.now row.now }
     ensures known { IsKnown (map_of stored.now) known.new }
 {
-    match &decode(alloc, row.0, row.1.as_slice())? {
-        Some(item) => breaks(alloc, stored, terms, known, item),
-        None => Ok(false),
+    match row.transfer() {
+        Some(transfer) => {
+            misses(stored, Slot::Season) || transfer_breaks(stored, terms, known, transfer)
+        }
+        None => match row.item() {
+            Some(item) => breaks(stored, terms, known, item),
+            None => false,
+        },
     }
 }
 
 // Whether an item breaks a rule.
-fn breaks(
-    alloc: Global,
-    stored: &Stored,
-    terms: &Terms,
-    known: &mut Option<Term>,
-    item: &Item,
-) -> Result<bool, Memory>
+fn breaks(stored: &Stored, terms: &Terms, known: &mut Option<Term>, item: &Item) -> bool
     requires terms { terms.now ≡ terms_told (map_of stored.now) }
     requires known { IsKnown (map_of stored.now) known.old }
-    ensures breaks { IfOk result (λ b. b ≡ breaks stored.now item.now) }
+    ensures breaks { result ≡ breaks stored.now item.now }
     ensures known { IsKnown (map_of stored.now) known.new }
 {
-    if misses(stored, Slot::Season) {
-        return Ok(true);
-    }
-    rules_broken(alloc, stored, terms, known, item)
+    misses(stored, Slot::Season) || rules_broken(stored, terms, known, item)
 }
 
 // What an item breaks of the rules on what it tells of.
-fn rules_broken(
-    alloc: Global,
-    stored: &Stored,
-    terms: &Terms,
-    known: &mut Option<Term>,
-    item: &Item,
-) -> Result<bool, Memory>
+fn rules_broken(stored: &Stored, terms: &Terms, known: &mut Option<Term>, item: &Item) -> bool
     requires terms { terms.now ≡ terms_told (map_of stored.now) }
     requires known { IsKnown (map_of stored.now) known.old }
-    ensures broken { IfOk result (λ b. b ≡ rules_broken stored.now item.now) }
+    ensures broken { result ≡ rules_broken stored.now item.now }
     ensures known { IsKnown (map_of stored.now) known.new }
 {
     match item {
@@ -159,14 +139,14 @@ fn rules_broken(
             locked,
             deadlines,
             ..
-        } => Ok(season_breaks(*split, *locked, deadlines.as_slice())),
-        Item::Club { club, .. } => Ok(club_breaks(stored, *club)),
+        } => season_breaks(*split, *locked, deadlines.as_slice()),
+        Item::Club { club, .. } => club_breaks(stored, *club),
         Item::Player {
             player,
             club,
             price,
             ..
-        } => Ok(player_breaks(stored, *player, *club, *price)),
+        } => player_breaks(stored, *player, *club, *price),
         Item::Fixture {
             fixture,
             home,
@@ -182,19 +162,19 @@ fn rules_broken(
                 gw: *gameweek,
                 kickoff: *kickoff,
             };
-            fixture_breaks(alloc, stored, terms, &fixture, *finished)
+            fixture_breaks(stored, terms, &fixture, *finished)
         }
         Item::Line {
             fixture,
             player,
             ..
-        } => line_breaks(alloc, stored, terms, *fixture, *player),
+        } => line_breaks(stored, terms, *fixture, *player),
         Item::Entry {
             entry,
             first,
             key,
             ..
-        } => issue_breaks(alloc, stored, *entry, *first, key),
+        } => issue_breaks(stored, *entry, *first, key),
         Item::Team {
             entry,
             gameweek,
@@ -204,7 +184,7 @@ fn rules_broken(
             bank,
             chip,
         } => team_breaks(
-            alloc, stored, terms, *entry, *gameweek, picks, *captain, *vice, *bank, *chip,
+            stored, terms, *entry, *gameweek, picks, *captain, *vice, *bank, *chip,
         ),
         Item::Transfer {
             entry,
@@ -215,7 +195,18 @@ fn rules_broken(
             sold,
             bought,
         } => transfer_breaks(
-            alloc, stored, terms, known, *entry, *gameweek, *number, *out, *into, *sold, *bought,
+            stored,
+            terms,
+            known,
+            Transfer {
+                entry: *entry,
+                gameweek: *gameweek,
+                number: *number,
+                out: *out,
+                into: *into,
+                sold: *sold,
+                bought: *bought,
+            },
         ),
         Item::League {
             league,
@@ -225,7 +216,6 @@ fn rules_broken(
             order,
             ..
         } => league_breaks(
-            alloc,
             stored,
             terms,
             *league,
@@ -234,14 +224,13 @@ fn rules_broken(
             *creator,
             order.as_slice(),
         ),
-        Item::Member { league, entry } => member_breaks(alloc, stored, *league, *entry),
+        Item::Member { league, entry } => member_breaks(stored, *league, *entry),
         Item::Cup {
             cup,
             start,
             slots,
             coins,
         } => cup_breaks(
-            alloc,
             stored,
             terms,
             *cup,
@@ -255,6 +244,6 @@ fn rules_broken(
             status,
             made,
             command,
-        } => Ok(last_breaks(stored, *caller, *number, *status, *made, command)),
+        } => last_breaks(stored, *caller, *number, *status, *made, command),
     }
 }

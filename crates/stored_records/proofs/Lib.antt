@@ -2,6 +2,7 @@ pub mod Alike
 pub mod Bases
 pub mod Deadlines
 pub mod Found
+pub mod KeptLemmas
 pub mod Loops
 pub mod Members
 pub mod Nearer

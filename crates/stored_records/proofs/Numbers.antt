@@ -1,5 +1,5 @@
 -- Transfers that stand under numbers, whatever these are.
-use Rattle.std.proofs.Common.{◌≡◌, ◌∙◌, ◌<◌, ◌≤◌, ◌+◌, ◌-◌, ℕ, zero, suc, Bool, true, false, nat_lt, List, [], get_or, length, Option, None, Some, arith, refl, sym, ap, ap₂, subst, inl, inr}
+use Rattle.std.proofs.Common.{◌≡◌, ◌∙◌, ◌<◌, ◌≤◌, ◌+◌, ◌-◌, ℕ, zero, suc, true, false, List, [], get_or, length, Option, None, Some, arith, refl, sym, ap, ap₂, subst, inl, inr}
 use Rattle.std.specs.List.{HoldsAt}
 use Rattle.std.specs.Option.{option_and_then}
 use Rattle.std.specs.Prelude.{IfSome}
@@ -9,7 +9,6 @@ use Rattle.std.proofs.lemmas.List.{get_or_default}
 use Rattle.fpl_base.specs.declared.records.RecordKey.{RecordKey as Key}
 use Rattle.fpl_base.specs.Keeping.{KeysRise, Map, is_same_key, map_of, precedes}
 use Rattle.fpl_base.specs.Rows.{IsPlace}
-use Rattle.fpl_base.proofs.KeyLemmas.{precedes_trans}
 use Rattle.rule_book.specs.declared.transfers.Sale.{Sale}
 use Rattle.season_records.specs.ItemReading.{item_of}
 use Rattle.season_records.specs.Keys.{key_of}

@@ -1,4 +1,5 @@
 pub mod EntryTold
+pub mod Kept
 pub mod SeasonRules
 pub mod Sequels
 pub mod Stored

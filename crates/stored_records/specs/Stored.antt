@@ -1,5 +1,5 @@
 -- What the records of a store tell, and how many of them stand between two keys.
-use Rattle.std.specs.Prelude.{◌≡◌, ◌≤◌, ◌<◌, ℕ, Bool, not, ◌&&◌, ◌||◌, ◌==◌, List, [], Option, Some, None, is_some, nat_lt, count_by, length}
+use Rattle.std.specs.Prelude.{◌≡◌, ◌≤◌, ◌<◌, ℕ, Bool, true, false, not, ◌&&◌, ◌||◌, ◌==◌, List, [], Option, Some, None, is_some, nat_lt, count_by, length}
 use Rattle.std.specs.Option.{option_and_then}
 use Rattle.fpl_base.specs.Keeping.{Map, precedes}
 use Rattle.fpl_base.specs.declared.records.RecordKey.{RecordKey}
@@ -18,6 +18,11 @@ Rows = List (RecordKey × List ℕ)
 -- the body of the record of a slot as an item, where there is one that is spelled so
 abbrev pub told : Map → Slot → Option Item
 told m s = option_and_then (item_of (key_of s)) (m (key_of s))
+
+-- a slot of a transfer
+abbrev pub is_sale : Slot → Bool
+is_sale (slot.Transfer e g n) = true
+is_sale other = false
 
 -- whether there is a record of a slot
 abbrev pub is_there : Map → Slot → Bool

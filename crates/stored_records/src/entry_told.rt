@@ -1,15 +1,14 @@
 // What records tell of an entry, and when its teams and transfers may stand.
-ghost use Rattle.std.specs.Prelude.{◌≡◌, ◌==◌, IfOk, false, is_some};
+ghost use Rattle.std.specs.Prelude.{◌≡◌, ◌==◌, false, is_some};
 ghost use Rattle.std.specs.Option.{option_map_or};
 ghost use Rattle.fpl_base.specs.Keeping.{map_of};
-ghost use Rattle.stored_records.specs.EntryTold.{chip_in, chip_told, first_in, first_told, is_between_ends, last_open, sale_in, sale_told, team_in, team_told};
+ghost use Rattle.stored_records.specs.EntryTold.{chip_in, chip_told, first_told, is_between_ends, last_open, sale_told, team_told};
 
 use crate::stored::Stored;
 use crate::terms::Terms;
-use fpl_base::{Chip, EntryId, Gw, Memory, PlayerId, Tenths};
+use fpl_base::{Chip, EntryId, Gw, PlayerId, Tenths};
 use rule_book::Sale;
 use season_records::{Item, Slot};
-use std::alloc::Global;
 
 /// The team that a record tells: by slot the players, by number, with the prices at which they were bought, in tenths of
 /// a million, the slots of captain and vice-captain, the bank, and the chip.
@@ -23,39 +22,20 @@ pub struct RecordedTeam {
 }
 
 /// The first gameweek of an entry, from 1 on; `None` where it is not registered or not there.
-pub fn first_of(alloc: Global, stored: &Stored, entry: u32) -> Result<Option<Gw>, Memory>
-    ensures { IfOk result (λ first. first ≡ first_told (map_of stored.now) entry) }
+pub fn first_of(stored: &Stored, entry: u32) -> Option<Gw>
+    ensures { result ≡ first_told (map_of stored.now) entry }
 {
-    let item = stored.item(alloc, Slot::Entry(entry))?;
-    Ok(first_in(&item))
-}
-
-fn first_in(item: &Option<Item>) -> Option<Gw>
-    ensures { result ≡ first_in item.now }
-{
-    match item {
+    match stored.item(Slot::Entry(entry)) {
         Some(Item::Entry { first, .. }) => *first,
         _ => None,
     }
 }
 
 /// The team of an entry in a gameweek; `None` where it has none there.
-pub fn team_of(
-    alloc: Global,
-    stored: &Stored,
-    entry: EntryId,
-    gameweek: u8,
-) -> Result<Option<RecordedTeam>, Memory>
-    ensures { IfOk result (λ team. team ≡ team_told (map_of stored.now) entry gameweek) }
+pub fn team_of(stored: &Stored, entry: EntryId, gameweek: u8) -> Option<RecordedTeam>
+    ensures { result ≡ team_told (map_of stored.now) entry gameweek }
 {
-    let item = stored.item(alloc, Slot::Team(entry.get(), u32::from(gameweek)))?;
-    Ok(team_in(&item))
-}
-
-fn team_in(item: &Option<Item>) -> Option<RecordedTeam>
-    ensures { result ≡ team_in item.now }
-{
-    match item {
+    match stored.item(Slot::Team(entry.get(), u32::from(gameweek))) {
         Some(
             Item::Team {
                 picks,
@@ -88,35 +68,11 @@ pub fn numbers_of(picks: &[(PlayerId, u16); 15]) -> [(u32, u32); 15]
 }
 
 /// A transfer of an entry in a gameweek, by its number there, from 1 on; `None` where there is none.
-pub fn sale_of(
-    alloc: Global,
-    stored: &Stored,
-    entry: EntryId,
-    gameweek: Gw,
-    number: u32,
-) -> Result<Option<Sale>, Memory>
-    ensures { IfOk result (λ sale. sale ≡ sale_told (map_of stored.now) entry gameweek number) }
+pub fn sale_of(stored: &Stored, entry: EntryId, gameweek: Gw, number: u32) -> Option<Sale>
+    ensures { result ≡ sale_told (map_of stored.now) entry gameweek number }
 {
-    let slot = Slot::Transfer(entry.get(), u32::from(gameweek.get()), number);
-    let item = stored.item(alloc, slot)?;
-    Ok(sale_in(&item))
-}
-
-fn sale_in(item: &Option<Item>) -> Option<Sale>
-    ensures { result ≡ sale_in item.now }
-{
-    match item {
-        Some(
-            Item::Transfer {
-                out,
-                into,
-                sold,
-                bought,
-                ..
-            },
-        ) => sale(*out, *into, *sold, *bought),
-        _ => None,
-    }
+    let transfer = stored.transfer(entry, gameweek, number)?;
+    sale(transfer.out, transfer.into, transfer.sold, transfer.bought)
 }
 
 /// A transfer at prices of a record, in tenths of a million.
@@ -144,11 +100,10 @@ pub fn chip_in(team: &Option<RecordedTeam>) -> Chip
 }
 
 /// The chip of an entry in a gameweek: none without a team.
-pub fn chip_of(alloc: Global, stored: &Stored, entry: EntryId, gameweek: u8) -> Result<Chip, Memory>
-    ensures { IfOk result (λ chip. chip ≡ chip_told (map_of stored.now) entry gameweek) }
+pub fn chip_of(stored: &Stored, entry: EntryId, gameweek: u8) -> Chip
+    ensures { result ≡ chip_told (map_of stored.now) entry gameweek }
 {
-    let team = team_of(alloc, stored, entry, gameweek)?;
-    Ok(chip_in(&team))
+    chip_in(&team_of(stored, entry, gameweek))
 }
 
 /// Whether a team or a transfer may stand in a gameweek, by the first gameweek of its entry: the entry is registered, and
@@ -195,14 +150,8 @@ fn last_open(terms: &Terms) -> usize
 }
 
 /// Whether an entry has a team in a gameweek, in a record that is spelled as it has to be.
-pub fn has_team(
-    alloc: Global,
-    stored: &Stored,
-    entry: EntryId,
-    gameweek: Gw,
-) -> Result<bool, Memory>
-    ensures { IfOk result (λ has. has ≡ is_some (team_told (map_of stored.now) entry gameweek)) }
+pub fn has_team(stored: &Stored, entry: EntryId, gameweek: Gw) -> bool
+    ensures { result ≡ is_some (team_told (map_of stored.now) entry gameweek) }
 {
-    let team = team_of(alloc, stored, entry, gameweek.get())?;
-    Ok(team.is_some())
+    team_of(stored, entry, gameweek.get()).is_some()
 }

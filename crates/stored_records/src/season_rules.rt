@@ -1,16 +1,17 @@
 // The rules on the season, its clubs, players, fixtures and lines.
-ghost use Rattle.std.specs.Prelude.{◌≡◌, IfOk, false, is_some, not};
+ghost use Rattle.std.specs.Prelude.{◌≡◌, count_by, false, is_some, not};
+ghost use Rattle.std.specs.Option.{option_map};
 ghost use Rattle.fpl_base.specs.Keeping.{map_of};
 ghost use Rattle.rule_book.specs.Calendar.{first_out_of_order, is_gameweek, kickoff_early};
 ghost use Rattle.rule_book.specs.Players.{price_refusal};
 ghost use Rattle.stored_records.specs.SeasonRules.{calendar_told, club_breaks, fixture_breaks, is_crowded, is_full, line_breaks, misses, misses_place, place_in, place_told, player_breaks, season_breaks, standing_before, stands_in, terms_told};
 
+use crate::kept::Kept;
 use crate::stored::Stored;
 use crate::terms::{Terms, is_locked_place, misses_place};
-use fpl_base::{Bytes, ClubId, FixtureId, Gw, Memory, Moment, PlayerId, RecordKey};
+use fpl_base::{ClubId, FixtureId, Gw, Moment, PlayerId};
 use rule_book::Fixture;
-use season_records::{Item, Slot, decode};
-use std::alloc::Global;
+use season_records::{Item, Slot};
 
 // Limits of a season, and the seconds from a deadline to a kick-off.
 const MOST_CLUBS: usize = 20;
@@ -98,40 +99,22 @@ fn is_price(price: u16) -> bool
 /// Whether a fixture breaks a rule: a club or its gameweek is not there, it kicks off too early, its gameweek is full
 /// without it, it is finished and stands in no locked gameweek, or it is one too many. A gameweek has at most 20 fixtures,
 /// which kick off 5,400 seconds or more behind its deadline, and a season has at most 380.
-pub fn fixture_breaks(
-    alloc: Global,
-    stored: &Stored,
-    terms: &Terms,
-    fixture: &Fixture,
-    finished: bool,
-) -> Result<bool, Memory>
+pub fn fixture_breaks(stored: &Stored, terms: &Terms, fixture: &Fixture, finished: bool) -> bool
     requires { terms.now ≡ terms_told (map_of stored.now) }
-    ensures { IfOk result (λ b. b ≡ fixture_breaks stored.now fixture.now finished) }
+    ensures { result ≡ fixture_breaks stored.now fixture.now finished }
 {
-    if misses(stored, Slot::Club(fixture.home.get() as u32)) {
-        return Ok(true);
-    }
-    if misses(stored, Slot::Club(fixture.away.get() as u32)) {
-        return Ok(true);
-    }
-    if misses_place(stored, terms, fixture.gw) {
-        return Ok(true);
-    }
-    if kicks_off_early(stored, terms, fixture) {
-        return Ok(true);
-    }
-    if is_crowded(alloc, stored, fixture.id, fixture.gw)? {
-        return Ok(true);
-    }
-    if finished && !is_locked_place(stored, terms, fixture.gw) {
-        return Ok(true);
-    }
-    Ok(is_full(
-        stored,
-        MOST_FIXTURES,
-        Slot::Fixture(0),
-        Slot::Fixture(fixture.id.get()),
-    ))
+    misses(stored, Slot::Club(fixture.home.get() as u32))
+        || misses(stored, Slot::Club(fixture.away.get() as u32))
+        || misses_place(stored, terms, fixture.gw)
+        || kicks_off_early(stored, terms, fixture)
+        || is_crowded(stored, fixture.id, fixture.gw)
+        || finished && !is_locked_place(stored, terms, fixture.gw)
+        || is_full(
+            stored,
+            MOST_FIXTURES,
+            Slot::Fixture(0),
+            Slot::Fixture(fixture.id.get()),
+        )
 }
 
 // Whether it kicks off too early for the deadline of the gameweek in which it stands, which is there.
@@ -153,44 +136,37 @@ fn kicks_off_early(stored: &Stored, terms: &Terms, fixture: &Fixture) -> bool
 }
 
 // Whether as many fixtures of smaller ids as can stand in its gameweek stand there.
-fn is_crowded(
-    alloc: Global,
-    stored: &Stored,
-    fixture: FixtureId,
-    place: Option<Gw>,
-) -> Result<bool, Memory>
-    ensures { IfOk result (λ b. b ≡ is_crowded stored.now fixture place) }
+fn is_crowded(stored: &Stored, fixture: FixtureId, place: Option<Gw>) -> bool
+    ensures { result ≡ is_crowded stored.now fixture place }
 {
     match place {
-        Some(g) => Ok(standing_before(alloc, stored, fixture, g)? >= MOST_IN_A_GAMEWEEK),
-        None => Ok(false),
+        Some(g) => standing_before(stored, fixture, g) >= MOST_IN_A_GAMEWEEK,
+        None => false,
     }
 }
 
 // How many fixtures of smaller ids stand in a gameweek.
-fn standing_before(
-    alloc: Global,
-    stored: &Stored,
-    fixture: FixtureId,
-    g: Gw,
-) -> Result<usize, Memory>
-    ensures { IfOk result (λ count. count ≡ standing_before stored.now fixture g) }
+fn standing_before(stored: &Stored, fixture: FixtureId, g: Gw) -> usize
+    ensures { result ≡ standing_before stored.now fixture g }
 {
-    let mut count = 0;
-    for row in stored.part(Slot::Fixture(0).key(), Slot::Fixture(fixture.get()).key()) {
-        if stands_in(alloc, row, g)? {
-            count += 1;
-        }
-    }
-    Ok(count)
+    standing_in(
+        stored.part(Slot::Fixture(0).key(), Slot::Fixture(fixture.get()).key()),
+        g,
+    )
+}
+
+// How many of these records are those of fixtures which stand in a gameweek.
+fn standing_in(rows: &[Kept], g: Gw) -> usize
+    ensures { result ≡ count_by (stands_in g) rows.now }
+{
+    rows.iter().filter(|row| stands_in(row, g)).count()
 }
 
 // Whether a record is that of a fixture which stands in a gameweek.
-fn stands_in(alloc: Global, row: &(RecordKey, Bytes), g: Gw) -> Result<bool, Memory>
-    ensures { IfOk result (λ b. b ≡ stands_in g row.now) }
+fn stands_in(row: &Kept, g: Gw) -> bool
+    ensures { result ≡ stands_in g row.now }
 {
-    let item = decode(alloc, row.0, row.1.as_slice())?;
-    Ok(is_gameweek(g, place_in(&item)))
+    is_gameweek(g, place_in(row.item()))
 }
 
 fn is_gameweek(g: Gw, place: Option<Gw>) -> bool
@@ -204,43 +180,30 @@ fn is_gameweek(g: Gw, place: Option<Gw>) -> bool
 
 /// Whether a line breaks a rule: its fixture or its player is not there, the fixture stands in no locked gameweek, or it is
 /// one too many: 64 players of smaller ids have lines in the fixture.
-pub fn line_breaks(
-    alloc: Global,
-    stored: &Stored,
-    terms: &Terms,
-    fixture: FixtureId,
-    player: PlayerId,
-) -> Result<bool, Memory>
+pub fn line_breaks(stored: &Stored, terms: &Terms, fixture: FixtureId, player: PlayerId) -> bool
     requires { terms.now ≡ terms_told (map_of stored.now) }
-    ensures { IfOk result (λ b. b ≡ line_breaks stored.now fixture player) }
+    ensures { result ≡ line_breaks stored.now fixture player }
 {
-    if misses(stored, Slot::Fixture(fixture.get())) {
-        return Ok(true);
-    }
-    if misses(stored, Slot::Player(player.get())) {
-        return Ok(true);
-    }
-    if !is_locked_place(stored, terms, place_of(alloc, stored, fixture)?) {
-        return Ok(true);
-    }
-    Ok(is_full(
-        stored,
-        MOST_LINES,
-        Slot::Line(fixture.get(), 0),
-        Slot::Line(fixture.get(), player.get()),
-    ))
+    misses(stored, Slot::Fixture(fixture.get()))
+        || misses(stored, Slot::Player(player.get()))
+        || !is_locked_place(stored, terms, place_of(stored, fixture))
+        || is_full(
+            stored,
+            MOST_LINES,
+            Slot::Line(fixture.get(), 0),
+            Slot::Line(fixture.get(), player.get()),
+        )
 }
 
 // Where a fixture stands.
-fn place_of(alloc: Global, stored: &Stored, fixture: FixtureId) -> Result<Option<Gw>, Memory>
-    ensures { IfOk result (λ place. place ≡ place_told (map_of stored.now) fixture) }
+fn place_of(stored: &Stored, fixture: FixtureId) -> Option<Gw>
+    ensures { result ≡ place_told (map_of stored.now) fixture }
 {
-    let item = stored.item(alloc, Slot::Fixture(fixture.get()))?;
-    Ok(place_in(&item))
+    place_in(stored.item(Slot::Fixture(fixture.get())))
 }
 
-fn place_in(item: &Option<Item>) -> Option<Gw>
-    ensures { result ≡ place_in item.now }
+fn place_in(item: Option<&Item>) -> Option<Gw>
+    ensures { result ≡ place_in (option_map (λ item. item.now) item.entry) }
 {
     match item {
         Some(Item::Fixture { gameweek, .. }) => *gameweek,

@@ -1,5 +1,5 @@
 // What the team of a gameweek follows from.
-ghost use Rattle.std.specs.Prelude.{[], ◌≡◌, ◌≤◌, ◌+◌, IfOk, IfSome, None, OnOk, Some, map};
+ghost use Rattle.std.specs.Prelude.{[], ◌≡◌, ◌≤◌, ◌+◌, IfSome, None, Some, map};
 ghost use Rattle.fpl_base.specs.Keeping.{map_of};
 ghost use Rattle.rule_book.specs.EntryRecords.{price_among};
 ghost use Rattle.rule_book.specs.HistoryRules.{times};
@@ -9,10 +9,9 @@ ghost use Rattle.stored_records.specs.Sequels.{every_sale_told, follows_told, go
 
 use crate::entry_told::{RecordedTeam, sale_of, team_of};
 use crate::stored::Stored;
-use fpl_base::{EntryId, Gw, Memory};
+use fpl_base::{EntryId, Gw};
 use rule_book::Sale;
 use squad_rules::is_free_hit;
-use std::alloc::Global;
 
 // A record has one of so many numbers, from 0 on.
 const ALL_NUMBERS: u64 = 4_294_967_296;
@@ -26,42 +25,29 @@ struct Traded {
 }
 
 // The team of a gameweek, unless it is one of a free hit.
-fn lasting_of(
-    alloc: Global,
-    stored: &Stored,
-    entry: EntryId,
-    gameweek: u8,
-) -> Result<Option<RecordedTeam>, Memory>
-    ensures { IfOk result (λ team. team ≡ lasting (team_told (map_of stored.now) entry gameweek)) }
+fn lasting_of(stored: &Stored, entry: EntryId, gameweek: u8) -> Option<RecordedTeam>
+    ensures { result ≡ lasting (team_told (map_of stored.now) entry gameweek) }
 {
-    match team_of(alloc, stored, entry, gameweek)? {
-        Some(team) => {
-            if is_free_hit(team.chip) {
-                return Ok(None);
-            }
-            Ok(Some(team))
-        }
-        None => Ok(None),
+    let team = team_of(stored, entry, gameweek)?;
+    if is_free_hit(team.chip) {
+        None
+    } else {
+        Some(team)
     }
 }
 
 // The last team before a gameweek without a free hit.
-fn base_of(
-    alloc: Global,
-    stored: &Stored,
-    entry: EntryId,
-    gameweek: Gw,
-) -> Result<Option<RecordedTeam>, Memory>
-    ensures { IfOk result (λ base. base ≡ base_told (map_of stored.now) entry gameweek) }
+fn base_of(stored: &Stored, entry: EntryId, gameweek: Gw) -> Option<RecordedTeam>
+    ensures { result ≡ base_told (map_of stored.now) entry gameweek }
 {
     let g = gameweek.get();
     for back in 0..g {
-        match lasting_of(alloc, stored, entry, g - 1 - back)? {
-            Some(team) => return Ok(Some(team)),
+        match lasting_of(stored, entry, g - 1 - back) {
+            Some(team) => return Some(team),
             None => {}
         }
     }
-    Ok(None)
+    None
 }
 
 // A pick after a transfer: the incomer takes the place of the one who goes.
@@ -99,25 +85,17 @@ fn make(traded: &mut Traded, sale: &Sale)
 }
 
 // The transfer of a number is made, if there is one.
-fn trade(
-    alloc: Global,
-    stored: &Stored,
-    entry: EntryId,
-    gameweek: Gw,
-    number: u32,
-    traded: &mut Traded,
-) -> Result<(), Memory>
+fn trade(stored: &Stored, entry: EntryId, gameweek: Gw, number: u32, traded: &mut Traded)
     requires { HasFew traded.old }
     ensures paid_most { traded.new.paid ≤ traded.old.paid + 10000000 }
     ensures earned_most { traded.new.earned ≤ traded.old.earned + 10000000 }
-    ensures trades { OnOk result
-        (Trades (sale_told (map_of stored.now) entry gameweek number) traded.old traded.new) }
+    ensures trades { Trades (sale_told (map_of stored.now) entry gameweek number) traded.old
+        traded.new }
 {
-    match sale_of(alloc, stored, entry, gameweek, number)? {
+    match sale_of(stored, entry, gameweek, number) {
         Some(sale) => make(traded, &sale),
         None => {}
     }
-    Ok(())
 }
 
 // The first number, from one on, under which a transfer stands.
@@ -136,16 +114,9 @@ fn next_number(stored: &Stored, entry: EntryId, gameweek: Gw, from: u64) -> Opti
 }
 
 // What all transfers of a gameweek make of fifteen players, in the order of their numbers.
-fn after_trades(
-    alloc: Global,
-    stored: &Stored,
-    entry: EntryId,
-    gameweek: Gw,
-    picks: [(u32, u32); 15],
-) -> Result<Traded, Memory>
-    ensures traded { IfOk result (λ traded.
-        IsTraded (every_sale_told (map_of stored.now) entry gameweek) picks traded) }
-    ensures few { IfOk result HasFew }
+fn after_trades(stored: &Stored, entry: EntryId, gameweek: Gw, picks: [(u32, u32); 15]) -> Traded
+    ensures traded { IsTraded (every_sale_told (map_of stored.now) entry gameweek) picks result }
+    ensures few { HasFew result }
 {
     let mut traded = Traded {
         picks,
@@ -156,13 +127,13 @@ fn after_trades(
     'numbers: for _ in 0..ALL_NUMBERS {
         match next_number(stored, entry, gameweek, from) {
             Some(number) => {
-                trade(alloc, stored, entry, gameweek, number, &mut traded)?;
+                trade(stored, entry, gameweek, number, &mut traded);
                 from = u64::from(number) + 1;
             }
-            None => return Ok(traded),
+            None => return traded,
         }
     }
-    Ok(traded)
+    traded
 }
 
 // How often a player is among them.
@@ -247,22 +218,15 @@ fn comes_of(traded: &Traded, bank: u32, team: &RecordedTeam) -> bool
 }
 
 // The same of a later gameweek: it has a team before it, whose players the transfers change.
-fn follows(
-    alloc: Global,
-    stored: &Stored,
-    entry: EntryId,
-    gameweek: Gw,
-    team: &RecordedTeam,
-) -> Result<bool, Memory>
-    ensures { IfOk result
-        (λ holds. holds ≡ follows_told (map_of stored.now) entry gameweek team.now) }
+fn follows(stored: &Stored, entry: EntryId, gameweek: Gw, team: &RecordedTeam) -> bool
+    ensures { result ≡ follows_told (map_of stored.now) entry gameweek team.now }
 {
-    match base_of(alloc, stored, entry, gameweek)? {
+    match base_of(stored, entry, gameweek) {
         Some(base) => {
-            let traded = after_trades(alloc, stored, entry, gameweek, base.picks)?;
-            Ok(comes_of(&traded, base.bank, team))
+            let traded = after_trades(stored, entry, gameweek, base.picks);
+            comes_of(&traded, base.bank, team)
         }
-        None => Ok(false),
+        None => false,
     }
 }
 
@@ -270,19 +234,18 @@ fn follows(
 /// team has paid 45.0 to 100.0 million for its first fifteen; each other one stands on the last team before it that plays no
 /// free hit.
 pub fn goes_on(
-    alloc: Global,
     stored: &Stored,
     first: bool,
     entry: EntryId,
     gameweek: Gw,
     team: &RecordedTeam,
-) -> Result<bool, Memory>
+) -> bool
     requires { first ≡ is_first_of (map_of stored.now) entry gameweek }
-    ensures { IfOk result (λ holds. holds ≡ goes_on (map_of stored.now) entry gameweek team.now) }
+    ensures { result ≡ goes_on (map_of stored.now) entry gameweek team.now }
 {
     if first {
-        let traded = after_trades(alloc, stored, entry, gameweek, team.picks)?;
-        return Ok(opens_with(&traded, team.bank));
+        let traded = after_trades(stored, entry, gameweek, team.picks);
+        return opens_with(&traded, team.bank);
     }
-    follows(alloc, stored, entry, gameweek, team)
+    follows(stored, entry, gameweek, team)
 }

@@ -26,7 +26,7 @@ pub struct Terms {
 pub fn terms_of(alloc: Global, stored: &Stored) -> Result<Terms, Memory>
     ensures { IfOk result (λ terms. terms ≡ terms_told (map_of stored.now)) }
 {
-    match stored.item(alloc, Slot::Season)? {
+    match stored.item(Slot::Season) {
         Some(
             Item::Season {
                 split,
@@ -35,9 +35,9 @@ pub fn terms_of(alloc: Global, stored: &Stored) -> Result<Terms, Memory>
                 ..
             },
         ) => Ok(Terms {
-            deadlines,
-            split,
-            locked,
+            deadlines: deadlines.copy()?,
+            split: *split,
+            locked: *locked,
         }),
         _ => Ok(Terms {
             deadlines: Moments::new(alloc),

@@ -1,5 +1,6 @@
 use Rattle.std.proofs.Common.{◌≡◌, ◌∙◌, ◌+◌, ◌++◌, ◌∷◌, [], IsSomeAnd, List, ap, length, subst, true}
 use Rattle.std.proofs.lemmas.List.{length-append}
+use Rattle.std.specs.Option.{option_map}
 use Rattle.fpl_base.specs.Keeping.{map_of}
 use Rattle.season_records.specs.declared.slot.Slot.TheVariants as slot
 use Rattle.rule_book.specs.Leagues.{LeagueFacts}
@@ -18,8 +19,9 @@ unreachable-requires c =
     let l = c.numbered-next.result in
     let number : l ≡ length c.args.book + 1 = c.numbered-next.ensures ∙ ap (λ n. n + 1) c.count.ensures.value in
     let there : is_there (map_of rows) (slot.League l) ≡ true = ap (λ n. is_there (map_of rows) (slot.League n)) number ∙ c.requires.there in
-    let read : c.in_ok-item.item ≡ told (map_of rows) (slot.League l) = c.in_ok-item.ensures ∙ ap (λ n. told (map_of rows) (slot.League n)) c.get.ensures.value in
-    subst (λ made. IsSomeAnd made (IsLeagueRestored rows l)) c.in-None.is (made_there rows c.requires.lawful l there c.in_ok-item.item c.in_ok-league.field-0 read c.in_ok-league.ensures)
+    let item = option_map (λ i. i.now) c.item-item.result in
+    let read : item ≡ told (map_of rows) (slot.League l) = c.item-item.ensures ∙ ap (λ n. told (map_of rows) (slot.League n)) c.get.ensures.value in
+    subst (λ made. IsSomeAnd made (IsLeagueRestored rows l)) c.in-None.is (made_there rows c.requires.lawful l there item c.in_ok-league.field-0 read c.in_ok-league.ensures)
 
 pub returns-clause-count : goal.returns-clause-count
 returns-clause-count c =
@@ -34,8 +36,9 @@ returns-clause-restored c =
     let league = c.in-Some.league in
     let number : l ≡ length c.args.book + 1 = c.numbered-next.ensures ∙ ap (λ n. n + 1) c.count.ensures.value in
     let there : is_there (map_of rows) (slot.League l) ≡ true = ap (λ n. is_there (map_of rows) (slot.League n)) number ∙ c.requires.there in
-    let read : c.in_ok-item.item ≡ told (map_of rows) (slot.League l) = c.in_ok-item.ensures ∙ ap (λ n. told (map_of rows) (slot.League n)) c.get.ensures.value in
+    let item = option_map (λ i. i.now) c.item-item.result in
+    let read : item ≡ told (map_of rows) (slot.League l) = c.item-item.ensures ∙ ap (λ n. told (map_of rows) (slot.League n)) c.get.ensures.value in
     let own : IsLeagueRestored rows l league
-    = subst (λ made. IsSomeAnd made (IsLeagueRestored rows l)) c.in-Some.is (made_there rows c.requires.lawful l there c.in_ok-item.item c.in_ok-league.field-0 read c.in_ok-league.ensures) in
+    = subst (λ made. IsSomeAnd made (IsLeagueRestored rows l)) c.in-Some.is (made_there rows c.requires.lawful l there item c.in_ok-league.field-0 read c.in_ok-league.ensures) in
     if_one (λ more. more ≡ c.args.book ++ league ∷ []) (λ (more : List LeagueFacts). AreLeaguesRestored rows more) c.restore.result
     (λ more is. one_more rows c.args.book more league is c.requires.restored (subst (λ n. IsLeagueRestored rows n league) number own)) c.restore.ensures

@@ -18,6 +18,6 @@ returns c =
     let start : not (has_gameweek m c.args.start) ≡ false = ap not (sym c.has_gameweek.ensures ∙ c.if-not-has_gameweek.false) in
     let there : list_any (λ e. misses m (slot.Entry e)) (entrants c.args.slots.now) ≡ false = sym c.misses_entrant.ensures ∙ c.if-misses_entrant.false in
     let played : not (is_cup b (length (deadlines_told m))) ≡ false = ap (λ n. not (is_cup b n)) (sym gameweeks) ∙ ap not (sym c.is_cup.ensures ∙ c.if-not-is_cup.false) in
-    let on_time : list_any (λ e. not (plays_from m c.args.start e)) (entrants c.args.slots.now) ≡ false = sym c.in_ok-has_late_entrant.ensures ∙ c.if-branch.false in
+    let on_time : list_any (λ e. not (plays_from m c.args.start e)) (entrants c.args.slots.now) ≡ false = sym c.has_late_entrant.ensures ∙ c.if-has_late_entrant.false in
     let numbered : has_gap m c.args.cup (slot.Cup (c.args.cup - 1)) ≡ false = (λ i. has_gap m (sym c.get.ensures.value i) (slot.Cup (sym c.get-2.ensures.value i - 1))) ∙ (sym c.has_gap.ensures ∙ c.if-has_gap.false) in
     rw (start, there, played, on_time, numbered) (c.is_full.ensures ∙ ap (λ n. is_full c.args.stored.now most_cups (slot.Cup 0) (slot.Cup n)) c.get-3.ensures.value)

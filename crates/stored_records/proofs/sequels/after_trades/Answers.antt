@@ -20,7 +20,7 @@ numbers-preserved c =
       omega (arith, c.trade.ensures.earned_most, way.3, next.0),
       subst (λ n. IsPartWay (every_sale_told m c.args.entry c.args.gameweek) (sales_since (sale_told m c.args.entry c.args.gameweek) (n + 1)) c.args.picks c.trade.new.traded)
           (sym c.from-from.ensures)
-          (goes_past _ _ c.numbers.from c.args.picks c.in-Some.number c.numbers.traded c.trade.new.traded (omega arith) way.4 next.1 c.in_ok-trade-in-Some.ensures.trades),
+          (goes_past _ _ c.numbers.from c.args.picks c.in-Some.number c.numbers.traded c.trade.new.traded (omega arith) way.4 next.1 c.trade.ensures.trades),
     )
 
 pub returns-in-None : goal.returns-in-None

@@ -12,7 +12,7 @@ loop-back-preserved c =
     let g = c.get-g.result in
     let back = c.loop-back.back in
     let step = one_before teams g back (omega arith) in
-    let none : lasting (teams (g - 1 - back)) ≡ None = sym c.in_ok-team.ensures ∙ c.in-None.is in
+    let none : lasting (teams (g - 1 - back)) ≡ None = sym c.lasting_of.ensures ∙ c.in-None.is in
     sym (step ∙ ap (λ o. option_or o (last_before teams (g - (back + 1)))) none) ∙ c.loop-back.invariant
 
 pub returns-in-Some : goal.returns-in-Some
@@ -21,6 +21,6 @@ returns-in-Some c =
     let g = c.get-g.result in
     let back = c.loop-back.back in
     let step = one_before teams g back (omega arith) in
-    let found : lasting (teams (g - 1 - back)) ≡ Some c.in-Some.team = sym c.in_ok-team.ensures ∙ c.in-Some.is in
+    let found : lasting (teams (g - 1 - back)) ≡ Some c.in-Some.team = sym c.lasting_of.ensures ∙ c.in-Some.is in
     sym (step ∙ ap (λ o. option_or o (last_before teams (g - (back + 1)))) found) ∙ c.loop-back.invariant
     ∙ ap (last_before teams) c.get-g.ensures.value
