@@ -6,8 +6,8 @@ ghost use Rattle.fpl_drafting.specs.Rows.{AreRowsOf};
 ghost use Rattle.fpl_drafting.specs.Drafting.{IsDrafted, IsToldOf};
 
 use crate::row::DraftRow;
-use crate::scoring::tabled;
 use crate::steps::steps_done;
+use crate::tabling::tabled;
 use crate::telling::{tell_outcomes, tell_picks};
 use draft_league::Draft;
 use fpl_base::{Clock, Keeper, ReadCount, Sink};

@@ -5,8 +5,8 @@
 mod drafting;
 mod row;
 mod rows;
-mod scoring;
 mod steps;
+mod tabling;
 mod telling;
 mod texts;
 mod totals;

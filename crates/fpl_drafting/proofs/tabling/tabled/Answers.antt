@@ -4,7 +4,7 @@ use Rattle.request_handler.specs.Kept.{Kept}
 use Rattle.fpl_drafting.specs.Drafting.{locked_in}
 use Rattle.fpl_drafting.proofs.StepLemmas.{fresh_shown, rose_since}
 use Rattle.fpl_drafting.proofs.TellLemmas.{season_not, season_shown}
-use Rattle.fpl_drafting.proofs.scoring.tabled.Goals as goal
+use Rattle.fpl_drafting.proofs.tabling.tabled.Goals as goal
 
 pub tabled_over-requires-clause-fresh : goal.tabled_over-requires-clause-fresh
 tabled_over-requires-clause-fresh g c =

@@ -1,7 +1,7 @@
 use Rattle.std.proofs.Common.{◌∙◌}
 use Rattle.request_handler.specs.Kept.{Kept}
 use Rattle.fpl_drafting.proofs.TellLemmas.{tabled_lacks, tabled_scored}
-use Rattle.fpl_drafting.proofs.scoring.tabled_over.Goals as goal
+use Rattle.fpl_drafting.proofs.tabling.tabled_over.Goals as goal
 
 pub returns-in-Ok-clause-tabled : goal.returns-in-Ok-clause-tabled
 returns-in-Ok-clause-tabled g c =

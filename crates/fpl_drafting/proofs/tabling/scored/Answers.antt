@@ -6,7 +6,7 @@ use Rattle.fpl_drafting.specs.Totals.{IsTableText}
 use Rattle.fpl_drafting.specs.declared.totals.Told.{Told}
 use Rattle.fpl_drafting.proofs.StepLemmas.{rose_from}
 use Rattle.fpl_drafting.proofs.TellLemmas.{scored_end, scored_stop}
-use Rattle.fpl_drafting.proofs.scoring.scored.Goals as goal
+use Rattle.fpl_drafting.proofs.tabling.scored.Goals as goal
 
 pub returns-in-Ok-clause-scored : goal.returns-in-Ok-clause-scored
 returns-in-Ok-clause-scored g c =

@@ -5,7 +5,7 @@ use Rattle.request_handler.specs.Kept.{Kept}
 use Rattle.fpl_drafting.specs.Drafting.{points_told}
 use Rattle.fpl_drafting.proofs.StepLemmas.{fresh_shown, next_of, rose_from, rose_since}
 use Rattle.fpl_drafting.proofs.TellLemmas.{asked_end, asked_more, asked_out, asked_start, asked_stop, went_well}
-use Rattle.fpl_drafting.proofs.scoring.points_asked.Goals as goal
+use Rattle.fpl_drafting.proofs.tabling.points_asked.Goals as goal
 
 pub loop-place-init : goal.loop-place-init
 loop-place-init g c =

@@ -1,7 +1,7 @@
 use Rattle.std.proofs.Common.{◌≡◌, ◌≤◌, drop, false}
 use Rattle.request_handler.specs.Kept.{Leads}
 use Rattle.fpl_drafting.proofs.TellLemmas.{IsAsked}
-use Rattle.fpl_drafting.proofs.scoring.points_asked.Given as goal
+use Rattle.fpl_drafting.proofs.tabling.points_asked.Given as goal
 
 -- the questions before this one were asked, and nothing was written
 abbrev pub invariant-loop-place : goal.invariant-loop-place
