@@ -354,7 +354,7 @@ class Windows(Books):
     # The team of the week
 
     @remembered
-    def squad_rules(self, gameweek):
+    def dream_team(self, gameweek):
         """Players with their points, by position; empty where no eleven can be formed."""
         points = self.points_of_those_who_played(gameweek)
         best, most = [], None
