@@ -12,6 +12,7 @@ pub mod LockFacts
 pub mod MarkFacts
 pub mod MatchChanges
 pub mod OtherFacts
+pub mod PartFacts
 pub mod PlaceChanges
 pub mod PlaceFacts
 pub mod RefreshedFacts

@@ -4,6 +4,7 @@ pub mod Evaluated
 pub mod Followed
 pub mod Indexed
 pub mod Lines
+pub mod Parts
 pub mod Refreshed
 pub mod Told
 pub mod Touched

@@ -9,10 +9,8 @@ ghost use Rattle.season_nodes.specs.IndexFacts.{holders_in};
 use crate::endings::{refresh_endings, refresh_mark};
 use crate::holding::refresh_holding;
 use crate::indexing::index_gameweeks;
-use crate::locks::{refresh_gameweeks, refresh_locked};
+use crate::parts::{Part, refresh};
 use crate::refreshing::{refresh_bonus, refresh_line, refresh_one};
-use crate::rounds::refresh_head;
-use crate::totals::refresh_league_totals;
 use fpl_base::{FixtureId, Gw, LeagueId, Memory, PlayerId};
 use season_nodes::{Books, Index, Node};
 use season_rules::SeasonCells;
@@ -101,7 +99,7 @@ pub fn player_added(
     ensures exact { OnOk result
         (PlayerMarked books.now (holders_in index.now) player cells.old cells.new) }
 {
-    refresh_gameweeks(cells, books, player, 0)?;
+    refresh(cells, books, &Part::Player(player, 0), true)?;
     refresh_holding(index, cells, books, player)?;
     Ok(())
 }
@@ -123,7 +121,7 @@ pub fn gameweeks_locked(
     ensures earlier { OnOk result (IndexKept first index.old index.new) }
 {
     index_gameweeks(index, books, first)?;
-    refresh_locked(cells, books, first)?;
+    refresh(cells, books, &Part::Locked(first), true)?;
     Ok(())
 }
 
@@ -139,8 +137,7 @@ pub fn league_changed(
     ensures sound { OnOk result (LeagueFollowed books.now league cells.old cells.new) }
     ensures exact { OnOk result (LeagueMarked books.now league cells.old cells.new) }
 {
-    refresh_league_totals(cells, books, league)?;
-    refresh_head(cells, books, league, false)?;
+    refresh(cells, books, &Part::Changed(league), false)?;
     Ok(())
 }
 

@@ -1,14 +1,13 @@
 // What the end of a gameweek does to the cells.
-ghost use Rattle.std.specs.Prelude.{◌≡◌, ◌<◌, ◌+◌, [], ◌∷◌, OnOk};
-ghost use Rattle.rule_book.specs.Entries.{most_entries};
+ghost use Rattle.std.specs.Prelude.{◌≡◌, OnOk};
 ghost use Rattle.season_graph.specs.Followed.{MarkRefreshed, Refreshes};
-ghost use Rattle.season_graph.specs.Touched.{ending_in, ending_nodes, moved_endings, others_finished, team_nodes};
+ghost use Rattle.season_graph.specs.Touched.{ending_in, ending_nodes, moved_endings, others_finished};
 ghost use Rattle.season_nodes.specs.BookFacts.{facts_of};
-ghost use Rattle.season_nodes.specs.declared.nodes.Node.{Node};
 
-use crate::refreshing::{refresh_bonus, refresh_one};
-use fpl_base::{EntryId, FixtureId, Gw, Memory};
-use season_nodes::{Books, Node};
+use crate::parts::{Part, refresh};
+use crate::refreshing::refresh_bonus;
+use fpl_base::{FixtureId, Gw, Memory};
+use season_nodes::Books;
 use season_rules::SeasonCells;
 
 // Brings up to date what the mark of a fixture touches.
@@ -75,7 +74,7 @@ fn refresh_ending_in(
         (ending_in (facts_of books.now) fixture gameweek) cells.old cells.new) }
 {
     if gameweek.get() <= books.calendar.locked() && others_finished(books, fixture, gameweek) {
-        refresh_teams(cells, books, gameweek)?;
+        refresh(cells, books, &Part::Teams(gameweek), true)?;
     }
     Ok(())
 }
@@ -86,33 +85,4 @@ fn others_finished(books: &Books, fixture: FixtureId, gameweek: Gw) -> bool
 {
     let fixtures = books.calendar.standing(gameweek);
     fixtures.iter().all(|other| *other == fixture || books.matches.finished(*other))
-}
-
-// Brings the gameweek of each entry up to date.
-fn refresh_teams(cells: &mut SeasonCells, books: &Books, gameweek: Gw) -> Result<(), Memory>
-    ensures { OnOk result
-        (Refreshes books.now (team_nodes (facts_of books.now) gameweek) cells.old cells.new) }
-{
-    for number in 0..books.managers.entries() {
-        refresh_team(cells, books, number, gameweek)?;
-    }
-    Ok(())
-}
-
-// Brings the gameweek of the entry of a number from 0 up to date.
-fn refresh_team(
-    cells: &mut SeasonCells,
-    books: &Books,
-    number: u32,
-    gameweek: Gw,
-) -> Result<(), Memory>
-    requires { number < most_entries }
-    ensures { OnOk result
-        (Refreshes books.now (Node.TeamGw (number + 1) gameweek ∷ []) cells.old cells.new) }
-{
-    let Some(entry) = EntryId::new(number + 1) else {
-        unreachable!()
-    };
-    refresh_one(cells, books, &Node::TeamGw(entry, gameweek))?;
-    Ok(())
 }

@@ -1,19 +1,15 @@
 // Cells that are brought to the values that the rule book tells.
-ghost use Rattle.std.specs.Prelude.{◌≤◌, ◌+◌, ◌++◌, IfOk, OnOk};
+ghost use Rattle.std.specs.Prelude.{◌≤◌, ◌+◌, IfOk, OnOk};
 ghost use Rattle.std.specs.List.{sum_by};
 ghost use Rattle.season_nodes.specs.BookFacts.{facts_of};
-ghost use Rattle.season_graph.specs.Followed.{AreEvaluated, AreSound, HasRemained, HasSettled, Refreshes};
+ghost use Rattle.season_graph.specs.Followed.{AreEvaluated, AreSound, HasRemained, HasSettled};
 ghost use Rattle.season_nodes.specs.IndexFacts.{IsIndex, holders_in};
 ghost use Rattle.season_nodes.specs.Season.{IsSeason, weight_of};
-ghost use Rattle.season_graph.specs.Touched.{all_nodes, fixture_nodes, fixtures_nodes, heads_nodes, locked_scores};
 
-use crate::cups::refresh_cups;
 use crate::indexing::index_gameweeks;
 use crate::laws::replay_is_told;
-use crate::locks::refresh_scores;
-use crate::refreshing::{refresh_bonus, refresh_line};
-use crate::rounds::refresh_heads;
-use fpl_base::{FixtureId, Memory, ReadCount};
+use crate::parts::{Part, refresh};
+use fpl_base::{Memory, ReadCount};
 use rescore_graph::{Cells, Report};
 use season_nodes::{Books, Index, Node};
 use season_rules::{SeasonCells, SeasonRules};
@@ -90,53 +86,7 @@ fn cells_of<L: Ledger>(
         index,
     };
     let mut cells = Cells::new(alloc);
-    refresh_all(&mut cells, books)?;
+    refresh(&mut cells, books, &Part::All, true)?;
     settle_season(&mut cells, &rules, steps)?;
     Ok(cells)
-}
-
-// Brings all nodes up to date.
-fn refresh_all(cells: &mut SeasonCells, books: &Books) -> Result<(), Memory>
-    ensures { OnOk result
-        (Refreshes books.now (all_nodes (facts_of books.now)) cells.old cells.new) }
-{
-    refresh_but_ties(cells, books)?;
-    refresh_cups(cells, books, 0)?;
-    Ok(())
-}
-
-// The same but for the ties of cups.
-fn refresh_but_ties(cells: &mut SeasonCells, books: &Books) -> Result<(), Memory>
-    ensures { OnOk result
-        (Refreshes books.now
-        ((fixtures_nodes (facts_of books.now) ++ locked_scores (facts_of books.now) 0)
-        ++ heads_nodes (facts_of books.now)) cells.old cells.new) }
-{
-    refresh_fixtures(cells, books)?;
-    refresh_scores(cells, books, 0)?;
-    refresh_heads(cells, books)?;
-    Ok(())
-}
-
-// Brings the nodes of all fixtures up to date.
-fn refresh_fixtures(cells: &mut SeasonCells, books: &Books) -> Result<(), Memory>
-    ensures { OnOk result
-        (Refreshes books.now (fixtures_nodes (facts_of books.now)) cells.old cells.new) }
-{
-    for fixture in books.matches.fixtures() {
-        refresh_fixture(cells, books, *fixture)?;
-    }
-    Ok(())
-}
-
-// Brings the nodes of a fixture up to date.
-fn refresh_fixture(cells: &mut SeasonCells, books: &Books, fixture: FixtureId) -> Result<(), Memory>
-    ensures { OnOk result
-        (Refreshes books.now (fixture_nodes (facts_of books.now) fixture) cells.old cells.new) }
-{
-    refresh_bonus(cells, books, fixture)?;
-    for player in books.matches.players_of(fixture) {
-        refresh_line(cells, books, fixture, *player)?;
-    }
-    Ok(())
 }

@@ -5,16 +5,13 @@
 #![tactic(auto)]
 
 mod changes;
-mod cups;
 mod endings;
 mod evaluation;
 mod holding;
 mod indexing;
 mod laws;
-mod locks;
+mod parts;
 mod refreshing;
-mod rounds;
-mod totals;
 
 pub use changes::{
     fact_changed, fixture_moved, gameweeks_locked, league_changed, mark_changed, player_added,

@@ -1,6 +1,6 @@
 // Single nodes that are brought up to date.
 ghost use Rattle.std.specs.Prelude.{[], ◌∷◌, OnOk};
-ghost use Rattle.season_graph.specs.Followed.{Refreshes, RefreshesOne};
+ghost use Rattle.season_graph.specs.Followed.{ChosenRefreshed, OthersRefreshed, Refreshes, RefreshesOne};
 ghost use Rattle.season_nodes.specs.declared.nodes.Node.{Node};
 
 use fpl_base::{FixtureId, Memory, PlayerId};
@@ -58,5 +58,34 @@ pub(crate) fn refresh_bonus(
     ensures { OnOk result (Refreshes books.now (Node.Bonus fixture ∷ []) cells.old cells.new) }
 {
     refresh_one(cells, books, &Node::Bonus(fixture))?;
+    Ok(())
+}
+
+// Brings a node up to date if it came or went.
+fn refresh_if_other(cells: &mut SeasonCells, books: &Books, n: &Node) -> Result<(), Memory>
+    ensures { OnOk result (OthersRefreshed books.now (n.now ∷ []) cells.old cells.new) }
+{
+    let has_cell = cells.evaluations(*n).is_some();
+    if has_cell != books.is_live(n) {
+        refresh_one(cells, books, n)?;
+    }
+    Ok(())
+}
+
+// Brings a node up to date; or, where not all are to be, if it came or went.
+pub(crate) fn refresh_chosen(
+    cells: &mut SeasonCells,
+    books: &Books,
+    n: &Node,
+    all: bool,
+) -> Result<(), Memory>
+    ensures { OnOk result
+        (ChosenRefreshed books.now all (n.now ∷ []) cells.old cells.new) }
+{
+    if all {
+        refresh_one(cells, books, n)?;
+    } else {
+        refresh_if_other(cells, books, n)?;
+    }
     Ok(())
 }

@@ -5,10 +5,10 @@ use Rattle.season_graph.proofs.LockFacts.{lock_follows, lock_marks}
 use Rattle.season_graph.proofs.changes.gameweeks_locked.Goals as goal
 
 pub returns-clause-sound : goal.returns-clause-sound
-returns-clause-sound c = λ old is_old is_new differ. lock_follows old (facts_of c.args.books.now) c.args.first differ is_old is_new (held c.args.cells.now) (held c.refresh_locked.new.cells) c.in_ok-refresh_locked.ensures
+returns-clause-sound c = λ old is_old is_new differ. lock_follows old (facts_of c.args.books.now) c.args.first differ is_old is_new (held c.args.cells.now) (held c.refresh.new.cells) c.in_ok-refresh.ensures
 
 pub returns-clause-exact : goal.returns-clause-exact
-returns-clause-exact c = λ old is_old is_new differ. lock_marks old (facts_of c.args.books.now) c.args.first differ is_old is_new (held c.args.cells.now) (held c.refresh_locked.new.cells) c.in_ok-refresh_locked.ensures
+returns-clause-exact c = λ old is_old is_new differ. lock_marks old (facts_of c.args.books.now) c.args.first differ is_old is_new (held c.args.cells.now) (held c.refresh.new.cells) c.in_ok-refresh.ensures
 
 pub returns-clause-index : goal.returns-clause-index
 returns-clause-index c = λ old differ. lock_index old (facts_of c.args.books.now) c.args.first differ c.args.index.now c.index_gameweeks.new.index c.in_ok-index_gameweeks.ensures

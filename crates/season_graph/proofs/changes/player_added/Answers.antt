@@ -18,8 +18,8 @@ returns-clause-nodes c =
     let p = c.args.player in
     let n = books.calendar.now.locked in
     refreshed_append (is_live (facts_of books)) (player_nodes p 0 n) (holding_nodes (holders_in c.args.index.now) p n)
-    (held c.args.cells.now) (held c.refresh_gameweeks.new.cells) (held c.refresh_holding.new.cells)
-    (subst (λ k. Refreshes books (player_nodes p 0 k) c.args.cells.now c.refresh_gameweeks.new.cells) (less_none n) c.in_ok-refresh_gameweeks.ensures)
+    (held c.args.cells.now) (held c.refresh.new.cells) (held c.refresh_holding.new.cells)
+    (subst (λ k. Refreshes books (player_nodes p 0 k) c.args.cells.now c.refresh.new.cells) (less_none n) c.in_ok-refresh.ensures)
     c.in_ok-refresh_holding.ensures
 
 pub returns-clause-sound : goal.returns-clause-sound

@@ -8,5 +8,5 @@ use Rattle.season_graph.proofs.evaluation.cells_of.Goals as goal
 pub settle_season-requires-clause-sound : goal.settle_season-requires-clause-sound
 settle_season-requires-clause-sound g c =
     let b = facts_of c.args.books.now in
-    whole_sound b (all_nodes b) (live_among b) (held c.new-cells.result) (held c.refresh_all.new.cells)
-    (λ n. ap (λ (rows : SeasonRows). held rows n) c.new-cells.ensures) c.in_ok-refresh_all.ensures
+    whole_sound b (all_nodes b) (live_among b) (held c.new-cells.result) (held c.refresh.new.cells)
+    (λ n. ap (λ (rows : SeasonRows). held rows n) c.new-cells.ensures) c.in_ok-refresh.ensures
