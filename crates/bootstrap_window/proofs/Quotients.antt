@@ -10,9 +10,6 @@ pub if_ok : {T E : Type 0} (r : Result T E) (P Q : T → Type 0) → ((x : T) �
 if_ok (Ok x) P Q follows is = follows x is
 if_ok (Err e) P Q follows is = is
 
-by_test : (b : Bool) (tenths : ℕ) → signed_tenths_text b tenths ≡ (if b && nat_lt 0 tenths then codes "-" ++ tenths_text tenths else tenths_text tenths)
-by_test b tenths = refl
-
 pub below_zero : (b : Bool) (tenths : ℕ) → b ≡ true → 0 < tenths → codes "-" ++ tenths_text tenths ≡ signed_tenths_text b tenths
 below_zero b tenths is some =
     ap (λ c. if c then codes "-" ++ tenths_text tenths else tenths_text tenths) (sym (lt-ltb 0 tenths some))

@@ -7,10 +7,6 @@ use Rattle.std.proofs.Math.Nat.{add-mul}
 pub rows_within : (n m : ℕ) → (n + 1) * (2 * m) + 18 * m ≤ (n + 20) * (2 * m)
 rows_within n m = let one = add-mul n 1 (2 * m) in let all = add-mul n 20 (2 * m) in omega (arith, one, all)
 
--- and these with those of chips within those of the window
-pub window_within : (n m : ℕ) → (n + 20) * (2 * m) + m ≤ (n + 21) * (2 * m)
-window_within n m = let rows = add-mul n 20 (2 * m) in let all = add-mul n 21 (2 * m) in omega (arith, rows, all)
-
 no_more : (n : ℕ) → (1 ≤ n → ⊥) → n ≡ 0
 no_more zero none = refl
 no_more (suc n) none = absurd (none (omega arith))

@@ -38,13 +38,6 @@ none_and_none : pos 0 ≡ pos 0 +ℤ pos 0
 none_and_none = refl
 
 module _ (facts : Facts) where
-  -- the total through no gameweek
-  pub none_through : (h : List Event) → total_through facts h 0 ≡ pos 0
-  none_through [] = refl
-  none_through (e ∷ h) =
-      let none : (0 + 1) - max 1 e.gw ≡ 0 = omega arith in
-      ap (λ n. total_of (map (λ k. (score_by facts (e ∷ h) k).net) (range_with_len (max 1 e.gw) n))) none
-
   -- the total through one more is that with its points after deductions
   pub through_more : (h : List Event) (g : ℕ) → total_through facts h (g + 1) ≡ total_through facts h g +ℤ (side_by facts h (g + 1)).net
   through_more [] g = none_and_none

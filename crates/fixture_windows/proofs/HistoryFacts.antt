@@ -16,10 +16,6 @@ pub as_long : (rows : Lines) → length (only_lines rows) ≡ length (players_in
 as_long [] = refl
 as_long (row ∷ rows) = ap suc (as_long rows)
 
-pub rows_long : (rows : Lines) → length (players_in rows) ≡ length rows
-rows_long [] = refl
-rows_long (row ∷ rows) = ap suc (rows_long rows)
-
 -- who stands at a place with a line has this row there
 pub row_at : (rows : Lines) (place p : ℕ) (o : Option Line) → place < length (players_in rows) → ((d : ℕ) → get_or (players_in rows) place d ≡ p) → slice_get (only_lines rows) place ≡ o
     → (line : Line) × (slice_get rows place ≡ Some (p, line)) × (o ≡ Some line)

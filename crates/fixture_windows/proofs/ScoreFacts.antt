@@ -154,14 +154,3 @@ module _ (facts : Facts) (fixture : Fixture) where
 
   pub no_score : list_all (has_known_goals facts fixture) lines_are ≡ false → (None ≡ home_score facts fixture) × (None ≡ away_score facts fixture)
   no_score unknown = no_score_by (not_both (has_facts facts.matches fixture.id) (list_all (has_known_goals facts fixture) lines_are) unknown)
-
-  not_first : (started known : Bool) → started ≡ false → (started && known) ≡ false
-  not_first true known fails = absurd (cc fails)
-  not_first false known fails = refl
-
-  pub not_started : has_facts facts.matches fixture.id ≡ false → (None ≡ home_score facts fixture) × (None ≡ away_score facts fixture)
-  not_started fails = no_score_by (not_first (has_facts facts.matches fixture.id) (list_all (has_known_goals facts fixture) lines_are) fails)
-
--- before the first line
-pub scores_begin : (facts : Facts) (fixture : Fixture) (lines : Lines) → ScoresSoFar facts fixture lines 0 (record { home = 0; away = 0 })
-scores_begin facts fixture lines = record { known = refl; home = omega arith; away = omega arith }

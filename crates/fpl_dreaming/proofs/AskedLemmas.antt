@@ -1,9 +1,8 @@
 -- Players that are asked for one after another.
-use Rattle.std.proofs.Common.{◌≡◌, ◌+◌, ◌<◌, ◌≤◌, ◌⊎◌, ◌∙◌, Bool, true, false, true≢false, ℕ, List, [], ◌∷◌, Option, Some, None, inl, inr, length, map, drop, get_or, ap, arith, refl, sym, subst}
+use Rattle.std.proofs.Common.{◌≡◌, ◌+◌, ◌<◌, ◌≤◌, ◌⊎◌, ◌∙◌, Bool, true, false, true≢false, ℕ, List, [], ◌∷◌, Option, Some, None, inl, inr, length, map, drop, get_or, ap, refl, sym, subst}
 use Rattle.std.proofs.lemmas.List.{drop_more}
 use Rattle.std.specs.Result.{OnOk, is_err}
 use Rattle.std.specs.Prelude.{MatchBool, MatchOption, Ok, Err, Result, nat_le}
-use Rattle.fpl_base.specs.Causes.{Rose}
 use Rattle.fpl_base.specs.Keeping.{Map}
 use Rattle.fpl_base.specs.declared.kinds.Caller.TheVariants as caller
 use Rattle.fpl_base.specs.declared.kinds.Position.{Position}
@@ -24,10 +23,6 @@ use Rattle.local_requests.specs.Printing.{EndsBy, Prints, unknown_text}
 use Rattle.squad_rules.specs.Elevens.{Row}
 use Rattle.fpl_dreaming.specs.Dreaming.{AsksOn, IsDreamed, IsDreamedIn, TellsDream}
 use Rattle.fpl_dreaming.specs.Rows.{ArePointsAsked, IsRowAsked, figures_in, locked_in, position_in, row_of, with_row}
-
--- a count that rose later rose since, and one that rose before rose by now
-pub rose_since : (before between now : ℕ) → before ≤ between → Rose between now → Rose before now
-rose_since before between now later rose = omega (arith, later, rose)
 
 none_some : {X : Type 0} (x : X) → None ≡ Some x → ⊥
 none_some x is = cc
@@ -117,9 +112,6 @@ module _ (K : Type 0) (tells serves : K → Type 0) (holds passes : K → Map �
       (λ s b heard. (told, b, subst (λ (r : Request). IsHeard s caller.Operator r told b) asks heard, subst (ShowsOn player gameweek told (Err told) b b) (sym is) (refl, refl)))
 
   -- ---- all of them
-
-  pub asks_start : (gameweek : ℕ) (all : List ℕ) (before : Option (List ℕ)) (kept : Kept K) → Leads tells serves holds passes kept kept (On gameweek all all [] before)
-  asks_start gameweek all before kept = leads_same K tells serves holds passes kept (On gameweek all all [] before) (λ served after status new on. on)
 
   pub asks_more : (gameweek : ℕ) (all left rest : List ℕ) (player : ℕ) (rows next : List Row) (row : Option Row) (before : Option (List ℕ)) (first mid last : Kept K)
       → left ≡ player ∷ rest → next ≡ with_row rows row

@@ -15,14 +15,6 @@ pub record AreRowsOf (players : List ℕ) (count : ℕ) (rows : List Row) : Type
   pub differ : AllDiffer (map (λ row. row.0) rows)
   pub near : All (λ row. IsWithin 1000000 row.2) rows
 
-pub no_rows : (players : List ℕ) → AreRowsOf players 0 []
-no_rows players = record {
-  few = omega arith;
-  before = λ k d inside. absurd (omega arith);
-  differ = λ i j d less inside. absurd (omega arith);
-  near = λ k d inside. absurd (omega arith);
-}
-
 more_rows : (players : List ℕ) (count : ℕ) (rows : List Row) (row : Row) → count < length players → AllPairs (λ a b. a < b) players → row.0 ≡ get_or players count 0
     → IsWithin 1000000 row.2 → AreRowsOf players count rows → AreRowsOf players (count + 1) (rows ++ row ∷ [])
 more_rows players count rows row inside rise is near are = record {

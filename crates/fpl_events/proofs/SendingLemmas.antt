@@ -1,5 +1,5 @@
 -- Lines that are sent one after another.
-use Rattle.std.proofs.Common.{◌≡◌, ◌+◌, ◌<◌, ◌≤◌, drop, get_or, ◌⊎◌, ◌∙◌, Bool, true, false, ℕ, List, [], ◌∷◌, length, Option, inl, inr, ap, arith, refl, sym, subst}
+use Rattle.std.proofs.Common.{◌≡◌, ◌+◌, ◌<◌, ◌≤◌, drop, get_or, ◌⊎◌, ◌∙◌, true, false, ℕ, List, [], ◌∷◌, length, Option, inl, inr, ap, arith, refl, sym, subst}
 use Rattle.std.specs.Prelude.{Ok, Err, Result}
 use Rattle.std.proofs.lemmas.List.{drop_more}
 use Rattle.fpl_base.specs.Causes.{Rose}
@@ -31,21 +31,6 @@ rose_from {X = X} faults here there now same rose = subst (λ (x : X). Rose (fau
 -- what stands at a place, and what stands behind it
 pub next_of : {X : Type 0} (xs : List X) (i : ℕ) (x : X) → i < length xs → x ≡ get_or xs i x → drop i xs ≡ x ∷ drop (i + 1) xs
 next_of xs i x here is = drop_more xs i x here ∙ ap (λ y. y ∷ drop (i + 1) xs) (sym is)
-
--- an answer that is done leaves the host as fresh as it was
-done_none : (told : Answer) → is_done told ≡ true → (told ≡ answer.Memory) ⊎ (told ≡ answer.Keeper) → ⊥
-done_none told done (inl memory) = no (sym (ap is_done memory) ∙ done)
-  where
-    no : false ≡ true → ⊥
-    no is = cc
-done_none told done (inr keeper) = no (sym (ap is_done keeper) ∙ done)
-  where
-    no : false ≡ true → ⊥
-    no is = cc
-
-pub fresh_behind : (stale : Bool) (told : Answer) → (stale ≡ true → (told ≡ answer.Memory) ⊎ (told ≡ answer.Keeper)) → is_done told ≡ true → stale ≡ false
-fresh_behind false told out done = refl
-fresh_behind true told out done = absurd (done_none told done (out refl))
 
 -- the operator's last number is the same by the rows and by the book
 last_stood : (host : HostRows) (book : Book) → StandsIn host book → number_at host.lasts caller.Operator ≡ last_number book caller.Operator

@@ -66,9 +66,6 @@ module _ {S : Type 0} (step : S → Request → List ℕ → S → Type 0) where
   pub served_more : (s r x : List ℕ) (a b : S) (u v : Option (List ℕ)) → Served step s r a b u v → Served step (s ++ x) (r ++ x) a b u v
   served_more s r x a b u v p = record { messages = p.messages; texts = p.texts; begins = begins_more s x r p.messages p.begins; run = p.run; sent = p.sent }
 
-  served_to : (s r q : List ℕ) (a b : S) (u v : Option (List ℕ)) → Served step s r a b u v → strip r ≡ strip q → Served step s q a b u v
-  served_to s r q a b u v p e = served_then s r q a b b u v v p (served_none r q b v e)
-
   -- the texts of two parts, and then more
   texts_then : (u v w : Option (List ℕ)) (ts us : List (List ℕ)) (more : List ℕ) → Appends u v (joined ts) → Appends v w (joined us ++ more) → Appends u w (joined (ts ++ us) ++ more)
   texts_then u v w ts us more p q = subst (Appends u w) (both ts us more) (Appends-trans u v w (joined ts) (joined us ++ more) p q)

@@ -38,10 +38,6 @@ file_not_had before now file shelf.Failed cause = record { later = cause.later; 
 file_not_had before now file shelf.Long cause = record { later = cause.later; caused = cause.only (λ is. failed_long (inside (List ℕ) ShelfFault shelf.Long shelf.Failed is)) }
 file_not_had before now file shelf.Memory cause = record { later = cause.later; caused = cause.only (λ is. failed_memory (inside (List ℕ) ShelfFault shelf.Memory shelf.Failed is)) }
 
--- where memory was wanting for its path nothing was asked
-pub file_not_asked : (count : ℕ) → HasLoadCause count count (bad (List ℕ) LoadFault fault.Memory)
-file_not_asked count = record { later = omega arith; caused = refl }
-
 -- why a file was not had
 pub file_explained : (files : Option (List ℕ → List ℕ)) (folder : List ℕ) (file : ℕ) (why : ShelfFault)
     → (bad (List ℕ) ShelfFault why ≡ bad (List ℕ) ShelfFault shelf.Long → IfSome files (λ bytes_of. 4194304 < length (bytes_of (path_in folder (file_name file))))) → ExplainsFile files folder file (load_fault file why)

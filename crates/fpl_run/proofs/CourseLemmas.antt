@@ -29,16 +29,6 @@ session_reads_few K answer few first last left now before after ending session =
 module _ (K : Type 0) (tells serves : K → Type 0) (holds passes : K → Map → Type 0) where
   -- ---- one thing after another
 
-  pub leads_all_same : (kept : Kept K) (until : Option Served → Option Served → Type 0) (whole : Served → Served → Type 0)
-      → ((state : Option Served) → until state state) → ((served : Served) → whole served served) → LeadsAll tells serves holds passes kept kept until whole
-  leads_all_same kept until whole each every = record {
-    by_rows = λ state stands. (state, stands, each state);
-    by_stops = λ tell state stands. (state, stands, each state);
-    by_records = λ tell serve served stands. (served, stands, every served);
-    told = λ tell. tell;
-    served = λ tell serve. serve;
-  }
-
   pub leads_all_then : (first mid last : Kept K) (one two both : Option Served → Option Served → Type 0) (once twice twofold : Served → Served → Type 0)
       → ((s m b : Option Served) → one s m → two m b → both s b) → ((s m b : Served) → once s m → twice m b → twofold s b)
       → LeadsAll tells serves holds passes first mid one once → LeadsAll tells serves holds passes mid last two twice → LeadsAll tells serves holds passes first last both twofold

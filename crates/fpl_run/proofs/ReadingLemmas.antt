@@ -76,9 +76,6 @@ module _ (K : Type 0) where
   pub record Counting (count whole : ℕ) (first last : Counted K) (before between : DoorState) : Type 0 where
     pub on : (after : DoorState) (new : Counted K) → CountOn count between after last new → CountOn whole before after first new
 
-  pub counting_start : (count : ℕ) (now : Counted K) (door : DoorState) → Counting count count now now door door
-  counting_start count now door = record { on = λ after new on. on }
-
   pub counting_more : (left count whole : ℕ) (first mid last : Counted K) (before between after : DoorState) (ending : Ending) → left ≡ suc count
       → Counting left whole first mid before between → CountOne between after (Ok ending) mid last → Counting count whole first last before after
   counting_more left count whole first mid last before between after ending is counting one =

@@ -12,8 +12,8 @@ use Rattle.request_handler.specs.Kept.{Kept, LeadsAll}
 use Rattle.request_handler.specs.Replying.{IsReplyUntil, Served}
 use Rattle.request_handler.specs.Whole.{IsKeptReply}
 use Rattle.fpl_run.specs.Pipe.{IsSession}
-use Rattle.fpl_run.specs.Serve.{DoorState, Fails, IsAskedOnce, IsVisit, OneFewer, ServesOn}
-use Rattle.fpl_run.proofs.CourseLemmas.{leads_all_on, leads_all_same, leads_all_then}
+use Rattle.fpl_run.specs.Serve.{DoorState, IsAskedOnce, IsVisit, OneFewer, ServesOn}
+use Rattle.fpl_run.proofs.CourseLemmas.{leads_all_on, leads_all_then}
 
 -- ---- one connection
 
@@ -57,11 +57,6 @@ module _ (K : Type 0) (tells serves : K → Type 0) (holds passes : K → Map �
         write = λ is. rose_some writes written no_writes (writing is);
       }
 
-  -- a door that failed
-  pub no_visit : (kept : Kept K) (before after : DoorState) → Fails before after
-      → LeadsAll tells serves holds passes kept kept (IsAskedOnce IsReplyUntil before after (Err (record {}))) (IsAskedOnce IsKeptReply before after (Err (record {})))
-  no_visit kept before after fails = leads_all_same K tells serves holds passes kept _ _ (λ state. (fails, refl)) (λ served. (fails, refl))
-
   -- some of the connections were served, and so many are left: whatever becomes of these is the end of all
   abbrev On : (S : Type 0) → (S → Request → ℕ × List ℕ → S → Type 0) → ℕ → ℕ → DoorState → DoorState → S → S → Type 0
   On S answers count whole before between old mid =
@@ -70,12 +65,6 @@ module _ (K : Type 0) (tells serves : K → Type 0) (holds passes : K → Map �
   pub record Underway (count whole : ℕ) (first last : Kept K) (before between : DoorState) : Type 0 where
     pub on : LeadsAll tells serves holds passes first last (On (Option Served) IsReplyUntil count whole before between) (On Served IsKeptReply count whole before between)
     pub faults : between.faults ≡ before.faults
-
-  pub underway_start : (count : ℕ) (kept : Kept K) (door : DoorState) → Underway count count kept kept door door
-  underway_start count kept door = record {
-    on = leads_all_same K tells serves holds passes kept _ _ (λ state after new status on. on) (λ served after new status on. on);
-    faults = refl;
-  }
 
   step_on : (count whole : ℕ) (first mid last : Kept K) (before between after : DoorState) (ending : Ending)
       → Underway (suc count) whole first mid before between → ending ≢ ends.Memory

@@ -25,14 +25,6 @@ module _ {X : Type 0} (row : X → Data) where
   rows_closed (x ∷ xs) =
       ap (λ ts. tokens_of (row x) ++ ts) (rows_closed xs) ∙ sym (append_assoc (tokens_of (row x)) (row_tokens row xs) (Token.end_array ∷ []))
 
-  -- no rows yet, behind the opening bracket
-  pub rows_begun : {u : Unit {0}} {a b : Written} → Writes {E = AllocError} (Ok u) a b Token.begin_array → b.tokens ≡ (a.tokens ++ Token.begin_array ∷ []) ++ row_tokens row []
-  rows_begun {a = a} wrote = wrote.ok ∙ sym (append-nil (a.tokens ++ Token.begin_array ∷ []))
-
-  -- no rows yet, behind what was written
-  pub no_rows : (ts : List Token) → ts ≡ ts ++ row_tokens row []
-  no_rows ts = sym (append-nil ts)
-
   -- some rows more
   pub rows_more : {u : Unit {0}} {a b : Written} (base : List Token) (xs ys : List X) → Appends (Ok u) a b (row_tokens row ys)
       → a.tokens ≡ base ++ row_tokens row xs → b.tokens ≡ base ++ row_tokens row (xs ++ ys)

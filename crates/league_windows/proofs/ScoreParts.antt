@@ -1,14 +1,9 @@
 -- What a score gives of itself, or nothing where there is none.
 use Rattle.std.proofs.Common.{◌≡◌, ◌≤◌, ℕ, pos, Bool, true, false, Option, Some, None, ap, if◌then◌else◌}
-use Rattle.std.specs.Prelude.{IsSome, IfSome, ◌↔◌}
+use Rattle.std.specs.Prelude.{◌↔◌}
 use Rattle.std.specs.Option.{option_map_or}
 use Rattle.rule_book.specs.declared.team_score.TeamScore.{TeamScore}
 use Rattle.season_book.specs.LeagueViews.{no_side, side_of}
-
--- a gameweek of a number that is in range
-pub gameweek_made : (n : ℕ) (o : Option ℕ) → IsSome o ↔ ((1 ≤ n) × (n ≤ 38)) → IfSome o (λ g. g ≡ n) → 1 ≤ n → n ≤ 38 → o ≡ Some n
-gameweek_made n None there is one most = absurd (cc (there.1 (one, most)))
-gameweek_made n (Some g) there is one most = ap Some is
 
 pub net_of : (b : Bool) (s : TeamScore) (o : Option TeamScore) → o ≡ (if b then Some s else None) → option_map_or (λ (x : TeamScore). x.net) o (pos 0) ≡ (if b then side_of s else no_side).net
 net_of true s o is = ap (λ o. option_map_or (λ (x : TeamScore). x.net) o (pos 0)) is

@@ -71,16 +71,6 @@ count_alike p q (x ∷ xs) all =
     count_more p x xs (q x) (All-head (λ y. p y ≡ q y) x xs all) ∙ ap (λ n. cond (q x) 1 0 + n) (count_alike p q xs (All-tail (λ y. p y ≡ q y) x xs all))
     ∙ sym (count_more q x xs (q x) refl)
 
--- an element that passes is kept, and what is kept stands in the list and passes
-pub is_kept : {X : Type 0} (p : X → Bool) (xs : List X) (x : X) → p x ≡ true → Contains xs x → Contains (filter p xs) x
-is_kept p [] x e (k, lt, is) = absurd (omega (arith, lt))
-is_kept p (y ∷ ys) x e (zero, lt, is) = subst (λ l. Contains l x) (sym (kept_head p y ys true (ap p is ∙ e))) (0, omega arith, is)
-is_kept p (y ∷ ys) x e (suc k, lt, is) = go (p y) refl (is_kept p ys x e (k, omega (arith, lt), is))
-  where
-    go : (b : Bool) → p y ≡ b → Contains (filter p ys) x → Contains (filter p (y ∷ ys)) x
-    go true f (j, below, at) = subst (λ l. Contains l x) (sym (kept_head p y ys true f)) (suc j, omega (arith, below), at)
-    go false f there = subst (λ l. Contains l x) (sym (kept_head p y ys false f)) there
-
 pub from_kept : {X : Type 0} (p : X → Bool) (xs : List X) (x : X) → Contains (filter p xs) x → (p x ≡ true) × Contains xs x
 from_kept p [] x (k, lt, is) = absurd (omega (arith, lt))
 from_kept p (y ∷ ys) x there = go (p y) refl (λ within. from_kept p ys x within)

@@ -1,5 +1,5 @@
 -- What is written of a window that the season has, or has not.
-use Rattle.std.proofs.Common.{◌≡◌, refl, sym, ap, subst, Bool, true, false, Option, Some, None, Ok, Err, Result, if◌then◌else◌}
+use Rattle.std.proofs.Common.{◌≡◌, refl, sym, ap, subst, Bool, true, false, Option, Some, None, Ok, Result, if◌then◌else◌}
 use Rattle.fpl_base.specs.declared.memory.Memory.{Memory}
 use Rattle.json.specs.Written.{Written}
 use Rattle.serde_json.specs.Data.{Data}
@@ -12,9 +12,6 @@ module _ (b : Bool) (due : Data) (old new : Written) where
 
   pub is_there : {u : Unit {0}} → b ≡ true → Appends (Ok u) old new (tokens_of due) → WritesShown (if b then Some due else None) (Ok true) old new
   is_there e wrote = subst (λ (o : Option Data). WritesShown o (Ok true) old new) (sym (ap (λ t. if t then Some due else None) e)) (refl, wrote.tokens, wrote.before)
-
-  pub wants_memory : (m : Memory) → b ≡ true → WritesShown (if b then Some due else None) (Err m) old new
-  wants_memory m e = subst (λ (o : Option Data). WritesShown o (Err m) old new) (sym (ap (λ t. if t then Some due else None) e)) tt
 
   -- as another shows it
   pub shown_as : (r : Result Bool Memory) → b ≡ true → WritesShown (Some due) r old new → WritesShown (if b then Some due else None) r old new

@@ -1,34 +1,26 @@
 -- The work list and its nodes by place, and cells under one write.
-use Rattle.std.proofs.Common.{◌≡◌, ◌≢◌, ℕ, zero, suc, ◌+◌, ◌<◌, ◌≤◌, Bool, true, false, cond, not, ◌||◌, List, [], ◌∷◌, ◌++◌, ◌⊎◌, inl, inr, ⊎_elim, Option, is_some, refl, sym, ◌∙◌, ap, subst, arith, take, Ordering, Less, Equal, Greater, is_eq}
+use Rattle.std.proofs.Common.{◌≡◌, ◌≢◌, ℕ, zero, suc, ◌+◌, ◌<◌, ◌≤◌, Bool, true, false, cond, not, ◌||◌, List, [], ◌∷◌, ◌++◌, ◌⊎◌, inl, inr, ⊎_elim, Option, refl, sym, ◌∙◌, ap, subst, arith, take, Ordering, Less, Equal, Greater, is_eq}
 use Rattle.std.specs.Cmp.{IsTotalOrder, eq_by_cmp_equiv}
 use Rattle.std.proofs.lemmas.Map.Lookups.{CmpEqualImpliesEq}
 use Rattle.std.specs.List.{list_any}
-use Rattle.std.proofs.Common.{length, get_or, length-append, append-nil, append_assoc}
+use Rattle.std.proofs.Common.{length, get_or, length-append, append_assoc}
 use Rattle.std.proofs.lemmas.List.{take_more}
-use Rattle.std.proofs.lemmas.List.Folds.{list_any-append}
 use Rattle.std.specs.BTreeMap.{is_at}
 use Rattle.rescore_graph.specs.declared.cells.Slot.{Slot}
 use Rattle.rescore_graph.specs.Graph.{Among}
 use Rattle.rescore_graph.specs.States.{State, is_dirty, IsDirty, raise, stored, Raised, Puts}
 use Rattle.rescore_graph.specs.Work.{AreAll, IsFront}
-use Rattle.rescore_graph.proofs.RaisedFacts.{raise_dirty, clean_stored, raised_more}
+use Rattle.rescore_graph.proofs.RaisedFacts.{clean_stored, raised_more}
 use Rattle.rescore_graph.proofs.ProgressFacts.{among_last, among_more, among_push}
 
 or_true : (a b : Bool) → (a || b) ≡ true → (a ≡ true) ⊎ (b ≡ true)
 or_true true b h = inl refl
 or_true false b h = inr h
 
-or_false : (a : Bool) → (a || false) ≡ a
-or_false true = refl
-or_false false = refl
-
 -- one more element of a list was read
 module _ {X : Type 0} (xs : List X) (i : ℕ) (x : X) (h : i < length xs) (is : x ≡ get_or xs i x) where
   pub taken : take (i + 1) xs ≡ take i xs ++ x ∷ []
   taken = take_more xs i x h ∙ ap (λ y. take i xs ++ y ∷ []) (sym is)
-
-  pub any_more : (p : X → Bool) → list_any p (take (i + 1) xs) ≡ true → (list_any p (take i xs) ≡ true) ⊎ (p x ≡ true)
-  any_more p e = or_true (list_any p (take i xs)) (p x) (ap (λ b. list_any p (take i xs) || b) (sym (or_false (p x))) ∙ sym (list_any-append p (take i xs) (x ∷ [])) ∙ sym (ap (list_any p) taken) ∙ e)
 
   pub among_taken : (q : X) → Among (take (i + 1) xs) q → Among (take i xs) q ⊎ (x ≡ q)
   among_taken q a = among_push (take i xs) x q (subst (λ ys. Among ys q) taken a)
@@ -41,9 +33,6 @@ among_get (y ∷ ys) (suc i) x h is = inr (among_get ys i x (omega arith) is)
 pub front_length : {X : Type 0} (xs ys : List X) → IsFront xs ys → length xs ≤ length ys
 front_length xs ys f = let e : length ys ≡ length (xs ++ f.0) = ap length f.1 in
     let h : length (xs ++ f.0) ≡ length xs + length f.0 = length-append xs f.0 in omega arith
-
-pub front_same : {X : Type 0} (xs : List X) → IsFront xs xs
-front_same xs = ([], sym (append-nil xs))
 
 pub front_more : {X : Type 0} (xs ys zs : List X) → IsFront xs ys → IsFront ys zs → IsFront xs zs
 front_more xs ys zs f h = (f.0 ++ h.0, h.1 ∙ ap (λ l. l ++ h.0) f.1 ∙ append_assoc xs f.0 h.0)
@@ -101,9 +90,6 @@ module _ {N : Type 0} (cmp : N → N → Ordering) (total : IsTotalOrder cmp) (e
   -- a node made dirty
   pub puts_raised : {V : Type 0} (n : N) (s t : State N V) → Puts cmp s t n (raise (s n)) → Raised (λ q. n ≡ q) s t
   puts_raised n s t puts q = ⊎_elim (λ i. inr (i, subst (λ x. t x ≡ raise (s x)) i (put_here n s t (raise (s n)) puts))) (λ ne. inl (put_others n s t (raise (s n)) puts q ne)) (apart cmp total exact n q)
-
-  pub puts_dirty : {V : Type 0} (n : N) (s t : State N V) → Puts cmp s t n (raise (s n)) → is_some (s n) ≡ true → IsDirty t n
-  puts_dirty n s t puts h = ap is_dirty (put_here n s t (raise (s n)) puts) ∙ raise_dirty (s n) h
 
   -- a list on which each dirty node is listed
   pub all_listed : {V : Type 0} (s : State N V) (xs : List N) → ((n : N) → IsDirty s n → list_any (is_at (cmp n)) xs ≡ true) → AreAll s xs

@@ -1,5 +1,5 @@
 -- The books for which managers stand behind a command.
-use Rattle.std.proofs.Common.{◌≡◌, ◌≢◌, ◌≤◌, ◌+◌, ◌-◌, ℕ, zero, suc, List, [], ◌∷◌, Option, Some, Result, Ok, Err, OnOk, OnErr, map, get_or, slice_get, arith, refl, sym, ap, ◌∙◌, subst, ⊎_elim}
+use Rattle.std.proofs.Common.{◌≡◌, ◌≢◌, ◌≤◌, ◌+◌, ◌-◌, ℕ, zero, suc, List, [], ◌∷◌, Option, Some, Result, Ok, Err, OnOk, OnErr, map, get_or, slice_get, arith, sym, ap, ◌∙◌, subst, ⊎_elim}
 use Rattle.std.proofs.lemmas.Bool.{cases_eq}
 use Rattle.rule_book.specs.declared.player.Player.{Player}
 use Rattle.rule_book.specs.declared.transfers.Sale.{Sale}
@@ -89,10 +89,6 @@ in_time_after next e old new le same own a = by_place next new.managers (λ i. �
     (λ (q : i ≡ e - 1). subst (λ (k : ℕ). IsInTime next (get_or new.managers k nobody).season) (sym q) (own (in_time_of next old.managers (e - 1) a)))
     (λ (d : i ≢ e - 1). subst (λ (rows : List Row). IsInTime next rows) (sym (others_at e old new le same i d).rows) (in_time_of next old.managers i a))
     (cases_eq i (e - 1)))
-
--- nothing changed
-pub same_as_before : (e : ℕ) (old new : Managers) → new ≡ old → IsSameBut e old new
-same_as_before e old new same = subst (λ (x : Managers). IsSameBut e old x) (sym same) (record { profile = refl; keys = refl; others = λ d le n. refl; sales = λ d le n. refl })
 
 -- done, or as before
 pub either : {T E P Q R : Type 0} (r : Result T E) → OnOk r P → OnErr r Q → (P → R) → (Q → R) → R

@@ -61,9 +61,6 @@ IsUnderway seed start whole from left before old mid =
 module _ (K : Type 0) (tells serves : K → Type 0) (holds passes : K → Map → Type 0) where
   -- ---- one step
 
-  pub step_lacks : (seed number : ℕ) (before : Option (List ℕ)) (kept : Kept K) → Leads tells serves holds passes kept kept (IsPlayed seed number before before (Err 6))
-  step_lacks seed number before kept = leads_same K tells serves holds passes kept (IsPlayed seed number before before (Err 6)) (λ served. inl (refl, refl, refl))
-
   pub step_done : (seed number : ℕ) (step : Step) (told : Answer) (before : Option (List ℕ)) (first last : Kept K) → Some step ≡ step_of seed number → is_done told ≡ true
       → Leads tells serves holds passes first last (λ served behind. IsHeardAt step.moment served step.caller (request.Command step.number step.command) told behind)
       → Leads tells serves holds passes first last (IsPlayed seed number before before (Ok tt))

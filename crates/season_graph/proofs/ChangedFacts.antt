@@ -258,9 +258,6 @@ module _ (b d : SeasonFacts) (is_b : IsSeason b) (is_d : IsSeason d) (ns : List 
     (λ y. ⊎_elim (λ k. absurd (y.1 k)) (λ a. (refreshed_exact (is_live d) (Among ns) s t r n).1 (inl (a, y.0))) (kept n)),
   )
 
-  pub had_cell : (n : Node) → is_some (s n) ≡ is_live b n
-  had_cell n = iff_same (is_some (s n)) (is_live b n) (sound.cells n).0 (sound.cells n).1
-
 -- a node is touched whose inputs or own facts are others
 pub at_node : (b d : SeasonFacts) (m n : Node) → m ≡ n → is_live d n ≡ true → (((is_live d m ≡ true) → IsSame b d m) → is_live d m ≡ true → ⊥) → IsTouched b d n
 at_node b d m n e l other = (l, subst (λ x. ¬ IsKept b d x) e (λ k. other k.1 (subst (λ x. is_live d x ≡ true) (sym e) l)))

@@ -1,8 +1,5 @@
 -- The gameweeks of a player or of an entry, one after another, and what each of so many numbers stands for.
-use Rattle.std.proofs.Common.{◌≡◌, ℕ, zero, suc, ◌+◌, ◌<◌, ◌≤◌, Bool, inl, ⊎_elim, List, [], ◌∷◌, ◌++◌, length, take, get_or, sym, ap, subst, arith, add-one}
-use Rattle.std.specs.Prelude.{IfSome, slice_get}
-use Rattle.std.specs.List.{flat_map}
-use Rattle.std.proofs.lemmas.Option.{slice_get-get_or}
+use Rattle.std.proofs.Common.{◌≡◌, ℕ, zero, suc, ◌+◌, ◌<◌, ◌≤◌, Bool, inl, ⊎_elim, List, [], ◌∷◌, ◌++◌, sym, ap, subst, arith, add-one}
 use Rattle.std.proofs.lemmas.Bool.Decides.{leb_tells}
 use Rattle.rescore_graph.specs.Graph.{Among}
 use Rattle.rescore_graph.specs.States.{State}
@@ -11,8 +8,7 @@ use Rattle.season_nodes.specs.declared.nodes.Value.{Value}
 use Rattle.season_nodes.specs.Reading.{among_either, among_left, among_right}
 use Rattle.season_graph.specs.Refreshed.{Refreshed}
 use Rattle.season_graph.specs.Touched.{numbered_nodes, gameweek_nodes}
-use Rattle.season_nodes.proofs.Lists.{flat_more}
-use Rattle.season_graph.proofs.RefreshedFacts.{refreshed_append, refreshed_listed}
+use Rattle.season_graph.proofs.RefreshedFacts.{refreshed_append}
 
 -- a gameweek behind the first ones is listed
 pub gameweek_among : (at : ℕ → Node) (first g n : ℕ) → first < g → g ≤ first + n → Among (gameweek_nodes at first n) (at g)
@@ -29,12 +25,6 @@ from_gameweeks at first (suc n) m a = ⊎_elim
     (λ x. from_gameweeks at first n m x)
     (λ x. ⊎_elim (λ i. (first + n + 1, (omega arith, i))) (λ y. absurd y) x)
     (among_either (gameweek_nodes at first n) (at (first + n + 1) ∷ []) m a)
-
--- one more gameweek
-pub refreshed_gameweek : (live : Node → Bool) (at : ℕ → Node) (first n : ℕ) (s t u : State Node Value) → Refreshed live (Among (gameweek_nodes at first n)) s t
-    → Refreshed live (Among (at (first + n + 1) ∷ [])) t u → Refreshed live (Among (gameweek_nodes at first (n + 1))) s u
-refreshed_gameweek live at first n s t u x y = subst (λ k. Refreshed live (Among (gameweek_nodes at first k)) s u) (sym (add-one n))
-    (refreshed_append live (gameweek_nodes at first n) (at (first + n + 1) ∷ []) s t u x y)
 
 -- what each number stands for is listed, and what is listed is one's
 pub numbered_among : (each : ℕ → List Node) (n e : ℕ) (m : Node) → 1 ≤ e → e ≤ n → Among (each e) m → Among (numbered_nodes each n) m
@@ -53,13 +43,3 @@ pub refreshed_numbered : (live : Node → Bool) (each : ℕ → List Node) (n : 
     → Refreshed live (Among (each (n + 1))) t u → Refreshed live (Among (numbered_nodes each (n + 1))) s u
 refreshed_numbered live each n s t u x y = subst (λ k. Refreshed live (Among (numbered_nodes each k)) s u) (sym (add-one n))
     (refreshed_append live (numbered_nodes each n) (each (n + 1)) s t u x y)
-
--- what each of a list stands for, one more
-pub refreshed_next : {X : Type 0} (live : Node → Bool) (f : X → List Node) (xs : List X) (i : ℕ) (s t u : State Node Value) → i < length xs → Refreshed live (Among (flat_map f (take i xs))) s t
-    → IfSome (slice_get xs i) (λ x. Refreshed live (Among (f x)) t u) → Refreshed live (Among (flat_map f (take (i + 1) xs))) s u
-refreshed_next live f [] i s t u within so_far one = absurd (omega arith)
-refreshed_next live f (z ∷ zs) i s t u within so_far one =
-    let xs = z ∷ zs in
-    let x = get_or xs i z in
-    refreshed_listed live (flat_map f (take i xs) ++ f x) (flat_map f (take (i + 1) xs)) s u (flat_more f xs i z within)
-    (refreshed_append live (flat_map f (take i xs)) (f x) s t u so_far (subst (λ o. IfSome o (λ y. Refreshed live (Among (f y)) t u)) (slice_get-get_or xs i z within) one))

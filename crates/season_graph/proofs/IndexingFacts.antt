@@ -1,5 +1,5 @@
 -- Who holds whom in the gameweeks that are locked.
-use Rattle.std.proofs.Common.{◌≡◌, ℕ, ◌+◌, ◌-◌, ◌<◌, ◌≤◌, nat_le, Bool, true, false, ◌&&◌, inl, inr, ⊎_elim, List, [], ◌∷◌, ◌++◌, map, sym, ◌∙◌, ap, subst, arith}
+use Rattle.std.proofs.Common.{◌≡◌, ℕ, ◌+◌, ◌-◌, ◌<◌, ◌≤◌, nat_le, Bool, true, ◌&&◌, inl, inr, ⊎_elim, List, [], ◌∷◌, ◌++◌, map, sym, ◌∙◌, ap, subst, arith}
 use Rattle.std.proofs.lemmas.Bool.Decides.{nat_tests, leb_tells}
 use Rattle.std.proofs.lemmas.List.{map-append}
 use Rattle.rule_book.specs.declared.team.Pick.{Pick}
@@ -8,29 +8,17 @@ use Rattle.rescore_graph.specs.Graph.{Among}
 use Rattle.rescore_graph.proofs.ProgressFacts.{among_last, among_more, among_push}
 use Rattle.season_graph.specs.Changes.{DifferInLocks, EntriesStay}
 use Rattle.season_graph.specs.Indexed.{EntryIndexed, IndexKept, LocksIndexed, PicksIndexed, TeamIndexed}
-use Rattle.season_nodes.specs.declared.nodes.Node.TheVariants as node
 use Rattle.season_nodes.specs.IndexFacts.{HasHolders, HasMore, Holds, IndexRows, IsIndex, holders_in}
-use Rattle.season_nodes.specs.Season.{SeasonFacts, has_begun, is_live}
-use Rattle.season_nodes.specs.SeasonLaws.{first_true}
+use Rattle.season_nodes.specs.Season.{SeasonFacts}
 use Rattle.season_nodes.proofs.IndexLemmas.{IsOne, both_more, none_more, one_more, same_more}
 use Rattle.season_graph.proofs.LockFacts.{before}
 use Rattle.season_graph.proofs.TeamFacts.{team_alive, team_live}
 
-clash : true ≡ false → ⊥
-clash e = cc
-
 at_most : (h n : ℕ) → nat_le h n ≡ true → h ≤ n
 at_most h n e = grind (arith, nat_tests)
 
-within : (h n : ℕ) → h ≤ n → nat_le h n ≡ true
-within h n e = ⊎_elim (λ a. a.0) (λ a. let x : n < h = a.1 in absurd (omega arith)) (leb_tells h n)
-
 above_0 : (h : ℕ) → nat_le 1 h ≡ true → 0 < h
 above_0 h e = grind (arith, nat_tests)
-
-both_same : (x y : Bool) → x ≡ true → y ≡ true → (x && y) ≡ true
-both_same true y e d = d
-both_same false y e d = absurd (clash (sym e))
 
 abbrev ids : List Pick → List ℕ
 ids picks = map (λ pick. pick.player) picks
@@ -54,23 +42,6 @@ pub picks_none : (old : IndexRows) (e g : ℕ) → PicksIndexed e g [] old old
 picks_none old e g = none_more old (λ p h x. (x ≡ e) × (h ≡ g) × Among (ids []) p) (λ p h x r. r.2)
 
 module _ (d : SeasonFacts) where
-  -- a team in a locked gameweek
-  pub team_held : (old new : IndexRows) (e g : ℕ) (team : Team) → 1 ≤ g → g ≤ d.calendar.locked → has_begun d e g ≡ true → team ≡ d.team e g → PicksIndexed e g team.picks old new → TeamIndexed d e g old new
-  team_held old new e g team low high begun is held =
-      let live : is_live d (node.TeamGw e g) ≡ true = both_same (has_begun d e g) (nat_le 1 g && nat_le g d.calendar.locked) begun (both_same (nat_le 1 g) (nat_le g d.calendar.locked) (within 1 g low) (within g d.calendar.locked high)) in
-      same_more old new (λ p h x. (x ≡ e) × (h ≡ g) × Among (ids team.picks) p) (λ p h x. (x ≡ e) × (h ≡ g) × Holds d p h x)
-      (λ p h x. (
-        (λ r. (r.0, r.1, subst (λ y. Holds d p h y) (sym r.0) (subst (λ k. Holds d p k e) (sym r.1) (live, subst (λ (t : Team). Among (ids t.picks) p) is r.2)))),
-        (λ r. let k = subst (λ i. Holds d p i e) r.1 (subst (λ y. Holds d p h y) r.0 r.2) in (r.0, r.1, subst (λ (t : Team). Among (ids t.picks) p) (sym is) k.1)),
-      ))
-      held
-
-  -- no team: the entry has not begun
-  pub team_none : (old : IndexRows) (e g : ℕ) → has_begun d e g ≡ false → TeamIndexed d e g old old
-  team_none old e g none = none_more old (λ p h x. (x ≡ e) × (h ≡ g) × Holds d p h x)
-      (λ p h x r. let k = subst (λ i. Holds d p i e) r.1 (subst (λ y. Holds d p h y) r.0 r.2) in
-      clash (sym (first_true (has_begun d e g) (nat_le 1 g && nat_le g d.calendar.locked) k.0) ∙ none))
-
   -- whom an entry holds in so many gameweeks behind the first ones
   abbrev pub SomeIndexed : ℕ → ℕ → ℕ → IndexRows → IndexRows → Type 0
   SomeIndexed e first n old new = HasMore old new (λ p h x. (x ≡ e) × (first < h) × (h ≤ first + n) × Holds d p h x)

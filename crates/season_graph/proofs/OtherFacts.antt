@@ -1,8 +1,7 @@
 -- Bringing up to date those nodes of a list that came or went.
-use Rattle.std.proofs.Common.{◌≡◌, Bool, true, false, not, cond, if◌then◌else◌, ◌⊎◌, inl, inr, ⊎_elim, List, [], ◌∷◌, ◌++◌, is_some, sym, ◌∙◌, ap, subst}
+use Rattle.std.proofs.Common.{◌≡◌, Bool, true, false, not, cond, if◌then◌else◌, ◌⊎◌, inl, inr, ⊎_elim, List, [], ◌∷◌, ◌++◌, is_some, sym, ◌∙◌, ap}
 use Rattle.std.specs.Bool.{beq}
 use Rattle.std.specs.List.{filter}
-use Rattle.std.proofs.lemmas.List.Elements.{filter-append}
 use Rattle.rescore_graph.specs.Graph.{Among}
 use Rattle.rescore_graph.specs.States.{State}
 use Rattle.season_nodes.specs.declared.nodes.Node.{Node}
@@ -11,7 +10,7 @@ use Rattle.season_nodes.specs.Reading.{among_either, among_left, among_right, fr
 use Rattle.season_graph.specs.Refreshed.{Refreshed}
 use Rattle.season_graph.specs.Touched.{is_other}
 use Rattle.season_graph.proofs.ChangedFacts.{chosen_case, other_same}
-use Rattle.season_graph.proofs.RefreshedFacts.{refreshed_append, refreshed_both, refreshed_listed, refreshed_nothing, refreshed_same, refreshed_some}
+use Rattle.season_graph.proofs.RefreshedFacts.{refreshed_append, refreshed_both, refreshed_listed, refreshed_same, refreshed_some}
 
 module _ (live : Node → Bool) where
   -- the nodes of a list that have a cell and are not live, or the other way round
@@ -24,15 +23,6 @@ module _ (live : Node → Bool) where
   other_chosen n s t b had has e d k r =
       refreshed_listed live (cond b (n ∷ []) []) (if is_other (is_some (s n)) (live n) then n ∷ [] else []) s t
       (ap (λ c. cond c (n ∷ []) []) (chosen_case b had has (is_some (s n)) (live n) e d k)) r
-
-  -- one that was brought up to date before is so
-  settled : (n q : Node) (t : State Node Value) → is_some (t n) ≡ live n → Among (others_in t (n ∷ [])) q → ⊥
-  settled n q t same a =
-      let r = from_filter (λ m. is_other (is_some (t m)) (live m)) (n ∷ []) q a in
-      ⊎_elim (λ e. other_same (is_some (t q)) (live q) (subst (λ m. is_some (t m) ≡ live m) e same) r.1) (λ x. x) r.0
-
-  only : (n q : Node) (s : State Node Value) → Among (others_in s (n ∷ [])) q → n ≡ q
-  only n q s a = ⊎_elim (λ e. e) (λ x. absurd x) (from_filter (λ m. is_other (is_some (s m)) (live m)) (n ∷ []) q a).0
 
   -- some nodes more
   pub others_append : (ns ms : List Node) (s t u : State Node Value) → Refreshed live (Among (others_in s ns)) s t → Refreshed live (Among (others_in t ms)) t u
@@ -71,24 +61,3 @@ module _ (live : Node → Bool) where
       → Refreshed live (Among (chosen_in all s (ns ++ ms))) s u
   chosen_append true ns ms s t u so_far more = refreshed_append live ns ms s t u so_far more
   chosen_append false ns ms s t u so_far more = others_append ns ms s t u so_far more
-
-  -- of no nodes none
-  pub chosen_nothing : (all : Bool) (s : State Node Value) → Refreshed live (Among (chosen_in all s [])) s s
-  chosen_nothing true s = refreshed_nothing live s
-  chosen_nothing false s = refreshed_nothing live s
-
-  -- one node more
-  pub other_more : (ns : List Node) (n : Node) (s t u : State Node Value) → Refreshed live (Among (others_in s ns)) s t → Refreshed live (Among (others_in t (n ∷ []))) t u
-      → Refreshed live (Among (others_in s (ns ++ n ∷ []))) s u
-  other_more ns n s t u so_far one =
-      refreshed_listed live (others_in s ns ++ others_in s (n ∷ [])) (others_in s (ns ++ n ∷ [])) s u (sym (filter-append (λ m. is_other (is_some (s m)) (live m)) ns (n ∷ [])))
-      (⊎_elim
-      (λ x. refreshed_same live (λ q. Among (others_in s ns) q ⊎ Among (others_in t (n ∷ [])) q) (Among (others_in s ns ++ others_in s (n ∷ []))) s u
-      (λ q. (
-        (λ o. ⊎_elim (among_left (others_in s ns) (others_in s (n ∷ [])) q) (λ a. absurd (settled n q t (ap is_some x.1 ∙ refreshed_some (live n) (s n)) a)) o),
-        (λ a. inl (⊎_elim (λ y. y) (λ y. subst (Among (others_in s ns)) (only n q s y) x.0) (among_either (others_in s ns) (others_in s (n ∷ [])) q a))),
-      ))
-      (refreshed_both live (Among (others_in s ns)) (Among (others_in t (n ∷ []))) s t u so_far one))
-      (λ x. refreshed_append live (others_in s ns) (others_in s (n ∷ [])) s t u so_far
-      (refreshed_listed live (others_in t (n ∷ [])) (others_in s (n ∷ [])) t u (ap (λ o. cond (is_other (is_some o) (live n)) (n ∷ []) []) x.1) one))
-      (so_far n))

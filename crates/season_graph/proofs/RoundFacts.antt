@@ -1,9 +1,8 @@
 -- The averages, the matches and the rows of head-to-head leagues: which a change keeps, and what is listed of them.
 use Rattle.std.proofs.Common.{◌≡◌, ℕ, zero, suc, ◌+◌, ◌-◌, ◌<◌, ◌≤◌, ◌==◌, nat_le, nat_lt, Bool, true, false, ◌&&◌, if◌then◌else◌, ◌⊎◌, inl, inr, ⊎_elim, List, [], ◌∷◌, ◌++◌, pos, Option, Some, None, is_some, length, map, refl, sym, ◌∙◌, ap, ap₂, subst, arith}
-use Rattle.std.specs.List.{flat_map, range_with_len, slice_get, slice_index}
+use Rattle.std.specs.List.{range_with_len, slice_get, slice_index}
 use Rattle.std.specs.Option.{option_map, option_map_or}
 use Rattle.std.proofs.lemmas.Bool.Decides.{leb_tells}
-use Rattle.std.proofs.lemmas.List.{append_assoc, append-nil}
 use Rattle.std.proofs.lemmas.Option.{slice_get_past}
 use Rattle.rule_book.specs.Entries.{entry_in}
 use Rattle.rule_book.specs.LeagueRows.{average_in, place_of}
@@ -255,21 +254,3 @@ module _ (b : SeasonFacts) (l : ℕ) (none : order_in b.leagues l ≡ []) where
   row_dead e = by_order (is_live b (node.HeadRow l e)) (row_drawn b l e)
 
 -- One round more, and one place more.
-
-module _ {Y : Type 0} where
-  pub flat_round : (f : ℕ → List Y) (from n : ℕ) → flat_map f (range_with_len from n) ++ f (from + n) ≡ flat_map f (range_with_len from (n + 1))
-  flat_round f from zero = let same : from + 0 ≡ from = omega arith in ap f same ∙ sym (append-nil (f from))
-  flat_round f from (suc n) =
-      let same : from + suc n ≡ from + 1 + n = omega arith in
-      append_assoc (f from) (flat_map f (range_with_len (from + 1) n)) (f (from + suc n))
-      ∙ ap (λ k. f from ++ (flat_map f (range_with_len (from + 1) n) ++ f k)) same
-      ∙ ap (λ ys. f from ++ ys) (flat_round f (from + 1) n)
-      ∙ (let next : suc (n + 1) ≡ suc n + 1 = omega arith in ap (λ k. flat_map f (range_with_len from k)) next)
-
-  pub map_place : (f : ℕ → Y) (from n : ℕ) → map f (range_with_len from n) ++ f (from + n) ∷ [] ≡ map f (range_with_len from (n + 1))
-  map_place f from zero = let same : from + 0 ≡ from = omega arith in ap (λ k. f k ∷ []) same
-  map_place f from (suc n) =
-      let same : from + suc n ≡ from + 1 + n = omega arith in
-      let next : suc (n + 1) ≡ suc n + 1 = omega arith in
-      ap (λ ys. f from ∷ ys) (ap (λ k. map f (range_with_len (from + 1) n) ++ f k ∷ []) same ∙ map_place f (from + 1) n)
-      ∙ ap (λ k. map f (range_with_len from k)) next

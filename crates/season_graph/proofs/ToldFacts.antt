@@ -113,9 +113,6 @@ map_twice f g [] = refl
 map_twice f g (x ∷ xs) = ap (λ ys. f (g x) ∷ ys) (map_twice f g xs)
 
 module _ (b : SeasonFacts) where
-  place : ℕ × Line → LineWorth
-  place row = worth_of b.profile (position_in b.players row.0) row.1
-
   -- who took part, by the worth of the lines
   pub took_part_is : (w : ℕ → LineWorth) (lines : Lines) → ((row : ℕ × Line) → Among lines row → w row.0 ≡ worth_of b.profile (position_in b.players row.0) row.1)
       → took_part w (players_in lines) ≡ standing (map (appearance b.players) lines)

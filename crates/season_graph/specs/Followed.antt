@@ -18,7 +18,7 @@ use Rattle.season_nodes.specs.IndexFacts.{IsIndex}
 use Rattle.season_nodes.specs.NodeOrder.{node_cmp}
 use Rattle.season_graph.specs.Refreshed.{Refreshed, refreshed}
 use Rattle.season_nodes.specs.Season.{SeasonFacts, IsSeason, is_live, season_graph}
-use Rattle.season_graph.specs.Touched.{chosen_of, coming_nodes, cups_since, entry_nodes, league_nodes, line_nodes, lines_nodes, locked_cups, locked_entries, locked_leagues, locked_nodes, locked_players, locked_scores, locked_tables, locked_totals, mark_nodes, moved_nodes, others_of, player_nodes, presence_nodes, sheet_nodes}
+use Rattle.season_graph.specs.Touched.{chosen_of, coming_nodes, league_nodes, line_nodes, lines_nodes, locked_nodes, mark_nodes, moved_nodes, others_of, presence_nodes, sheet_nodes}
 
 -- whether a player's line in a fixture has a cell
 abbrev pub had_line : SeasonRows → ℕ → ℕ → Bool
@@ -51,10 +51,6 @@ module _ (b : Books) where
   -- this node was
   abbrev pub RefreshesOne : Node → SeasonRows → SeasonRows → Type 0
   RefreshesOne n old new = Puts node_cmp (held old) (held new) n (refreshed (is_live (facts_of b) n) (held old n))
-
-  -- the locked gameweeks of a player were, behind the first ones
-  abbrev pub GameweeksRefreshed : ℕ → ℕ → SeasonRows → SeasonRows → Type 0
-  GameweeksRefreshed p first old new = Refreshes (player_nodes p first (b.calendar.now.locked - first)) old new
 
   -- cells that were sound for facts of before, from which the books differ in this way, are sound for the books
   abbrev pub FollowsFrom : (SeasonFacts → Type 0) → SeasonRows → SeasonRows → Type 0
@@ -137,37 +133,6 @@ module _ (b : Books) where
   abbrev pub PlayerMarked : (ℕ → ℕ → List ℕ) → ℕ → SeasonRows → SeasonRows → Type 0
   PlayerMarked holders p old new =
       IsIndex (facts_of b) holders → MarksFrom (λ before. DifferInPlayer before (facts_of b) p) old new
-
-  -- the locked gameweeks of an entry, behind the first ones
-  abbrev pub EntryRefreshed : ℕ → ℕ → SeasonRows → SeasonRows → Type 0
-  EntryRefreshed e first old new = Refreshes (entry_nodes e first (b.calendar.now.locked - first)) old new
-
-  -- locks of gameweeks, behind the first ones
-  abbrev pub PlayersRefreshed : ℕ → SeasonRows → SeasonRows → Type 0
-  PlayersRefreshed first old new = Refreshes (locked_players (facts_of b) first) old new
-
-  abbrev pub EntriesRefreshed : ℕ → SeasonRows → SeasonRows → Type 0
-  EntriesRefreshed first old new = Refreshes (locked_entries (facts_of b) first) old new
-
-  abbrev pub TotalsRefreshed : ℕ → SeasonRows → SeasonRows → Type 0
-  TotalsRefreshed first old new = Refreshes (locked_totals (facts_of b) first) old new
-
-  abbrev pub ScoresRefreshed : ℕ → SeasonRows → SeasonRows → Type 0
-  ScoresRefreshed first old new = Refreshes (locked_scores (facts_of b) first) old new
-
-  abbrev pub LeaguesRefreshed : ℕ → SeasonRows → SeasonRows → Type 0
-  LeaguesRefreshed first old new = Refreshes (locked_leagues (facts_of b) first) old new
-
-  abbrev pub TablesRefreshed : ℕ → SeasonRows → SeasonRows → Type 0
-  TablesRefreshed first old new = Refreshes (locked_tables (facts_of b) first) old new
-
-  -- the ties of the rounds of all cups in the locked gameweeks from one on
-  abbrev pub CupsRefreshed : ℕ → SeasonRows → SeasonRows → Type 0
-  CupsRefreshed from old new = Refreshes (cups_since (facts_of b) from) old new
-
-  -- those behind the first ones, where such are locked
-  abbrev pub LockedCupsRefreshed : ℕ → SeasonRows → SeasonRows → Type 0
-  LockedCupsRefreshed first old new = Refreshes (locked_cups (facts_of b) first) old new
 
   abbrev pub LocksRefreshed : ℕ → SeasonRows → SeasonRows → Type 0
   LocksRefreshed first old new = Refreshes (locked_nodes (facts_of b) first) old new

@@ -1,7 +1,7 @@
 -- Which databases keep a map, and what a stop may leave of it.
 use Rattle.std.specs.Prelude.{is_some, refl, ◌≡◌, ◌⊎◌, ℕ, Bool, true, false, IsTrue, List, Option, Some, None}
 use Rattle.std.specs.Coded.{Coded, code_by, coded×, coded_ℕ, coded_bool}
-use Rattle.std.proofs.Common.{sym, ap, subst, ◌∙◌, true≢false, inl, inr}
+use Rattle.std.proofs.Common.{sym, ap, subst, ◌∙◌, true≢false}
 use Rattle.sqlite_value.specs.Order.{Row}
 use Rattle.sqlite_trees.specs.Tree.{Trees}
 use Rattle.sqlite_schema.specs.declared.schema.Schema.{Schema}
@@ -9,7 +9,7 @@ use Rattle.sqlite.specs.Effect.{Database, IsDatabase}
 use Rattle.sqlite.specs.State.{State}
 use Rattle.sqlite.specs.Held.{Held, held_code}
 use Rattle.fpl_base.specs.declared.records.RecordKey.{RecordKey as Key}
-use Rattle.fpl_base.specs.Keeping.{Map, no_records}
+use Rattle.fpl_base.specs.Keeping.{Map}
 use Rattle.season_keeper.specs.Table.{Tables, neither, record_alone, line_alone, record_first, line_first, schema_of, are_both, records_in, lines_in, tables_of}
 use Rattle.season_keeper.specs.Rows.{record_values, line_values, AreRows, Stored, AreApart, HasNoLine}
 
@@ -149,17 +149,3 @@ finds_tells db false m found = found
 -- a keeper holds one map at most
 pub finds_one : (db : Database) (ready : Bool) (m n : Map) → Finds db ready m → Finds db ready n → m ≡ n
 finds_one db ready m n p q = tells_one db m n (finds_tells db ready m p) (finds_tells db ready n q)
-
--- an empty database tells that there are no records
-pub empty_tells : (db : Database) → IsDatabase db → db.schema ≡ schema_of neither → Tells db no_records
-empty_tells db sound schema = record {
-  store = record {
-    tables = neither;
-    schema = schema;
-    sound = sound;
-    records = record { each = λ r h. absurd h; ids = λ r s h g e. absurd h };
-    lines = record { each = λ r h. absurd h; ids = λ r s h g e. absurd h };
-  };
-  apart = λ at x y h g. h.1;
-  holds = record { sound = λ k body h. elim h [ inl record_has ↦ absurd record_has.1 | inr line_has ↦ absurd line_has.2.1 ]; complete = λ k body h. absurd (true≢false (sym (ap is_some h))) };
-}

@@ -89,12 +89,6 @@ standing_made rows g s e = by_row (row_at rows g) (base_at rows g) e
 pub standing_begun : (rows : List Row) (g : ℕ) → IsKept rows → (o : Option Standing) → standing_at rows g ≡ o → begun o ≡ is_begun_by rows g
 standing_begun rows g k o e = ap begun (sym e) ∙ by_rows rows k
   where
-    begun_of : (o : Option Standing) (b : Option Row) → Bool
-    begun_of o b = begun (or_else o (carried b))
-
-    up_from : (rs : List Row) (r : Row) → r.gw ≤ g → begun (or_else (row_at (r ∷ rs) g) (carried (base_at (r ∷ rs) g))) ≡ true → nat_le r.gw g ≡ true
-    up_from rs r l b = grind (arith, nat_tests)
-
     some_base : (x : Option Row) (r : Row) → begun (carried (or_else x (Some r))) ≡ true
     some_base None r = refl
     some_base (Some y) r = refl

@@ -145,9 +145,6 @@ module _ (b : SeasonFacts) (is : IsSeason b) where
       subst (λ o. Among (option_map_or (λ h. node.PlayerGw p h ∷ []) (option_and_then (λ g. if is_live b (node.PlayerGw p g) then Some g else None) o) []) (node.PlayerGw p g)) (sym e)
       (subst (λ t. Among (option_map_or (λ h. node.PlayerGw p h ∷ []) (if t then Some g else None) []) (node.PlayerGw p g)) (sym l) (inl refl))
 
-  both : ℕ → ℕ → List Node
-  both p f = node.Line f p ∷ node.Bonus f ∷ []
-
   -- a fixture that a gameweek counts stands in it, and the player has a line there
   counts : (p g f : ℕ) → has_line b p f ≡ true → stands_in b.calendar f ≡ Some g → Among (fixtures_of b p g) f
   counts p g f h e = to_filter (has_line b p) (standing b.calendar g) f (stands f g e) h

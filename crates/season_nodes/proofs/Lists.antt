@@ -1,11 +1,9 @@
 -- Lists that a loop makes, one more element at a time.
-use Rattle.std.proofs.Common.{◌≡◌, ◌<◌, ◌≤◌, ◌+◌, ◌==◌, ◌||◌, ◌∷◌, [], ◌++◌, ℕ, Bool, true, false, cond, if◌then◌else◌, List, Option, Some, is_some, length, get_or, map, take, drop, arith, refl, sym, ap, ◌∙◌, subst}
-use Rattle.std.specs.Prelude.{IfSome}
-use Rattle.std.specs.List.{slice_get, filter, flat_map, list_any}
+use Rattle.std.proofs.Common.{◌≡◌, ◌<◌, ◌≤◌, ◌+◌, ◌==◌, ◌||◌, ◌∷◌, [], ◌++◌, ℕ, Bool, true, false, cond, if◌then◌else◌, List, Option, Some, is_some, length, get_or, map, take, drop, refl, sym, ap, ◌∙◌}
+use Rattle.std.specs.List.{filter, flat_map, list_any}
 use Rattle.std.proofs.lemmas.List.{at_drop_all, at_drop_more, take_all, take_more, map-append, append-nil, flat_map_more}
 use Rattle.std.proofs.lemmas.List.Elements.{filter_more}
 use Rattle.std.proofs.lemmas.List.Sums.{fold_push}
-use Rattle.std.proofs.lemmas.Option.{slice_get-get_or}
 use Rattle.rule_book.specs.declared.line.Line.{Line}
 use Rattle.rule_book.specs.declared.team_score.Figures.{Figures}
 use Rattle.rule_book.specs.MatchFacts.{Lines, line_in, players_in}
@@ -15,16 +13,6 @@ use Rattle.season_nodes.specs.Season.{no_figures, with_worth, gathered}
 -- one more element behind the first i
 pub take_next : {X : Type 0} (xs : List X) (i : ℕ) (x : X) → i < length xs → x ≡ get_or xs i x → take (i + 1) xs ≡ take i xs ++ x ∷ []
 take_next xs i x within is = take_more xs i x within ∙ ap (λ y. take i xs ++ y ∷ []) (sym is)
-
--- what a function makes of each, one more
-pub row_more : {X Y : Type 0} (f : X → Y) (xs : List X) (i : ℕ) (y : Y) (old new : List Y) → i < length xs → IfSome (slice_get xs i) (λ x. y ≡ f x) → old ≡ map f (take i xs) → new ≡ old ++ y ∷ [] → new ≡ map f (take (i + 1) xs)
-row_more f [] i y old new within is so_far more = absurd (omega arith)
-row_more f (z ∷ zs) i y old new within is so_far more =
-    let xs = z ∷ zs in
-    let x = get_or xs i z in
-    let made : y ≡ f x = subst (λ o. IfSome o (λ x. y ≡ f x)) (slice_get-get_or xs i z within) is in
-    more ∙ ap (λ ys. ys ++ y ∷ []) so_far ∙ ap (λ w. map f (take i xs) ++ w ∷ []) made
-    ∙ sym (map-append f (take i xs) (x ∷ [])) ∙ ap (map f) (sym (take_more xs i z within))
 
 listed_case : (b c : Bool) (line : Line) (rest : Option Line) → c ≡ is_some rest → (b || c) ≡ is_some (cond b (Some line) rest)
 listed_case true c line rest e = refl

@@ -184,10 +184,6 @@ module _ (rows : Rows) (rise : KeysRise rows) (lawful : judged rows ≡ None) wh
 
 -- Of calls.
 
-pub if_both : {T E : Type 0} (P Q R : T → Type 0) (r : Result T E) → ((t : T) → P t → Q t → R t) → IfOk r P → IfOk r Q → IfOk r R
-if_both P Q R (Ok t) to p q = to t p q
-if_both P Q R (Err e) to p q = p
-
 pub if_one : {T E : Type 0} (P R : T → Type 0) (r : Result T E) → ((t : T) → P t → R t) → IfOk r P → IfOk r R
 if_one P R (Ok t) to p = to t p
 if_one P R (Err e) to p = p

@@ -154,7 +154,3 @@ full rows lawful players managers restored many = by (told (map_of rows) (slot.E
 pub on_ok_to : {T E A B : Type 0} (r : Result T E) → OnOk r A → (A → B) → IfOk r (λ (t : T). B)
 on_ok_to (Ok t) own to = to own
 on_ok_to (Err e) own to = own
-
-pub if_both : {T E : Type 0} (P Q R : T → Type 0) (r : Result T E) → ((t : T) → P t → Q t → R t) → IfOk r P → IfOk r Q → IfOk r R
-if_both P Q R (Ok t) to p q = to t p q
-if_both P Q R (Err e) to p q = p

@@ -14,7 +14,7 @@ use Rattle.season_book.specs.Commands.{IsCommand}
 use Rattle.season_book.specs.declared.command.Command.{Command}
 use Rattle.season_records.specs.Records.{last_item, made_id, status_of}
 use Rattle.season_records.specs.Told.{made_by}
-use Rattle.season_restoring.specs.LastCommands.{AreLasts, CanMake, IsLast, IsLastRow}
+use Rattle.season_restoring.specs.LastCommands.{AreLasts, IsLast, IsLastRow}
 use Rattle.season_restoring.proofs.LastRows.{last_more}
 
 module _ (c n s m : ℕ) (x : Command) (c2 n2 s2 m2 : ℕ) (x2 : Command) (e : Some (item.Last c n s m x) ≡ Some (item.Last c2 n2 s2 m2 x2)) where
@@ -49,9 +49,6 @@ module _ (k : Key) (body : List ℕ) (row : IsLastRow k body) (read : Option Ite
 
   command_is : command ≡ row.command
   command_is = command_same caller number status made command row.caller row.number row.status row.made row.command told
-
-  pub can_make : CanMake command made
-  can_make = subst (λ c. CanMake c made) (sym command_is) (subst (CanMake row.command) (sym made_is) row.can)
 
   module _ (place : ℕ) (last : Last) (placed : place ≡ caller) (numbered : last.number ≡ number) (commanded : last.command ≡ command) (makes : last.made ≡ made_by command made) where
     makes_so : last.made ≡ made_by row.command row.made

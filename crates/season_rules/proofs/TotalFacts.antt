@@ -7,7 +7,6 @@ use Rattle.std.proofs.lemmas.List.{append-nil, map-append, map-id}
 use Rattle.std.proofs.lemmas.List.Elements.{filter-append}
 use Rattle.std.proofs.lemmas.List.FromFn.{map-range_with_len_more}
 use Rattle.std.proofs.lemmas.List.Sums.{fold_push}
-use Rattle.std.proofs.lemmas.Option.{same_Some}
 use Rattle.rule_book.specs.HeadToHead.{total_of}
 
 range_more : (a n : ℕ) → range_with_len a (n + 1) ≡ range_with_len a n ++ (a + n) ∷ []
@@ -42,25 +41,6 @@ added f t a n false y = ap total_of (sym (mapped_same f t a n y)) ∙ plus_none 
 -- the sum over what passes a test in a range, one number more
 pub total_more : (f : ℕ → ℤ) (t : ℕ → Bool) (a n : ℕ) → total_of (map f (filter t (range_with_len a (n + 1)))) ≡ total_of (map f (filter t (range_with_len a n))) +ℤ (if t (a + n) then f (a + n) else pos 0)
 total_more f t a n = added f t a n (t (a + n)) refl
-
-some_case : (b : Bool) (x g : ℕ) → Some g ≡ (if b then Some x else None) → (b ≡ true) × (g ≡ x)
-some_case true x g e = (refl, same_Some g x e)
-some_case false x g e = absurd (cc)
-
-none_case : (b : Bool) (x : ℕ) → None ≡ (if b then Some x else None) → b ≡ false
-none_case true x e = absurd (cc)
-none_case false x e = refl
-
--- the next number of a range, where it is told whether it passes
-pub some_next : {X : Type 0} (f : ℕ → X) (t : ℕ → Bool) (a n g : ℕ) (o : Option ℕ) → o ≡ Some g → o ≡ (if t (a + n) then Some (a + n) else None)
-    → map f (filter t (range_with_len a n)) ++ f g ∷ [] ≡ map f (filter t (range_with_len a (n + 1)))
-some_next f t a n g o is told =
-    let r = some_case (t (a + n)) (a + n) g (sym is ∙ told) in
-    ap (λ k. map f (filter t (range_with_len a n)) ++ f k ∷ []) r.1 ∙ mapped_next f t a n r.0
-
-pub none_next : {X : Type 0} (f : ℕ → X) (t : ℕ → Bool) (a n : ℕ) (o : Option ℕ) → o ≡ None → o ≡ (if t (a + n) then Some (a + n) else None)
-    → map f (filter t (range_with_len a n)) ≡ map f (filter t (range_with_len a (n + 1)))
-none_next f t a n o is told = mapped_same f t a n (none_case (t (a + n)) (a + n) (sym is ∙ told))
 
 told_case : (f : ℕ → ℤ) (b : Bool) (x : ℕ) → option_map_or f (if b then Some x else None) (pos 0) ≡ (if b then f x else pos 0)
 told_case f true x = refl

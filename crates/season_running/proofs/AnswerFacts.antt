@@ -1,6 +1,6 @@
 -- From a command that was done and kept to what may be answered.
-use Rattle.std.proofs.Common.{◌≡◌, ℕ, Bool, true, false, if◌then◌else◌, ◌&&◌, nat_le, length, List, Option, Some, None, refl, sym, ap, subst, ◌∙◌, inl, inr}
-use Rattle.std.specs.Prelude.{Result, Ok, Err, IfErr, IsOk, IsSome, is_some}
+use Rattle.std.proofs.Common.{◌≡◌, ℕ, Bool, true, false, if◌then◌else◌, ◌&&◌, nat_le, length, List, Option, Some, None, sym, ap, subst, ◌∙◌, inl, inr}
+use Rattle.std.specs.Prelude.{Result, Ok, Err, IfErr, IsOk, is_some}
 use Rattle.std.proofs.lemmas.Bool.{false≢true}
 use Rattle.std.proofs.lemmas.Option.{none-some, same_Some}
 use Rattle.std.specs.Option.{option_map, option_map_or}
@@ -9,25 +9,23 @@ use Rattle.fpl_base.specs.declared.kinds.Position.{Position}
 use Rattle.fpl_base.specs.declared.rule.Rule.{Rule}
 use Rattle.fpl_base.specs.declared.rule.Rule.TheVariants as rule
 use Rattle.rule_book.specs.declared.cup.Bracket.{Bracket}
-use Rattle.rule_book.specs.Calendar.{deadlines_order}
 use Rattle.rule_book.specs.Leagues.{LeagueFacts}
 use Rattle.manager_book.specs.declared.manager.Manager.{Manager}
 use Rattle.manager_book.specs.Managers.{managers_had}
 use Rattle.season_book.specs.Book.{Book, Facts, last_number}
 use Rattle.season_book.specs.declared.command.Command.{Command}
 use Rattle.season_book.specs.declared.made.Made.{Made}
-use Rattle.season_book.specs.Commands.{are_there, begun_by, changed_by, has_player, refusal_of}
-use Rattle.season_book.specs.Doing.{IsGrant, IsGranted, IsGrantedIn, IsOutLate, IsRefused, IsShown, IsStoreless, IsWeighed, MayAnswerIn}
+use Rattle.season_book.specs.Commands.{are_there, changed_by, has_player, refusal_of}
+use Rattle.season_book.specs.Doing.{IsGrant, IsGranted, IsGrantedIn, IsOutLate, IsRefused, IsStoreless, MayAnswerIn}
 use Rattle.season_book.specs.EntryCommands.{names_players}
 use Rattle.season_book.specs.KeyCommands.{rekey_refusal}
 use Rattle.season_book.specs.LeagueCommands.{cup_broken, cup_drawn, cup_there, league_refusal, leagues_there}
 use Rattle.season_book.specs.PlayerCommands.{use_refusal}
-use Rattle.season_book.specs.Verdict.{Failures, IsRepeat, IsVerdictIn, MayAnswer, Outcome, Verdict, accepted, begun, fresh_verdict, judged, number_refusal, pass, ruled, settled, shown_or_unknown, unless_misnumbered, unless_refused, view_answer}
+use Rattle.season_book.specs.Verdict.{IsRepeat, IsVerdictIn, Outcome, Verdict, accepted, fresh_verdict, judged, number_refusal, ruled, settled, unless_misnumbered, unless_refused}
 use Rattle.season_book.specs.declared.answer.Answer.{Answer}
 use Rattle.season_book.specs.declared.answer.Answer.TheVariants as answer
 use Rattle.season_book.specs.declared.request.Request.{Request}
 use Rattle.season_book.specs.declared.request.Request.TheVariants as request
-use Rattle.season_book.specs.declared.request.View.{View}
 use Rattle.season_book.specs.declared.shown.Shown.{Shown}
 use Rattle.season_competitions.specs.Cups.{cup_answer_by, draw_answer}
 use Rattle.season_competitions.specs.Leagues.{league_answer_by}
@@ -38,28 +36,6 @@ use Rattle.season_entries.specs.Known.{is_issued_by, is_registered_by}
 use Rattle.season_running.specs.Accepting.{IsRefusal}
 
 -- a command is refused by a rule or an id that is not there
-
-abbrev Rules : {T : Type 0} → Result T Answer → Type 0
-Rules verdict = IfErr verdict IsRefusal
-
-chosen : (b : Bool) (x y : Result Facts Answer) → Rules x → Rules y → Rules (if b then x else y)
-chosen true x y px py = px
-chosen false x y px py = py
-
-rules_unless : (broken : Option Rule) (facts : Facts) → Rules (unless_refused broken facts)
-rules_unless None facts = tt
-rules_unless (Some rule) facts = tt
-
-rules_begun : (facts : Option Facts) → Rules (begun facts)
-rules_begun None = tt
-rules_begun (Some facts) = rules_unless (deadlines_order facts.calendar.deadlines) facts
-
-pub rules_judged : (facts : Option Facts) (now : ℕ) (command : Command) → Rules (judged facts now command)
-rules_judged None now command = rules_begun (begun_by command)
-rules_judged (Some facts) now command =
-    let behind = unless_refused (refusal_of facts now command) (changed_by facts command) in
-    chosen (is_some (begun_by command)) (Err (answer.Rule rule.SeasonThere)) (if are_there facts command then behind else Err answer.Unknown) tt
-    (chosen (are_there facts command) behind (Err answer.Unknown) (rules_unless (refusal_of facts now command) (changed_by facts command)) tt)
 
 pub storeless_refusal : (reply : Answer) → IsRefusal reply → IsStoreless reply
 storeless_refusal (answer.Done number made) rules = absurd rules
@@ -79,11 +55,6 @@ refused_as verdict answer.Unknown rules is = is
 refused_as verdict answer.Keeper rules is = is
 refused_as verdict (answer.Damaged key) rules is = is
 refused_as verdict answer.Memory rules is = absurd rules
-
--- what is weighed, or judged by a manager's rows, is refused so
-pub weighed_refusal : {T : Type 0} (facts : Facts) (now : ℕ) (command : Command) (result : Result T Answer) → IsWeighed facts now command result → IfErr result IsRefusal
-weighed_refusal facts now command (Ok value) granted = tt
-weighed_refusal facts now command (Err reply) is = subst Rules is (rules_judged (Some facts) now command)
 
 pub deed_refusal_is : {T : Type 0} (facts : Facts) (broken : Option Rule) (command : Command) (result : Result T Answer)
     → IsAnswered (deed_answer facts broken command) result → IfErr result IsRefusal
@@ -173,35 +144,3 @@ module _ (operator : List ℕ) (book : Book) (caller : Caller) (now number : ℕ
   late_refused none answer.Keeper refused = tt
   late_refused none (answer.Damaged key) refused = tt
   late_refused none answer.Memory refused = granted_in none refused
-
--- what is shown is no refusal
-pub shown_grants : (shown : Option Shown) → IsSome shown → IsGrant (shown_or_unknown shown)
-shown_grants None there = absurd (false≢true there)
-shown_grants (Some what) there = tt
-
--- what may be answered in the book with the moment's locks may be answered in the book before
-pub may_answer : (operator : List ℕ) (failures : Failures) (book : Book) (caller : Caller) (now : ℕ) (asked : Request) (reply : Answer) (after : Book)
-    → MayAnswerIn operator (pass book now) caller now asked reply after → MayAnswer operator failures book caller now asked reply after
-may_answer operator failures book caller now asked reply after (inl verdict) = inl verdict
-may_answer operator failures book caller now asked reply after (inr (out, left)) = inr (inl out, inr (inl left))
-
--- a view may be answered as it is shown
-pub view_answered : (operator : List ℕ) (failures : Failures) (book : Book) (caller : Caller) (now : ℕ) (view : View) (reply : Answer)
-    → IsShown (view_answer (pass book now) caller view) reply → MayAnswer operator failures book caller now (request.View view) reply (pass book now)
-view_answered operator failures book caller now view (answer.Done number made) is = inl (ap (λ (a : Answer). record { answer = a; book = pass book now }) is)
-view_answered operator failures book caller now view (answer.Shown shown) is = inl (ap (λ (a : Answer). record { answer = a; book = pass book now }) is)
-view_answered operator failures book caller now view (answer.Rule rule) is = inl (ap (λ (a : Answer). record { answer = a; book = pass book now }) is)
-view_answered operator failures book caller now view answer.Unknown is = inl (ap (λ (a : Answer). record { answer = a; book = pass book now }) is)
-view_answered operator failures book caller now view answer.Keeper is = absurd is
-view_answered operator failures book caller now view (answer.Damaged key) is = absurd is
-view_answered operator failures book caller now view answer.Memory is = inr (inl refl, inr (inl refl))
-
-pub view_late : (operator : List ℕ) (book : Book) (caller : Caller) (now : ℕ) (view : View) (reply : Answer)
-    → IsShown (view_answer book caller view) reply → IsOutLate operator book caller now (request.View view) reply
-view_late operator book caller now view (answer.Done number made) is = tt
-view_late operator book caller now view (answer.Shown shown) is = tt
-view_late operator book caller now view (answer.Rule rule) is = tt
-view_late operator book caller now view answer.Unknown is = tt
-view_late operator book caller now view answer.Keeper is = tt
-view_late operator book caller now view (answer.Damaged key) is = tt
-view_late operator book caller now view answer.Memory is = (tt, λ verdict same. subst (λ (v : Verdict). IsGrant v.answer) (sym same) is)

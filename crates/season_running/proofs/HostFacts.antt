@@ -3,13 +3,12 @@ use Rattle.std.proofs.Common.{◌≡◌, ◌∷◌, [], ℕ, List, Option, Some,
 use Rattle.std.specs.Prelude.{Result, Ok, Err, IfOk, IsOk}
 use Rattle.std.specs.Option.{option_map, option_map_or}
 use Rattle.fpl_base.specs.declared.kinds.Caller.{Caller}
-use Rattle.fpl_base.specs.declared.rule.Rule.TheVariants as rule
 use Rattle.rule_book.specs.ById.{at_id}
 use Rattle.rule_book.specs.declared.player.Player.{Player}
 use Rattle.season_book.specs.Book.{Book, EntryFacts, Facts, Last, caller_number, last_number}
-use Rattle.season_book.specs.Doing.{IsOutLate, IsRefused, IsShown, MayAnswerIn}
+use Rattle.season_book.specs.Doing.{IsRefused, IsShown}
 use Rattle.season_book.specs.EntryViews.{entry_shown}
-use Rattle.season_book.specs.Verdict.{Failures, IsRepeat, MayAnswer, Outcome, judged, locked_at, number_refusal, pass, ruled, ruled_by, seen_in, shown_or_unknown, unseen, view_answer}
+use Rattle.season_book.specs.Verdict.{IsRepeat, Outcome, judged, locked_at, number_refusal, pass, ruled, ruled_by, seen_in, shown_or_unknown, unseen, view_answer}
 use Rattle.season_book.specs.declared.answer.Answer.{Answer}
 use Rattle.season_book.specs.declared.answer.Answer.TheVariants as answer
 use Rattle.season_book.specs.declared.command.Command.{Command}
@@ -24,8 +23,7 @@ use Rattle.season_book.specs.declared.shown.Shown.{Shown}
 use Rattle.season_book.specs.declared.shown.Shown.TheVariants as showns
 use Rattle.season_entries.specs.Entries.{AreEntries}
 use Rattle.season_running.specs.Accepting.{IsAccepted, IsNew, kept_last}
-use Rattle.season_running.specs.Standing.{Follows, HostRows, Plays, Running, StandsIn, host_rows, number_at, passed, players_in}
-use Rattle.season_running.proofs.AnswerFacts.{may_answer, view_answered, view_late}
+use Rattle.season_running.specs.Standing.{HostRows, Plays, Running, StandsIn, host_rows, number_at, passed, players_in}
 
 -- a host whose season runs plays for the books that it stands for
 plays_of : (operator : List ℕ) (running : Running) (lasts : List (ℕ × Last)) (book : Book) → StandsIn (host_rows operator (Some running) lasts) book → Plays running book
@@ -76,42 +74,6 @@ passed_stands host now book stands = record {
   cups = stands.cups;
   lasts = stands.lasts;
 }
-
-module _ (old locked : HostRows) (now : ℕ) (is : locked ≡ passed now old) where
-  stands_locked : (book : Book) → StandsIn old book → StandsIn locked (pass book now)
-  stands_locked book stands = subst (λ h. StandsIn h (pass book now)) (sym is) (passed_stands old now book stands)
-
-  pub view_follows : (failures : Failures) (caller : Caller) (view : View) (reply : Answer)
-      → ((book : Book) → StandsIn locked book → IsShown (view_answer book caller view) reply)
-      → Follows old locked (λ book after. MayAnswer old.operator failures book caller now (request.View view) reply after)
-  view_follows failures caller view reply shown = λ book stands. (
-    pass book now,
-    stands_locked book stands,
-    view_answered old.operator failures book caller now view reply (shown (pass book now) (stands_locked book stands)),
-  )
-
-  pub view_out_late : (caller : Caller) (view : View) (reply : Answer)
-      → ((book : Book) → StandsIn locked book → IsShown (view_answer book caller view) reply)
-      → (book : Book) → StandsIn old book → IsOutLate old.operator (pass book now) caller now (request.View view) reply
-  view_out_late caller view reply shown book stands =
-      view_late old.operator (pass book now) caller now view reply (shown (pass book now) (stands_locked book stands))
-
-  pub command_follows : (new : HostRows) (failures : Failures) (caller : Caller) (asked : Request) (reply : Answer)
-      → Follows locked new (λ book after. MayAnswerIn locked.operator book caller now asked reply after)
-      → Follows old new (λ book after. MayAnswer old.operator failures book caller now asked reply after)
-  command_follows new failures caller asked reply follows = λ book stands.
-      let led = follows (pass book now) (stands_locked book stands) in (
-        led.0,
-        led.1,
-        may_answer old.operator failures book caller now asked reply led.0
-            (subst (λ h. MayAnswerIn h.operator (pass book now) caller now asked reply led.0) is led.2),
-      )
-
-  pub command_out_late : (caller : Caller) (asked : Request) (reply : Answer)
-      → ((book : Book) → StandsIn locked book → IsOutLate locked.operator book caller now asked reply)
-      → (book : Book) → StandsIn old book → IsOutLate old.operator (pass book now) caller now asked reply
-  command_out_late caller asked reply late book stands =
-      subst (λ h. IsOutLate h.operator (pass book now) caller now asked reply) is (late (pass book now) (stands_locked book stands))
 
 -- Last commands.
 

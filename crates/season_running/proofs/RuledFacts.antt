@@ -18,7 +18,7 @@ use Rattle.manager_book.specs.declared.manager.Manager.{Manager}
 use Rattle.manager_book.specs.Managers.{Managers, number_from}
 use Rattle.season_book.specs.Book.{Book, EntryFacts, Facts, caller_number, last_number}
 use Rattle.season_book.specs.Commands.{changed_by, has_player, part_of}
-use Rattle.season_book.specs.Doing.{IsGranted, IsWeighed}
+use Rattle.season_book.specs.Doing.{IsGranted}
 use Rattle.season_book.specs.EntryCommands.{deed_refusal, history_after, names_players}
 use Rattle.season_book.specs.EntryViews.{me_shown}
 use Rattle.season_book.specs.Hosts.{keys_of}
@@ -133,10 +133,6 @@ module _ (operator : List ℕ) (book : Book) (caller : Caller) (now : ℕ) (comm
       subst (λ r. IsRuled r result) (sym (in_cups is))
       (drawn_ruled book running.facts (cup_drawn command) result
       (subst (λ l. IsAnswered (cup_answer running.facts (is_issued book.entries) (is_registered book.entries) (length l) command) result) (sym plays.cups) (judged book.entries plays.entries)))
-
-  pub facts_ruled : {T : Type 0} (result : Result T Answer) → part_of command ≡ part.Facts → IsWeighed running.facts now command result → IsRuled (ruled operator book caller now command) result
-  facts_ruled (Ok value) is granted = subst IsOk (sym (in_facts is ∙ ap (ruled_by book) (granted_is running.facts now command granted))) refl
-  facts_ruled (Err reply) is refused = in_facts is ∙ ap (ruled_by book) refused
 
   pub deed_ruled : {T : Type 0} (law : EntriesAreIssued) (e : ℕ) (result : Result T Answer) → part_of command ≡ part.Deeds → caller_number caller ≡ e → 1 ≤ e → e ≤ length running.managers
       → IsJudgedByBooks running.facts running.managers e command result → IsRuled (ruled operator book caller now command) result

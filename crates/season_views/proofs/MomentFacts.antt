@@ -44,9 +44,6 @@ module _ (y m d : ℕ) (civil : IsCivilDate (pos y) m d) (day : ℕ) (is : days_
   at_most_9999 : y ≤ 9999
   at_most_9999 = omega (arith, signed_arith, civil.0.1)
 
-  first_month : 1 ≤ m
-  first_month = civil.1.0
-
   first_date : 1 ≤ d
   first_date = civil.2.0
 

@@ -1,6 +1,6 @@
 -- What is written of windows, and the text that it makes.
-use Rattle.std.proofs.Common.{◌≡◌, ◌≤◌, ◌∙◌, ◌++◌, List, [], ◌∷◌, drop, length, ◌==◌, if◌then◌else◌, ℕ, Bool, true, false, Option, Some, None, Ok, Err, Result, ap, refl, subst, sym}
-use Rattle.std.specs.Prelude.{OnErr, is_some}
+use Rattle.std.proofs.Common.{◌≡◌, ◌≤◌, ◌∙◌, ◌++◌, List, [], ◌∷◌, drop, length, ◌==◌, if◌then◌else◌, ℕ, Bool, true, false, Option, Some, None, Ok, Result, ap, refl, subst, sym}
+use Rattle.std.specs.Prelude.{is_some}
 use Rattle.std.specs.Option.{option_and_then, option_map}
 use Rattle.std.specs.declared.alloc.AllocError.{AllocError}
 use Rattle.std.proofs.lemmas.List.{at_drop_all}
@@ -27,16 +27,6 @@ module _ {r : Result (Unit {0}) AllocError} {a b : Written} where
   -- a value that is due is the one that is written
   pub written : (due d : Data) → Some due ≡ Some d → Appends r a b (tokens_of due) → Appends r a b (tokens_of d)
   written due d is wrote = retold (ap tokens_of (same_Some due d is)) wrote
-
--- where nothing is due there is no text
-pub no_text : (o : Option Data) → false ≡ is_some o → None ≡ option_map compact_text o
-no_text None none = refl
-no_text (Some d) none = absurd (cc none)
-
--- what holds anyway holds where there is an error
-pub on_err : {T E P : Type 0} (r : Result T E) → P → OnErr r P
-on_err (Ok x) holds = tt
-on_err (Err e) holds = holds
 
 -- the text of what a new writer wrote, where something is due
 pub text_is : (o : Option Data) (a b : Written) (page : List ℕ) → true ≡ is_some o → a.tokens ≡ [] → a.before ≡ [] → page ≡ b.before ++ print b.tokens

@@ -5,10 +5,10 @@ use Rattle.std.specs.List.{IsDistinct}
 use Rattle.std.specs.Ordering.{is_eq, is_lt, nat_cmp, int_cmp, ordering_then}
 use Rattle.std.specs.declared.cmp.Ordering.{Ordering}
 use Rattle.std.specs.declared.cmp.Ordering.TheVariants.{Less, Equal, Greater}
-use Rattle.std.proofs.lemmas.Bool.{true≢false, le-leb, lt-leb, ne_eqb, eqb-false, lt-ltb, ltb-false}
+use Rattle.std.proofs.lemmas.Bool.{true≢false, le-leb, ne_eqb, eqb-false, lt-ltb, ltb-false}
 use Rattle.std.proofs.lemmas.Cmp.{int_cmp_total, nat_cmp_total, nat_eq_equiv, on_total, then_total, back_total}
-use Rattle.std.proofs.lemmas.List.{get_or-map, length-map, map_push, map_more, take-map}
-use Rattle.std.proofs.lemmas.List.Elements.{All-filter, filter_more}
+use Rattle.std.proofs.lemmas.List.{get_or-map, length-map, map_more, take-map}
+use Rattle.std.proofs.lemmas.List.Elements.{All-filter}
 use Rattle.std.proofs.lemmas.List.Kept.{AllPairs-filter}
 use Rattle.std.proofs.lemmas.List.Sorted.{All-permutation, IsPermutation-map, ranks_by, sorted_far}
 use Rattle.std.proofs.lemmas.List.Sums.{fold_push}
@@ -21,32 +21,8 @@ use Rattle.squad_rules.specs.Elevens.{Row, is_better, total_points}
 use Rattle.squad_rules.specs.Pools.{IsPool, first_total, is_at, row_of}
 use Rattle.squad_rules.specs.declared.pools.Candidate.{Candidate}
 use Rattle.squad_rules.proofs.Choosing.{part}
-use Rattle.squad_rules.proofs.Places.{at_is}
 
 -- ---- collected
-
-row_is : (position : Position) (row : Row) (candidate : Candidate) → is_at position row.1 ≡ true → candidate.player ≡ row.0 → candidate.points.0 ≡ row.2 → row_of position candidate ≡ row
-row_is position row candidate e player points =
-    ap (λ (n : ℕ). (n, position, candidate.points.0)) player ∙ ap (λ (z : ℤ). (row.0, position, z)) points
-    ∙ ap (λ (p : Position). (row.0, p, row.2)) (sym (at_is position row.1 e))
-
-pub one_collected : (position : Position) (rows : List Row) (i : ℕ) (d : Row) (found : List Candidate) (candidate : Candidate) → i < length rows
-    → is_at position (get_or rows i d).1 ≡ true → candidate.player ≡ (get_or rows i d).0 → candidate.points.0 ≡ (get_or rows i d).2
-    → map (row_of position) found ≡ part position (take i rows) → map (row_of position) (found ++ candidate ∷ []) ≡ part position (take (i + 1) rows)
-one_collected position rows i d found candidate inside e player points so_far =
-    map_push (row_of position) found candidate ∙ ap (λ l. l ++ row_of position candidate ∷ []) so_far
-    ∙ ap (λ (row : Row). part position (take i rows) ++ row ∷ []) (row_is position (get_or rows i d) candidate e player points)
-    ∙ sym (filter_more (λ (row : Row). is_at position row.1) rows i d inside ∙ ap (λ b. part position (take i rows) ++ cond b (get_or rows i d ∷ []) []) e)
-
-pub one_passed : (position : Position) (rows : List Row) (i : ℕ) (d : Row) (found : List Candidate) → i < length rows
-    → is_at position (get_or rows i d).1 ≡ false → map (row_of position) found ≡ part position (take i rows) → map (row_of position) found ≡ part position (take (i + 1) rows)
-one_passed position rows i d found inside e so_far =
-    so_far ∙ sym (append-nil-of (part position (take i rows)))
-    ∙ sym (filter_more (λ (row : Row). is_at position row.1) rows i d inside ∙ ap (λ b. part position (take i rows) ++ cond b (get_or rows i d ∷ []) []) e)
-  where
-    append-nil-of : (l : List Row) → l ++ [] ≡ l
-    append-nil-of [] = refl
-    append-nil-of (x ∷ xs) = ap (λ l. x ∷ l) (append-nil-of xs)
 
 -- ---- sorted
 
@@ -159,7 +135,3 @@ pub first_is : (position : Position) (cs : List Candidate) (n : ℕ) (total : �
 first_is position cs n total enough is =
     ap (λ (z : ℤ). Some z) (is ∙ sym (first_points position n cs))
     ∙ sym (ap (λ b. cond b (Some (total_points (take n (map (row_of position) cs)))) None) (le-leb n (length (map (row_of position) cs)) (omega (arith, length-map cs (row_of position), enough))))
-
-pub first_none : (position : Position) (cs : List Candidate) (n : ℕ) → length cs < n → None ≡ first_total (map (row_of position) cs) n
-first_none position cs n few =
-    sym (ap (λ b. cond b (Some (total_points (take n (map (row_of position) cs)))) None) (lt-leb n (length (map (row_of position) cs)) (omega (arith, length-map cs (row_of position), few))))

@@ -127,13 +127,6 @@ none_here pools d m best none finds =
     go a b c (inr (same, too)) formation =
         absurd (false≢true (sym (none c) ∙ sym (ap (λ n. is_formation n b c) same ∙ ap (λ n. is_formation d n c) too) ∙ formation))
 
-pub too_many : (d m : ℕ) → 10 < d + m → (c : ℕ) → is_formation d m c ≡ false
-too_many d m many c = go (cases_Bool (is_formation d m c))
-  where
-    go : (is_formation d m c ≡ true) ⊎ (is_formation d m c ≡ false) → is_formation d m c ≡ false
-    go (inl e) = absurd (omega (arith, (in_range d m c e).ten))
-    go (inr e) = e
-
 pub no_other : (d m f : ℕ) → d + m + f ≡ 10 → is_formation d m f ≡ false → (c : ℕ) → is_formation d m c ≡ false
 no_other d m f ten none c = go (cases_Bool (is_formation d m c))
   where

@@ -1,7 +1,6 @@
 -- What was judged elsewhere, as tests.
 use Rattle.std.proofs.Common.{◌≡◌, ◌≤◌, ◌+◌, ◌^◌, ℕ, Bool, true, false, ◌&&◌, ◌==◌, nat_le, List, length, map, get_or, min, Option, Some, None, Result, Ok, Err, refl, sym, ap, arith}
-use Rattle.std.specs.Prelude.{is_none, is_some}
-use Rattle.std.specs.Option.{option_map, option_map_or}
+use Rattle.std.specs.Prelude.{is_none}
 use Rattle.std.specs.Result.{is_ok}
 use Rattle.std.specs.List.{list_all, list_any, range_with_len}
 use Rattle.std.proofs.lemmas.Bool.Decides.{nat_tests}
@@ -16,11 +15,9 @@ use Rattle.rule_book.specs.HeadToHead.{is_draw}
 use Rattle.rule_book.specs.Refusals.{IsJudged}
 use Rattle.season_records.specs.declared.item.Item.{Item}
 use Rattle.season_records.specs.declared.item.Item.TheVariants as item
-use Rattle.stored_records.specs.Kept.{other_in, transfer_in, transfer_item}
+use Rattle.stored_records.specs.Kept.{other_in}
 use Rattle.stored_records.specs.declared.kept.Transfer.{Transfer}
-use Rattle.stored_records.proofs.KeptLemmas.{other_found}
 use Rattle.stored_records.proofs.Loops.{any_same}
-use Rattle.store_validation.specs.Lawful.{is_in_range}
 use Rattle.store_validation.specs.LeagueRules.{has_key}
 
 pub judged_ok : {T : Type 0} (broken : Option Rule) (r : Result T Rule) → IsJudged broken r → is_ok r ≡ is_none broken
@@ -64,16 +61,3 @@ pub key_beside : (key : List ℕ) (o : Option Item) → has_key key (other_in o)
 key_beside key None = refl
 key_beside key (Some (item.Transfer entry gameweek number out into sold bought)) = refl
 key_beside key (Some other) = refl
-
--- a record that is kept as an item or a transfer is spelled so
-pub spelled_item : (o : Option Item) (i : Item) → Some i ≡ other_in o → is_in_range i ≡ option_map_or is_in_range o false
-spelled_item o i is = sym (ap (λ p. option_map_or is_in_range p false) (other_found o i (sym is)))
-
-pub spelled_transfer : (t : Option Transfer) (o : Option Item) → None ≡ other_in o → option_map transfer_item t ≡ transfer_in o
-    → is_some t ≡ option_map_or is_in_range o false
-spelled_transfer None None none is = refl
-spelled_transfer None (Some (item.Transfer entry gameweek number out into sold bought)) none is = absurd cc
-spelled_transfer None (Some other) none is = absurd cc
-spelled_transfer (Some t) None none is = absurd cc
-spelled_transfer (Some t) (Some (item.Transfer entry gameweek number out into sold bought)) none is = refl
-spelled_transfer (Some t) (Some other) none is = absurd cc

@@ -1,6 +1,5 @@
 -- What is kept of a record is what its body tells.
 use Rattle.std.proofs.Common.{◌≡◌, ◌∙◌, false, ◌==◌, List, [], ℕ, Option, Some, None, Result, Ok, Err, ap, refl, sym}
-use Rattle.std.specs.Option.{option_map}
 use Rattle.std.specs.Result.{IfOk}
 use Rattle.fpl_base.specs.declared.records.RecordKey.{RecordKey}
 use Rattle.season_records.specs.ItemReading.{item_of}
@@ -9,40 +8,16 @@ use Rattle.season_records.specs.Laws.{IsBytes}
 use Rattle.season_records.specs.declared.item.Item.{Item}
 use Rattle.season_records.specs.declared.item.Item.TheVariants as item
 use Rattle.season_records.proofs.ItemLaws.{item_found}
-use Rattle.stored_records.specs.EntryTold.{sale_in}
-use Rattle.stored_records.specs.Kept.{AreTold, IsRead, body_kept, item_kept, other_in, other_kept, transfer_in, transfer_item}
-use Rattle.stored_records.specs.SeasonRules.{place_in}
+use Rattle.stored_records.specs.Kept.{AreTold, IsRead, body_kept, item_kept, other_in, transfer_in, transfer_item}
 use Rattle.stored_records.specs.declared.kept.Told.{Told}
 use Rattle.stored_records.specs.declared.kept.Transfer.{Transfer}
 use Rattle.stored_records.specs.declared.kept.Told.TheVariants as told
-
--- a transfer stands nowhere
-pub place_other : (o : Option Item) → place_in (other_in o) ≡ place_in o
-place_other None = refl
-place_other (Some (item.Transfer entry gameweek number out into sold bought)) = refl
-place_other (Some other) = refl
-
--- a transfer tells of a sale, and nothing else does
-pub sale_alone : (t : Option Transfer) (o : Option Item) → option_map transfer_item t ≡ transfer_in o
-    → option_map (λ t. record { out = t.out; into = t.into; sold = t.sold; bought = t.bought }) t ≡ sale_in o
-sale_alone None None is = refl
-sale_alone None (Some (item.Transfer entry gameweek number out into sold bought)) is = absurd cc
-sale_alone None (Some other) is = refl
-sale_alone (Some t) None is = absurd cc
-sale_alone (Some t) (Some (item.Transfer entry gameweek number out into sold bought)) is = ap sale_in is
-sale_alone (Some t) (Some other) is = absurd cc
 
 -- a transfer is what is told
 pub transfer_found : (t : Transfer) (o : Option Item) → Some (transfer_item t) ≡ transfer_in o → o ≡ Some (transfer_item t)
 transfer_found t None is = absurd cc
 transfer_found t (Some (item.Transfer entry gameweek number out into sold bought)) is = sym is
 transfer_found t (Some other) is = absurd cc
-
--- where there is none, what is told is no transfer
-pub none_found : (o : Option Item) → None ≡ transfer_in o → other_in o ≡ o
-none_found None is = refl
-none_found (Some (item.Transfer entry gameweek number out into sold bought)) is = absurd cc
-none_found (Some other) is = refl
 
 -- what is found beside transfers is what is told
 pub other_found : (o : Option Item) (i : Item) → other_in o ≡ Some i → o ≡ Some i
@@ -82,11 +57,3 @@ pub read_some : {E : Type 0} (key : RecordKey) (body : List ℕ) (i : Item) (r :
     → IfOk r (AreTold (Some i)) → IfOk r (IsRead key body)
 read_some key body i (Ok t) bytes is told = read_as key body i t bytes is told
 read_some key body i (Err e) bytes is told = tt
-
--- a body that is no item's is kept itself
-pub read_none : (key : RecordKey) (body : List ℕ) (t : Told) → item_of key body ≡ None → body_kept t ≡ body → item_kept t ≡ None → other_kept t ≡ None → IsRead key body t
-read_none key body t is same none other =
-    let again : None ≡ item_of key (body_kept t) = sym is ∙ ap (item_of key) (sym same) in record {
-      kept = record { told = record { item = none ∙ again; other = other ∙ ap other_in again }; apart = λ away. other ∙ sym none };
-      same = same;
-    }

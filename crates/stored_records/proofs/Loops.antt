@@ -5,7 +5,6 @@ use Rattle.std.proofs.lemmas.Bool.Decides.{nat_tests}
 use Rattle.std.proofs.lemmas.List.{get_or_default}
 use Rattle.std.proofs.lemmas.List.Sums.{length-filter}
 use Rattle.std.proofs.lemmas.List.FromFn.{sum_by-map-range_with_len_more}
-use Rattle.std.proofs.lemmas.List.Folds.{list_any_none}
 use Rattle.rule_book.specs.CupCalls.{entrants}
 
 -- a test that each of the elements before a place fails
@@ -21,9 +20,6 @@ fail_more p xs i x lt before at fails k d low = by (k == i) refl
     by : (b : Bool) → (k == i) ≡ b → p (get_or xs k d) ≡ false
     by true same = let is : k ≡ i = grind (arith, nat_tests, same) in ap (λ n. p (get_or xs n d)) is ∙ here
     by false other = before k d (grind (arith, nat_tests, other, low))
-
-pub none_passes : {X : Type 0} (p : X → Bool) (xs : List X) (i : ℕ) → length xs ≤ i → FailBefore p xs i → list_any p xs ≡ false
-none_passes p xs i all before = list_any_none p xs (λ k d lt. before k d (omega (arith, lt, all)))
 
 pub none_found : {X : Type 0} (p : X → Bool) (xs : List X) (i : ℕ) → length xs ≤ i → FailBefore p xs i → find p xs ≡ None
 none_found p [] i all before = refl
