@@ -45,7 +45,7 @@ function goalsOf(view) {
 	return [...of(GOALS), ...of(OWN_GOALS)];
 }
 
-// Who may have scored it for the same side: a player of it, or one of the other by an own goal.
+// Who may have scored it for the same side: one of it, or of the other by an own goal.
 function takersOf(view) {
 	const { season, sheet, fixture } = view;
 	const isAtHome = ({ player, figure }) => (season.player(player).team === fixture.team_h) === (figure === GOALS);

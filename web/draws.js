@@ -49,7 +49,7 @@ function cupForm(page, season, entries) {
 	);
 }
 
-// The slots of a cup by lot, with byes up to a power of two, no two of which meet; and a coin for each tie.
+// The slots of a cup by lot, with byes up to a power of two, which never meet; a coin for each tie.
 function bracketOf(entries) {
 	const drawn = shuffled(entries);
 	const ties = 2 ** Math.max(0, Math.ceil(Math.log2(drawn.length)) - 1);

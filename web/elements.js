@@ -62,8 +62,12 @@ export function form(id, text, call, ...children) {
 	return make("form.form", { onsubmit: send }, ...children, busy);
 }
 
-// A card with a form that sets something.
-export const setting = (what, call, ...fields) => make("div.card", form(`set-${what}`, "Set", call, ...fields));
+// A card with a form that sets something. Its button is named by the first field.
+export function setting(what, call, ...fields) {
+	const set = form(`set-${what}`, "Set", call, ...fields);
+	set.lastChild.ariaLabel = `Set: ${fields[0].firstChild.textContent}`;
+	return make("div.card", set);
+}
 
 // What is unfolded by a tap on its title.
 export const folded = (id, title, ...content) => make("details", { id }, make("summary", title), ...content);

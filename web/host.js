@@ -22,7 +22,7 @@ export class Refusal extends Error {
 	}
 }
 
-// The deadline passed before a command for its gameweek was done; `next` is the next one now, or null.
+// The deadline passed before a command for its gameweek was done; `next` is that of now, or null.
 export class TooLate extends Error {
 	constructor(gameweek, next) {
 		super(`gameweek ${gameweek}`);
@@ -180,7 +180,7 @@ async function deliver() {
 	throw new Refusal(answer.status, answer.body);
 }
 
-// The answer to a command, however long it takes: again after 1, 2, 4, 8 seconds, the same bytes.
+// The answer to a command: the same bytes again after 1, 2, 4, 8 seconds.
 async function answered(sent) {
 	for (let pause = 1; ; pause = Math.min(2 * pause, LONGEST_PAUSE)) {
 		try {

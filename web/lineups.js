@@ -1,4 +1,4 @@
-// Lineups by slot: 1 the goalkeeper, 2 to 11 the other starters, 12 the goalkeeper on the bench, 13 to 15 the others on it.
+// Lineups by slot: 1 the goalkeeper, 2 to 11 the other starters, 12 the goalkeeper on the bench, 13 to 15 the rest.
 // The host judges again; this says which players can be tapped.
 
 const STARTERS = 11;

@@ -20,7 +20,7 @@ import { drawSheet } from "./sheet.js";
 import { drawTeam } from "./team.js";
 import { drawTransfers } from "./transfers.js";
 
-// Each place by the first word of its address: how it is drawn, and where it stands in the bar.
+// Each place by the first word of its address: how it is drawn, where it stands in the bar.
 const PLACES = {
 	points: [drawPoints, "points"],
 	week: [drawWeek, "points"],
@@ -107,7 +107,7 @@ function instead(fault) {
 	return [heading(fault.status === 404 ? "There is nothing here" : "Not yet"), make("p", sentence(fault))];
 }
 
-// Shows the open place: first as it is kept, if it was opened just now, then as the host tells it.
+// Shows the open place: as it is kept where it was opened just now, then as the host tells it.
 async function show() {
 	const mine = ++turn;
 	if (open !== location.hash) {
@@ -255,7 +255,7 @@ function say(kind, text) {
 // Commands
 
 // Sends a command for a button, which is busy meanwhile, says how it ended, and shows the place anew, or the one that `next`
-// gives. `done` is what is said of it; the others are those of `host.command`. Gives the answer's body; null where it was refused.
+// gives. `done` is said of it; the others are those of `host.command`. Gives the answer's body; null where it was refused.
 async function send(busy, target, members, { done = "Saved.", next = null, ...others } = {}) {
 	const from = location.hash;
 	if (host.isBusy()) {

@@ -26,7 +26,7 @@ export function shirt(club, isKeeper = false) {
 	);
 }
 
-// A player on a pitch. `worth` stands below the name; `badges` are pairs of a class and a text; `about` is read aloud too;
+// A player on a pitch. `worth` stands below the name; `badges` are pairs of a class and a text; `about` is read aloud;
 // `state` is "chosen", "may" or "not", or undefined where nothing is chosen.
 export function playerButton(season, id, { worth, badges = [], about = [], state, onclick }) {
 	const player = season.player(id);

@@ -1,5 +1,5 @@
 // Each refusal of the host as a sentence, with what it names in braces; {team} is the caller's. No other place knows their
-// numbers, and a test holds them against docs/HTTP.md.
+// numbers; a test holds them against docs/HTTP.md.
 
 import { FIGURES } from "./figures.js";
 import { money } from "./words.js";

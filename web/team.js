@@ -99,7 +99,7 @@ function stateOf({ season, lineup }, id, slot) {
 	return id === chosen ? "chosen" : canChange(lineup.players, from, slot, season) ? "may" : "not";
 }
 
-// The first tap chooses a player, the second changes him with another, where that is legal.
+// The first tap chooses a player, the second changes him with another, if legal.
 function tapped(view, id, slot) {
 	const { page, lineup } = view;
 	if (stateOf(view, id, slot) === "may") {

@@ -80,7 +80,7 @@ async function transfers(page, season, me) {
 	];
 }
 
-// How many were made in the gameweek, as far as it is told, by what they cost, who is new or what was made here.
+// How many were made in the gameweek, as far as is told: by their cost, who is new or what was made here.
 async function madeSoFar(page, me) {
 	if (me.free === null || me.cost > 0) {
 		return me.free === null ? 0 : me.free + me.cost / COST;
