@@ -1,5 +1,5 @@
 // The host at its handler: what a message asks of it, and the reply.
-ghost use Rattle.std.specs.Prelude.{◌≡◌, ◌≢◌, ◌<◌, ◌≤◌, Err, IfOk, IsTrue, MatchResult, Ok, OnErr, Some, false, ⊤};
+ghost use Rattle.std.specs.Prelude.{◌≡◌, ◌≢◌, ◌<◌, Err, IfOk, IsTrue, MatchResult, Ok, OnErr, Some, false, ⊤};
 ghost use Rattle.fpl_base.specs.declared.kinds.Caller.{Caller};
 ghost use Rattle.fpl_http.specs.Responses.{is_answer_status};
 ghost use Rattle.fpl_http.specs.Seen.{reply_seen, request_seen};
@@ -8,6 +8,7 @@ ghost use Rattle.fpl_http.specs.Splits.{Both};
 ghost use Rattle.fpl_http.specs.Replies.{answer_in};
 ghost use Rattle.fpl_requests.specs.Requests.{request_of};
 ghost use Rattle.season_book.specs.Hosts.{IsRequest};
+ghost use Rattle.season_opening.specs.Opening.{IsLater};
 ghost use Rattle.season_keeping.specs.Opening.{HoldsOn, Opens, Withholds};
 ghost use Rattle.season_opening.specs.declared.loading.OpenFault.{OpenFault};
 ghost use Rattle.season_opening.specs.declared.loading.OpenFault.TheVariants as fault;
@@ -71,9 +72,7 @@ pub fn opened<K: Keeper>(
     ensures operator { IfOk result (λ opened. opened.1.host.rows.operator ≡ key.now) }
     ensures reread { IfOk result (λ opened. opened.1.host.reread ≡ false) }
     ensures counts { result ≢ Err fault.Keeper → K.faults keeper.new ≡ K.faults keeper.old }
-    ensures later { K.faults keeper.old ≤ K.faults keeper.new }
-    ensures told { K.tells keeper.new → K.tells keeper.old }
-    ensures served { K.tells keeper.new → K.serves keeper.new → K.serves keeper.old }
+    ensures later { IsLater K.tells K.serves K.faults keeper.old keeper.new }
 {
     opened_apart::<K, Brand>(alloc, key, keeper, Blank::new(1))
 }
@@ -95,9 +94,7 @@ fn opened_apart<K: Keeper, L: Ledger>(
     ensures operator { IfOk result (λ opened. opened.1.host.rows.operator ≡ key.now) }
     ensures reread { IfOk result (λ opened. opened.1.host.reread ≡ false) }
     ensures counts { result ≢ Err fault.Keeper → K.faults keeper.new ≡ K.faults keeper.old }
-    ensures later { K.faults keeper.old ≤ K.faults keeper.new }
-    ensures told { K.tells keeper.new → K.tells keeper.old }
-    ensures served { K.tells keeper.new → K.serves keeper.new → K.serves keeper.old }
+    ensures later { IsLater K.tells K.serves K.faults keeper.old keeper.new }
 {
     let mut steps: ReadCount<L> = ReadCount::open(blank);
     let handler = match RequestHandler::new(alloc) {

@@ -15,6 +15,7 @@ ghost use Rattle.season_running.specs.Standing.{StandsIn, keys_in, number_at, pa
 ghost use Rattle.season_opening.specs.declared.loading.OpenFault.TheVariants as fault;
 ghost use Rattle.season_host.specs.Accepted.{locks_more};
 ghost use Rattle.season_host.specs.Cells.{AreCellsOfHost, AreCorrected, IsCheapCommand, IsCheapNow, running_in};
+ghost use Rattle.season_opening.specs.Opening.{IsLater};
 ghost use Rattle.season_keeping.specs.Answering.{Answers, AreCorrectedBoth, Commits, CountsFew, EndsCommit, IsCaused, IsCheapRequest, LeavesAll, MayEnd, MayRest, PassesAlone, ReadsFew, StopsEnding, StopsKeep, StopsLeave, StopsCommit, WouldAct, WouldChange, answer_of_fault};
 ghost use Rattle.season_keeping.specs.Housed.{Backs};
 ghost use Rattle.season_keeping.specs.Opening.{HoldsOn, Opens, Withholds};
@@ -75,9 +76,7 @@ impl Host {
         ensures operator { IfOk result (λ host. host.rows.operator ≡ operator.now) }
         ensures reread { IfOk result (λ host. host.reread ≡ false) }
         ensures counts { result ≢ Err fault.Keeper → K.faults keeper.new ≡ K.faults keeper.old }
-        ensures later { K.faults keeper.old ≤ K.faults keeper.new }
-        ensures told { K.tells keeper.new → K.tells keeper.old }
-        ensures served { K.tells keeper.new → K.serves keeper.new → K.serves keeper.old }
+        ensures later { IsLater K.tells K.serves K.faults keeper.old keeper.new }
     {
         // The law that what was made of a book's records stands for it, for the prover.
         loaded_rows_stand();
@@ -124,9 +123,7 @@ impl Host {
         ensures stops { K.tells keeper.new → (m : Map) → K.holds keeper.old m → (x : Map)
             → K.passes keeper.new x → K.passes keeper.old x }
         ensures counts { result ≢ Err fault.Keeper → K.faults keeper.new ≡ K.faults keeper.old }
-        ensures later { K.faults keeper.old ≤ K.faults keeper.new }
-        ensures told { K.tells keeper.new → K.tells keeper.old }
-        ensures served { K.tells keeper.new → K.serves keeper.new → K.serves keeper.old }
+        ensures later { IsLater K.tells K.serves K.faults keeper.old keeper.new }
     {
         // The law that what was made of a book's records stands for it, for the prover.
         loaded_rows_stand();
@@ -244,9 +241,7 @@ impl Host {
             self.old book caller now request.now }
         ensures caused { IsCaused
             (record { before = K.faults keeper.old; behind = K.faults keeper.new }) result }
-        ensures later { K.faults keeper.old ≤ K.faults keeper.new }
-        ensures told { K.tells keeper.new → K.tells keeper.old }
-        ensures served { K.tells keeper.new → K.serves keeper.new → K.serves keeper.old }
+        ensures later { IsLater K.tells K.serves K.faults keeper.old keeper.new }
     {
         // The law that what may be answered is isolated, for the prover.
         answers_are_isolated();
@@ -288,8 +283,7 @@ impl Host {
         ensures stops { (book : Book) → StandsIn self.old.rows book
             → StopsCommit K.tells K.holds K.passes keeper.old keeper.new self.old book
             (pass book now) }
-        ensures told { K.tells keeper.new → K.tells keeper.old }
-        ensures served { K.tells keeper.new → K.serves keeper.new → K.serves keeper.old }
+        ensures later { IsLater K.tells K.serves K.faults keeper.old keeper.new }
         ensures cause { HasKeeperCause (K.faults keeper.old) (K.faults keeper.new) result }
     {
         // The laws on what a lock touches and what rows tell, for the prover.
@@ -317,8 +311,7 @@ impl Host {
         ensures cells { self.new.cells ≡ self.old.cells }
         ensures commits { Commits K.tells K.serves K.holds K.passes keeper.old keeper.new slots.now
             self.old self.new result }
-        ensures told { K.tells keeper.new → K.tells keeper.old }
-        ensures served { K.tells keeper.new → K.serves keeper.new → K.serves keeper.old }
+        ensures later { IsLater K.tells K.serves K.faults keeper.old keeper.new }
         ensures cause { HasKeeperCause (K.faults keeper.old) (K.faults keeper.new) result }
     {
         match self.house.batch(slots) {
@@ -376,9 +369,7 @@ impl Host {
             self.old book caller now request.now }
         ensures caused { IsCaused
             (record { before = K.faults keeper.old; behind = K.faults keeper.new }) result }
-        ensures later { K.faults keeper.old ≤ K.faults keeper.new }
-        ensures told { K.tells keeper.new → K.tells keeper.old }
-        ensures served { K.tells keeper.new → K.serves keeper.new → K.serves keeper.old }
+        ensures later { IsLater K.tells K.serves K.faults keeper.old keeper.new }
     {
         match request {
             Request::View(view) => self.house.answer_view(&self.cells, &caller, *view, steps),
@@ -429,9 +420,7 @@ impl Host {
             self.old book caller.now now (request_of.Command number command.now) }
         ensures caused { IsCaused
             (record { before = K.faults keeper.old; behind = K.faults keeper.new }) result }
-        ensures later { K.faults keeper.old ≤ K.faults keeper.new }
-        ensures told { K.tells keeper.new → K.tells keeper.old }
-        ensures served { K.tells keeper.new → K.serves keeper.new → K.serves keeper.old }
+        ensures later { IsLater K.tells K.serves K.faults keeper.old keeper.new }
     {
         // The laws on what a command touches and what rows tell, for the prover.
         commands_keep_records();

@@ -1,5 +1,5 @@
 -- What is made of the records that a keeper gives, and the books whose records can be made anew.
-use Rattle.std.specs.Prelude.{◌≡◌, None, Option, Some}
+use Rattle.std.specs.Prelude.{◌≡◌, ◌≤◌, ℕ, None, Option, Some}
 use Rattle.fpl_base.specs.Keeping.{KeysRise, Map, map_of}
 use Rattle.fpl_base.specs.declared.records.RecordKey.{RecordKey}
 use Rattle.season_records.specs.declared.slot.Slot.{Slot}
@@ -50,6 +50,11 @@ LoadedRowsStand = (m : Map) (rows : HostRows) (book : Book) → AreMadeOf m rows
     → StandsIn rows book
 
 -- Keepers.
+
+-- a keeper behind a call: it failed as often as before it or more, where it tells now it told, and where it serves too it
+-- served
+abbrev pub IsLater : {K : Type 0} → (K → Type 0) → (K → Type 0) → (K → ℕ) → K → K → Type 0
+IsLater tells serves faults old new = (faults old ≤ faults new) × (tells new → tells old) × (tells new → serves new → serves old)
 
 -- a keeper gave a map: where it tells, that is the one that it held, it holds that map still, and a stop leaves that one
 -- alone

@@ -1,10 +1,10 @@
 // The books that a keeper's records tell.
-ghost use Rattle.std.specs.Prelude.{◌≡◌, ◌≢◌, ◌≤◌, ℕ, Err, IfOk, List, OnErr, OnOk, Some};
+ghost use Rattle.std.specs.Prelude.{◌≡◌, ◌≢◌, ℕ, Err, IfOk, List, OnErr, OnOk, Some};
 ghost use Rattle.fpl_base.specs.Causes.{Rose};
 ghost use Rattle.fpl_base.specs.Keeping.{KeysRise, Map, map_of};
 ghost use Rattle.fpl_base.specs.declared.records.RecordKey.{RecordKey};
 ghost use Rattle.season_running.specs.Standing.{host_rows};
-ghost use Rattle.season_opening.specs.Opening.{AreLoaded, AreMadeOf, IsDamaged, IsJudgedAs};
+ghost use Rattle.season_opening.specs.Opening.{AreLoaded, AreMadeOf, IsDamaged, IsJudgedAs, IsLater};
 ghost use Rattle.season_opening.specs.declared.loading.OpenFault.TheVariants as fault;
 
 use fpl_base::{Bytes, Keeper, KeeperFault, Memory, RecordKey};
@@ -46,11 +46,9 @@ pub fn loaded<K: Keeper>(alloc: Global, keeper: &mut K) -> Result<Restored, Open
         → K.holds keeper.new m) }
     ensures stops { K.tells keeper.new → (m : Map) → K.holds keeper.old m → (x : Map)
         → K.passes keeper.new x → K.passes keeper.old x }
-    ensures told { K.tells keeper.new → K.tells keeper.old }
-    ensures served { K.tells keeper.new → K.serves keeper.new → K.serves keeper.old }
+    ensures later { IsLater K.tells K.serves K.faults keeper.old keeper.new }
     ensures serves { OnOk result (K.tells keeper.new → K.serves keeper.new) }
     ensures failed { result ≡ Err fault.Keeper → Rose (K.faults keeper.old) (K.faults keeper.new) }
-    ensures later { K.faults keeper.old ≤ K.faults keeper.new }
     ensures counts { result ≢ Err fault.Keeper → K.faults keeper.new ≡ K.faults keeper.old }
 {
     match keeper.load(alloc) {

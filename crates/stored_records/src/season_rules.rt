@@ -10,6 +10,7 @@ use crate::kept::Kept;
 use crate::stored::Stored;
 use crate::terms::{Terms, is_locked_place, misses_place};
 use fpl_base::{ClubId, FixtureId, Gw, Moment, PlayerId};
+use player_market::is_price;
 use rule_book::Fixture;
 use season_records::{Item, Slot};
 
@@ -80,7 +81,7 @@ pub fn player_breaks(stored: &Stored, player: PlayerId, club: ClubId, price: u16
     ensures { result ≡ player_breaks stored.now player club price }
 {
     misses(stored, Slot::Club(club.get() as u32))
-        || !is_price(price)
+        || !can_cost(price)
         || is_full(
             stored,
             MOST_PLAYERS,
@@ -90,10 +91,10 @@ pub fn player_breaks(stored: &Stored, player: PlayerId, club: ClubId, price: u16
 }
 
 // Whether a player can have this price, in tenths of a million.
-fn is_price(price: u16) -> bool
+fn can_cost(price: u16) -> bool
     ensures { result ≡ not (is_some (price_refusal price)) }
 {
-    price >= 30 && price <= 200
+    is_price(u32::from(price))
 }
 
 /// Whether a fixture breaks a rule: a club or its gameweek is not there, it kicks off too early, its gameweek is full

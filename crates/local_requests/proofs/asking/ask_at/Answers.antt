@@ -9,4 +9,4 @@ returns-clause-heard g c = λ moments.
     (record { host = c.answer.new.self; moments = moments; failed = g.K.Keeper.faults c.answer.new.keeper; keeper = c.answer.new.keeper })
     c.args.caller c.args.now c.args.request.now c.answer.result
     c.requires.fresh refl c.answer.ensures.operator c.answer.ensures.stale c.answer.ensures.keeper c.answer.ensures.changes c.answer.ensures.caused c.answer.ensures.late c.answer.ensures.stops
-    c.answer.ensures.reread c.answer.ensures.told c.answer.ensures.served c.answer.ensures.answered
+    c.answer.ensures.reread c.answer.ensures.later.1 c.answer.ensures.later.2 c.answer.ensures.answered

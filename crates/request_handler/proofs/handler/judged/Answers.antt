@@ -8,8 +8,8 @@ returns-clause-judged g c =
     (record { host = c.args.host.now; moments = g.C.Clock.left c.args.clock.now; failed = g.K.Keeper.faults c.args.keeper.now; keeper = c.args.keeper.now })
     (record { host = c.answer-answer.new.self; moments = g.C.Clock.left c.now-now.new.self; failed = g.K.Keeper.faults c.answer-answer.new.keeper; keeper = c.answer-answer.new.keeper })
     c.args.caller c.now-now.result c.args.request.now c.answer-answer.result c.replied.result
-    c.requires.fresh c.now-now.ensures.told c.answer-answer.ensures.operator c.answer-answer.ensures.stale c.answer-answer.ensures.keeper c.answer-answer.ensures.changes c.answer-answer.ensures.caused c.answer-answer.ensures.later c.answer-answer.ensures.stops
-    c.replied.ensures.reply c.answer-answer.ensures.reread c.answer-answer.ensures.told c.answer-answer.ensures.served c.answer-answer.ensures.answered
+    c.requires.fresh c.now-now.ensures.told c.answer-answer.ensures.operator c.answer-answer.ensures.stale c.answer-answer.ensures.keeper c.answer-answer.ensures.changes c.answer-answer.ensures.caused c.answer-answer.ensures.later.0 c.answer-answer.ensures.stops
+    c.replied.ensures.reply c.answer-answer.ensures.reread c.answer-answer.ensures.later.1 c.answer-answer.ensures.later.2 c.answer-answer.ensures.answered
 
 pub returns-clause-counts : goal.returns-clause-counts
 returns-clause-counts g c =

@@ -53,7 +53,7 @@ returns-in-Ok-clause-answered g c =
       asked_all (request_seen c.args.message.now) c.in-Route.route c.in-Route.ids c.in-Route.ensures _ g.K.Keeper.tells g.K.Keeper.serves g.K.Keeper.holds g.K.Keeper.passes old.kept mid.kept
           refl c.ready.ensures.operator
           (λ fresh. kept_is _ g.K.Keeper.faults (g.C.Clock.left c.args.clock.now) _ _ _ _ (c.ready.ensures.fresh fresh).1 (c.ready.ensures.fresh fresh).2)
-          c.ready.ensures.reread c.ready.ensures.backs c.ready.ensures.told c.ready.ensures.served new.kept
+          c.ready.ensures.reread c.ready.ensures.backs c.ready.ensures.later.1 c.ready.ensures.later.2 new.kept
           c.answered.result c.in-Ok.ensures.ok (c.in-Ok.ensures.counts (λ is. cc)) c.answered.ensures.answered,
     )
 
@@ -73,7 +73,7 @@ returns-in-Err-clause-answered g c =
       unready_all (request_seen c.args.message.now) c.in-Route.route c.in-Route.ids c.in-Route.ensures _ g.K.Keeper.tells g.K.Keeper.serves g.K.Keeper.holds g.K.Keeper.passes old.kept mid.kept
           refl c.ready.ensures.operator
           (λ fresh. kept_is _ g.K.Keeper.faults (g.C.Clock.left c.args.clock.now) _ _ _ _ (c.ready.ensures.fresh fresh).1 (c.ready.ensures.fresh fresh).2)
-          c.ready.ensures.reread c.ready.ensures.backs c.ready.ensures.told c.ready.ensures.served
-          g.K.Keeper.faults refl refl c.in-Err.fault c.unready.result stale c.in-Err.ensures.err.0 c.ready.ensures.later c.ready.ensures.stops
+          c.ready.ensures.reread c.ready.ensures.backs c.ready.ensures.later.1 c.ready.ensures.later.2
+          g.K.Keeper.faults refl refl c.in-Err.fault c.unready.result stale c.in-Err.ensures.err.0 c.ready.ensures.later.0 c.ready.ensures.stops
           (c.in-Err.ensures.made stale) c.unready.ensures.reply,
     )

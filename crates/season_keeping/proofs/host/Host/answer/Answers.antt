@@ -23,11 +23,11 @@ returns-in-Ok-clause-answered g c = λ book stands.
     let own = ap (λ (rows : HostRows). rows.operator) c.lock.ensures.rows in
     let one = c.in-Ok.ensures.locked book stands in
     let stood = stands_between _ g.K.Keeper.tells g.K.Keeper.serves g.K.Keeper.holds g.K.Keeper.passes first middle last old mid new book here
-    c.in-Ok.ensures.ok c.answer_locked.ensures.told c.answer_locked.ensures.served one in
+    c.in-Ok.ensures.ok c.answer_locked.ensures.later.1 c.answer_locked.ensures.later.2 one in
     let failures : Failures = record { before = g.K.Keeper.faults first; behind = g.K.Keeper.faults last } in
     let two = c.answer_locked.ensures.answered here stood in
     then_leads _ g.K.Keeper.tells g.K.Keeper.serves g.K.Keeper.holds g.K.Keeper.passes first middle last old mid new book here
-    c.in-Ok.ensures.ok c.answer_locked.ensures.told c.answer_locked.ensures.served one
+    c.in-Ok.ensures.ok c.answer_locked.ensures.later.1 c.answer_locked.ensures.later.2 one
     (λ left. MayEnd mid.rows.operator (record { before = g.K.Keeper.faults middle; behind = g.K.Keeper.faults last }) here c.args.caller c.args.now c.args.request.now c.answer_locked.result left)
     (λ left. MayAnswer old.rows.operator failures book c.args.caller c.args.now c.args.request.now c.answer_locked.result left)
     (may_behind old.rows.operator mid.rows.operator (g.K.Keeper.faults first) (g.K.Keeper.faults middle) (g.K.Keeper.faults last) book c.args.caller c.args.now c.args.request.now c.answer_locked.result own
@@ -57,7 +57,7 @@ returns-in-Ok-clause-isolated g c = λ no_memory no_keeper book stands.
     let own = ap (λ (rows : HostRows). rows.operator) c.lock.ensures.rows in
     let one = c.in-Ok.ensures.locked book stands in
     let stood = stands_between _ g.K.Keeper.tells g.K.Keeper.serves g.K.Keeper.holds g.K.Keeper.passes first middle last old mid new book here
-    c.in-Ok.ensures.ok c.answer_locked.ensures.told c.answer_locked.ensures.served one in
+    c.in-Ok.ensures.ok c.answer_locked.ensures.later.1 c.answer_locked.ensures.later.2 one in
     let failures : Failures = record { before = g.K.Keeper.faults first; behind = g.K.Keeper.faults last } in
     let two = c.answer_locked.ensures.answered here stood in
     c.answers_are_isolated.ensures old.rows.operator failures book c.args.caller c.args.now c.args.request.now c.answer_locked.result two.by_rows.0
@@ -76,7 +76,7 @@ returns-in-Ok-clause-late g c = λ is book stands.
     let own = ap (λ (rows : HostRows). rows.operator) c.lock.ensures.rows in
     let one = c.in-Ok.ensures.locked book stands in
     let stood = stands_between _ g.K.Keeper.tells g.K.Keeper.serves g.K.Keeper.holds g.K.Keeper.passes first middle last old mid new book here
-    c.in-Ok.ensures.ok c.answer_locked.ensures.told c.answer_locked.ensures.served one in
+    c.in-Ok.ensures.ok c.answer_locked.ensures.later.1 c.answer_locked.ensures.later.2 one in
     subst (λ (operator : List ℕ). IsOutLate operator here c.args.caller c.args.now c.args.request.now c.answer_locked.result) own (c.answer_locked.ensures.late here stood)
 
 pub returns-in-Ok-clause-granted : goal.returns-in-Ok-clause-granted
@@ -91,7 +91,7 @@ returns-in-Ok-clause-granted g c = λ is book stands.
     let own = ap (λ (rows : HostRows). rows.operator) c.lock.ensures.rows in
     let one = c.in-Ok.ensures.locked book stands in
     let stood = stands_between _ g.K.Keeper.tells g.K.Keeper.serves g.K.Keeper.holds g.K.Keeper.passes first middle last old mid new book here
-    c.in-Ok.ensures.ok c.answer_locked.ensures.told c.answer_locked.ensures.served one in
+    c.in-Ok.ensures.ok c.answer_locked.ensures.later.1 c.answer_locked.ensures.later.2 one in
     subst (λ (operator : List ℕ). IsOutLate operator here c.args.caller c.args.now c.args.request.now c.answer_locked.result) own (c.answer_locked.ensures.late here stood)
 
 pub returns-in-Err-clause-granted : goal.returns-in-Err-clause-granted
@@ -109,7 +109,7 @@ returns-in-Ok-clause-changes g c = λ is book stands.
     let own = ap (λ (rows : HostRows). rows.operator) c.lock.ensures.rows in
     let one = c.in-Ok.ensures.locked book stands in
     let stood = stands_between _ g.K.Keeper.tells g.K.Keeper.serves g.K.Keeper.holds g.K.Keeper.passes first middle last old mid new book here
-    c.in-Ok.ensures.ok c.answer_locked.ensures.told c.answer_locked.ensures.served one in
+    c.in-Ok.ensures.ok c.answer_locked.ensures.later.1 c.answer_locked.ensures.later.2 one in
     subst (λ (operator : List ℕ). WouldChange operator book c.args.caller c.args.now c.args.request.now) own
     (change_of_act mid.rows.operator book c.args.caller c.args.now c.args.request.now (c.answer_locked.ensures.acts is here stood))
 
@@ -129,9 +129,9 @@ returns-in-Ok-clause-restarts g c = λ book stands tell backs x passed.
     let own = ap (λ (rows : HostRows). rows.operator) c.lock.ensures.rows in
     let one = c.in-Ok.ensures.locked book stands in
     let stood = stands_between _ g.K.Keeper.tells g.K.Keeper.serves g.K.Keeper.holds g.K.Keeper.passes first middle last old mid new book here
-    c.in-Ok.ensures.ok c.answer_locked.ensures.told c.answer_locked.ensures.served one in
+    c.in-Ok.ensures.ok c.answer_locked.ensures.later.1 c.answer_locked.ensures.later.2 one in
     let held = backs_between _ g.K.Keeper.tells g.K.Keeper.serves g.K.Keeper.holds g.K.Keeper.passes first middle last old mid new book here
-    c.in-Ok.ensures.ok c.answer_locked.ensures.told c.answer_locked.ensures.served one tell backs in
+    c.in-Ok.ensures.ok c.answer_locked.ensures.later.1 c.answer_locked.ensures.later.2 one tell backs in
     subst (λ (operator : List ℕ). HoldsKept operator book c.args.caller c.args.now c.args.request.now x) own
     (kept_of_ending mid.rows.operator book c.args.caller c.args.now c.args.request.now x held.keepable (c.answer_locked.ensures.stops here stood tell held x passed))
 
@@ -172,7 +172,7 @@ returns-in-Ok-clause-refused g c = λ is some book stands rest.
     let own = ap (λ (rows : HostRows). rows.operator) c.lock.ensures.rows in
     let one = c.in-Ok.ensures.locked book stands in
     let stood = stands_between _ g.K.Keeper.tells g.K.Keeper.serves g.K.Keeper.holds g.K.Keeper.passes c.args.keeper.now c.lock.new.keeper c.answer_locked.new.keeper old mid new book here
-    c.in-Ok.ensures.ok c.answer_locked.ensures.told c.answer_locked.ensures.served one in
+    c.in-Ok.ensures.ok c.answer_locked.ensures.later.1 c.answer_locked.ensures.later.2 one in
     few_from c.args.request.now c.args.steps.now c.lock.new.steps c.answer_locked.new.steps (c.lock.ensures.still is)
     (c.answer_locked.ensures.refused some here stood
     (subst (λ (operator : List ℕ). MayRest operator here c.args.caller c.args.now c.args.request.now) (sym own) rest))
@@ -194,7 +194,7 @@ returns-in-Ok-clause-views g c = λ is book stands.
     let here = pass book c.args.now in
     let one = c.in-Ok.ensures.locked book stands in
     let stood = stands_between _ g.K.Keeper.tells g.K.Keeper.serves g.K.Keeper.holds g.K.Keeper.passes first middle last old mid new book here
-    c.in-Ok.ensures.ok c.answer_locked.ensures.told c.answer_locked.ensures.served one in
+    c.in-Ok.ensures.ok c.answer_locked.ensures.later.1 c.answer_locked.ensures.later.2 one in
     subst (λ (n : ℕ). ReadsFew here c.args.caller c.args.request.now n c.answer_locked.new.steps) (c.lock.ensures.still is) (c.answer_locked.ensures.views here stood)
 
 pub returns-in-Err-clause-views : goal.returns-in-Err-clause-views
