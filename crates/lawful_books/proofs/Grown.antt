@@ -47,6 +47,13 @@ issued_registered entries e = of_entry (entry_in entries e)
     of_entry None is = absurd cc
     of_entry (Some entry) is = refl
 
+pub registered_plays : (entries : List EntryFacts) (start e : ℕ) → plays_from entries start e ≡ true → is_registered entries e ≡ true
+registered_plays entries start e plays = registered_first entries e ∙ of_first (first_of entries e) plays
+  where
+    of_first : (o : Option ℕ) → option_map_or (λ first. nat_le first start) o false ≡ true → is_some o ≡ true
+    of_first None plays = absurd cc
+    of_first (Some g) plays = refl
+
 module _ (before after : List EntryFacts) (grown : IsGrown before after) where
   first_grown : {Y : Type 0} (look : Option ℕ → Y) (e : ℕ) (o : Option ℕ) → first_of before e ≡ o → (y : Y) → (look None ≡ y → ⊥) → look o ≡ y → look (first_of after e) ≡ y
   first_grown look e None at y apart is = absurd (apart is)

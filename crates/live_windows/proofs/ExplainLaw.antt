@@ -13,7 +13,7 @@ use Rattle.rule_book.specs.Scoring.{gain, loss}
 use Rattle.season_book.specs.Explained.{Item, conceded_worth, other_items, points_of_items, saves_worth, told_items}
 use Rattle.season_book.specs.LineSums.{gameweek_lines, line_bonus, line_points}
 use Rattle.season_book.specs.LiveWindow.{explained_items}
-use Rattle.live_windows.specs.LiveLaws.{PointsAreExplained}
+use Rattle.live_windows.specs.LiveLaws.{PointsAreExplained, PointsAreHis}
 
 added : ℤ → List Item → ℤ
 added z items = fold (λ total (it : Item). total +ℤ it.points) z items
@@ -104,3 +104,6 @@ pub points_are_explained : PointsAreExplained
 points_are_explained facts p g =
     sum_same (λ row. points_of_items (explained_items facts p row)) (line_points facts p) (pos 0) (gameweek_lines facts p g)
     (λ row. items_sum facts.profile (position_in facts.players p) row.1 (line_bonus facts p row))
+
+pub points_are_his : PointsAreHis
+points_are_his facts p g = refl
