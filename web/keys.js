@@ -15,14 +15,14 @@ export async function drawKeys(page, entry) {
 	const team = entry && there(entries.find((it) => it.entry === entry));
 	const cards = recall(CARDS) ?? [];
 	const name = nameInput("team-name", { value: team?.name });
-	const another = ({ entry, name }) => make("a", { href: `#/keys/${entry}`, "aria-label": `New key for ${name}` }, "New key");
+	const another = ({ entry, name }) => make("a", { href: `#/keys/${entry}`, "aria-label": `New key for ${name}` }, "New");
 	const row = (it) => [named(it.name), whole(it.entry), whole(it.started_event), another(it)];
 	return [
 		heading(team ? ["A new key for ", named(team.name)] : "Keys"),
 		team && make("p", "The old key lets nobody in any more. The team keeps all that it has."),
 		form("make-key", team ? "Make a new key" : "Make a key", (busy) => makeKey(page, busy, name.value, team), field("Name of the team", name)),
 		cards.length > 0 && cardsOf(page, cards),
-		entries.length > 0 ? table("The teams, with their first gameweek", ["Team", "Number#", "From#", "Key"], entries.map(row)) : quiet("No team yet. Make a key for each manager."),
+		entries.length > 0 ? table("The teams, with their first gameweek", ["Team", "Number#", "From#", "Key#"], entries.map(row)) : quiet("No team yet. Make a key for each manager."),
 	];
 }
 
