@@ -2,11 +2,10 @@
 use Rattle.std.proofs.Common.{zero, suc, ℕ, ℤ, ◌≡◌, ◌∙◌, sym, refl, ap, subst, ◌<◌, ◌≤◌, ◌+◌, ◌≢◌, List, Bool, true, false, cond, length, map, get_or, arith, count_by, AllPairs, IsPermutation, IsSorted, int_lt}
 use Rattle.std.specs.Cmp.{IsTotalOrder, IsStrictWeakOrder, unsigned_Decides}
 use Rattle.std.specs.List.Sorted.{IsSortedBy, IsSortedByKey}
-use Rattle.std.specs.Ordering.{flip_args, int_cmp, is_lt, nat_cmp, ordering_then, ordering_reverse}
+use Rattle.std.specs.Ordering.{flip_args, int_cmp, is_lt, nat_cmp, ordering_then}
 use Rattle.std.specs.declared.cmp.Ordering.{Ordering}
 use Rattle.std.specs.declared.cmp.Ordering.TheVariants.{Less, Equal, Greater}
-use Rattle.std.proofs.lemmas.Bool.Decides.{nat_tests}
-use Rattle.std.proofs.lemmas.Cmp.{int_cmp_total, nat_cmp_total, back_total, tied_itself}
+use Rattle.std.proofs.lemmas.Cmp.{int_cmp_total, back_total}
 use Rattle.std.proofs.lemmas.List.{get_or_default, get_or-map, length-map}
 use Rattle.std.proofs.lemmas.List.Sorted.{ranks_by, sorted_far, IsPermutation-map}
 use Rattle.std.proofs.lemmas.Map.Made.{IsDistinct-from_AllPairs}
@@ -16,6 +15,7 @@ use Rattle.rule_book.proofs.RankLemmas.{count_prefix, rank_among-IsPermutation}
 use Rattle.fixture_windows.specs.Appeared.{pair_of}
 use Rattle.season_book.specs.FixturesWindow.{greatest_first, has_more}
 use Rattle.fixture_windows.specs.declared.told.Told.{Told}
+use Rattle.rule_book.proofs.OneAfterOther.{first_not_less, then_not_less, true_if, not_both, as_each, behind, beside}
 
 -- by how much they have, the greatest first
 abbrev by_value : ℕ × ℤ → ℕ × ℤ → Ordering
@@ -44,34 +44,6 @@ more_is a b = sym (less_by (int_lt b.1 a.1) (int_lt a.1 b.1))
 
 abbrev rank_in : List (ℕ × ℤ) → ℕ × ℤ → ℕ
 rank_in rows row = count_by (λ y. better y row) rows + 1
-
-first_not_less : (a b : Ordering) → is_lt (ordering_then a b) ≡ false → is_lt a ≡ false
-first_not_less Less b e = e
-first_not_less Equal b e = refl
-first_not_less Greater b e = refl
-
-then_not_less : (a b : Ordering) → is_lt (ordering_then a b) ≡ false → is_lt (ordering_reverse a) ≡ false → is_lt b ≡ false
-then_not_less Less b e back = absurd (cc e)
-then_not_less Equal b e back = e
-then_not_less Greater b e back = absurd (cc back)
-
-true_if : (b : Bool) → (b ≡ false → ⊥) → b ≡ true
-true_if true never = refl
-true_if false never = absurd (never refl)
-
-not_both : (b : Bool) → b ≡ true → b ≡ false → ⊥
-not_both b holds fails = absurd (cc (holds, fails))
-
-as_each : (p q : Bool) → (p ≡ false → q ≡ false) → (q ≡ false → p ≡ false) → p ≡ q
-as_each true true up down = refl
-as_each true false up down = absurd (not_both true refl (down refl))
-as_each false q up down = sym (up refl)
-
-behind : (a b : ℕ) (o : Ordering) → b < a → is_lt (ordering_then (nat_cmp a b) o) ≡ false
-behind a b o less = grind (arith, nat_tests)
-
-beside : (a b : ℕ) (o : Ordering) → a ≡ b → is_lt o ≡ false → is_lt (ordering_then (nat_cmp a b) o) ≡ false
-beside a b o same less = ap (λ n. is_lt (ordering_then (nat_cmp n b) o)) same ∙ ap (λ t. is_lt (ordering_then t o)) (tied_itself nat_cmp_total b) ∙ less
 
 module _ (rows : List (ℕ × ℤ)) (sorted : IsSorted by_told rows) where
   by_values : IsSortedBy better rows

@@ -3,9 +3,8 @@ use Rattle.std.proofs.Common.{◌≡◌, ◌≤◌, ◌+◌, ◌-◌, ◌/◌, �
 use Rattle.std.specs.Fmt.{decimal}
 use Rattle.std.proofs.lemmas.Fmt.{decimal_injective}
 use Rattle.std.proofs.lemmas.Grind.{same_number_lists}
-use Rattle.fpl_base.specs.Letters.{letter_of}
+use Rattle.fpl_base.proofs.OneLetter.{same_letter}
 use Rattle.fpl_base.specs.declared.kinds.Position.{Position}
-use Rattle.fpl_base.specs.declared.kinds.Position.TheVariants.{Keeper, Defender, Midfielder, Forward}
 use Rattle.fpl_base.specs.declared.kinds.Profile.{Profile}
 use Rattle.season_book.specs.declared.command.Command.{Command}
 use Rattle.season_book.specs.declared.command.Command.TheVariants as command
@@ -36,27 +35,6 @@ one_club before fields a b p q =
     let names : a.1 ≡ b.1 = head_same (tail_same e) in
     let make : ℕ → List ℕ → ℕ × List ℕ = λ id name. (id, name) in
     ap (λ n. make n a.1) ids ∙ ap (λ n. make b.0 n) names
-
-heads : (xs ys : List ℕ) → xs ≡ ys → get_or xs 0 0 ≡ get_or ys 0 0
-heads xs ys e = ap (λ zs. get_or zs 0 0) e
-
-same_letter : (p q : Position) → letter_of p ≡ letter_of q → p ≡ q
-same_letter Keeper Keeper e = refl
-same_letter Keeper Defender e = absurd (omega (arith, heads _ _ e))
-same_letter Keeper Midfielder e = absurd (omega (arith, heads _ _ e))
-same_letter Keeper Forward e = absurd (omega (arith, heads _ _ e))
-same_letter Defender Keeper e = absurd (omega (arith, heads _ _ e))
-same_letter Defender Defender e = refl
-same_letter Defender Midfielder e = absurd (omega (arith, heads _ _ e))
-same_letter Defender Forward e = absurd (omega (arith, heads _ _ e))
-same_letter Midfielder Keeper e = absurd (omega (arith, heads _ _ e))
-same_letter Midfielder Defender e = absurd (omega (arith, heads _ _ e))
-same_letter Midfielder Midfielder e = refl
-same_letter Midfielder Forward e = absurd (omega (arith, heads _ _ e))
-same_letter Forward Keeper e = absurd (omega (arith, heads _ _ e))
-same_letter Forward Defender e = absurd (omega (arith, heads _ _ e))
-same_letter Forward Midfielder e = absurd (omega (arith, heads _ _ e))
-same_letter Forward Forward e = refl
 
 make_player : ℕ → List ℕ → Position → ℕ → ℕ → PlayerRow
 make_player id name position club price = record { id = id; name = name; position = position; club = club; price = price }

@@ -5,7 +5,7 @@ use Rattle.std.proofs.lemmas.Bool.Decides.{nat_tests}
 use Rattle.std.proofs.lemmas.List.{length-set, get_or-set_same, get_or-set_other}
 use Rattle.std.proofs.lemmas.Option.{none-some}
 use Rattle.rule_book.specs.Calendar.{first_out_of_order, is_after_previous, is_before_next}
-use Rattle.stored_records.proofs.Deadlines.{first_late, none_late}
+use Rattle.rule_book.proofs.Deadlines.{first_late, none_late}
 
 -- each of the first few is before the next
 pub rises_to : (ds : List ℕ) → first_out_of_order ds ≡ None → (i : ℕ) → i ≤ length ds → (k : ℕ) → k + 1 < i → get_or ds k 0 < get_or ds (k + 1) 0

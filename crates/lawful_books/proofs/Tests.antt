@@ -1,7 +1,7 @@
 -- What a test of each element says, and what no broken rule says.
-use Rattle.std.proofs.Common.{◌≡◌, ℕ, Bool, true, false, not, ◌||◌, ◌==◌, List, [], ◌∷◌, Option, Some, None, refl, sym, ap, subst, ◌∙◌, inl, inr, arith}
+use Rattle.std.proofs.Common.{◌≡◌, ℕ, Bool, true, false, not, ◌||◌, ◌==◌, List, [], ◌∷◌, Option, Some, None, refl, sym, ap, ◌∙◌, arith}
 use Rattle.std.specs.List.{list_all, list_any}
-use Rattle.std.proofs.lemmas.Bool.{and_from, and_parts, cases_eq, or_from}
+use Rattle.std.proofs.lemmas.Bool.{and_from, and_parts, or_from}
 use Rattle.std.proofs.lemmas.Bool.Decides.{nat_tests}
 use Rattle.std.proofs.lemmas.Option.{none-some}
 use Rattle.fpl_base.specs.declared.rule.Rule.{Rule}
@@ -21,18 +21,6 @@ module _ {X : Type 0} (p q : X → Bool) (shows : (x : X) → p x ≡ true → q
   none_fails (x ∷ xs) all =
       let both = and_parts (p x) (list_all p xs) all in
       or_from (not (q x)) (list_any (λ x. not (q x)) xs) (ap not (shows x both.0)) (none_fails xs both.1)
-
--- an element of numbers, and all of them
-pub passes_among : (p : ℕ → Bool) (es : List ℕ) (e : ℕ) → list_all p es ≡ true → list_any (λ m. m == e) es ≡ true → p e ≡ true
-passes_among p [] e all among = absurd cc
-passes_among p (m ∷ es) e all among =
-    let both = and_parts (p m) (list_all p es) all in
-    elim (cases_eq m e) [
-      | inl same ↦ subst (λ e. p e ≡ true) same both.0
-      | inr other ↦
-          let apart : (m == e) ≡ false = grind (arith, nat_tests, other) in
-          passes_among p es e both.1 (sym (ap (λ b. b || list_any (λ m. m == e) es) apart) ∙ among)
-    ]
 
 pub all_among : (p : ℕ → Bool) (es : List ℕ) → ((e : ℕ) → list_any (λ m. m == e) es ≡ true → p e ≡ true) → list_all p es ≡ true
 all_among p [] each = refl

@@ -2,11 +2,9 @@
 use Rattle.std.proofs.Common.{zero, suc, ℕ, ◌≡◌, ◌∙◌, sym, refl, ap, ◌<◌, ◌≤◌, ◌+◌, List, Bool, true, false, length, map, get_or, arith, count_by, IsSorted}
 use Rattle.std.specs.Cmp.{IsTotalOrder, IsStrictWeakOrder}
 use Rattle.std.specs.List.Sorted.{IsSortedByKey}
-use Rattle.std.specs.Ordering.{is_lt, nat_cmp, ordering_then, ordering_reverse}
+use Rattle.std.specs.Ordering.{is_lt, nat_cmp}
 use Rattle.std.specs.declared.cmp.Ordering.{Ordering}
-use Rattle.std.specs.declared.cmp.Ordering.TheVariants.{Less, Equal, Greater}
-use Rattle.std.proofs.lemmas.Bool.Decides.{nat_tests}
-use Rattle.std.proofs.lemmas.Cmp.{int_cmp_total, nat_cmp_total, on_total, then_total, back_total, tied_itself}
+use Rattle.std.proofs.lemmas.Cmp.{int_cmp_total, nat_cmp_total, on_total, then_total, back_total}
 use Rattle.std.proofs.lemmas.List.{get_or_default, get_or-map, length-map}
 use Rattle.std.proofs.lemmas.List.Sorted.{ranks_by, sorted_far}
 use Rattle.rule_book.specs.Ranks.{by_rank}
@@ -15,6 +13,7 @@ use Rattle.rule_book.proofs.RankLemmas.{count_prefix}
 use Rattle.leagues_and_cups.specs.ClassicStanding.{by_standing, by_place, rank_placed, ranked_placed}
 use Rattle.leagues_and_cups.specs.declared.classic_table.Placed.{Placed}
 use Rattle.leagues_and_cups.specs.declared.classic_table.Standing.{Standing}
+use Rattle.rule_book.proofs.OneAfterOther.{first_not_less, then_not_less, true_if, not_both, as_each, behind, beside}
 
 standing_total : IsTotalOrder by_standing
 standing_total = then_total (back_total (on_total (λ (s : Standing). s.total.0) int_cmp_total)) (on_total (λ (s : Standing). s.transfers) nat_cmp_total)
@@ -25,34 +24,6 @@ better a b = is_lt (by_standing a.standing b.standing)
 
 weak : IsStrictWeakOrder better
 weak = ranks_by standing_total (λ (row : Placed). row.standing)
-
-first_not_less : (a b : Ordering) → is_lt (ordering_then a b) ≡ false → is_lt a ≡ false
-first_not_less Less b e = e
-first_not_less Equal b e = refl
-first_not_less Greater b e = refl
-
-then_not_less : (a b : Ordering) → is_lt (ordering_then a b) ≡ false → is_lt (ordering_reverse a) ≡ false → is_lt b ≡ false
-then_not_less Less b e back = absurd (cc e)
-then_not_less Equal b e back = e
-then_not_less Greater b e back = absurd (cc back)
-
-true_if : (b : Bool) → (b ≡ false → ⊥) → b ≡ true
-true_if true never = refl
-true_if false never = absurd (never refl)
-
-not_both : (b : Bool) → b ≡ true → b ≡ false → ⊥
-not_both b holds fails = absurd (cc (holds, fails))
-
-as_each : (p q : Bool) → (p ≡ false → q ≡ false) → (q ≡ false → p ≡ false) → p ≡ q
-as_each true true up down = refl
-as_each true false up down = absurd (not_both true refl (down refl))
-as_each false q up down = sym (up refl)
-
-behind : (a b : ℕ) (o : Ordering) → b < a → is_lt (ordering_then (nat_cmp a b) o) ≡ false
-behind a b o less = grind (arith, nat_tests)
-
-beside : (a b : ℕ) (o : Ordering) → a ≡ b → is_lt o ≡ false → is_lt (ordering_then (nat_cmp a b) o) ≡ false
-beside a b o same less = ap (λ n. is_lt (ordering_then (nat_cmp n b) o)) same ∙ ap (λ t. is_lt (ordering_then t o)) (tied_itself nat_cmp_total b) ∙ less
 
 module _ (rows : List Placed) (sorted : IsSorted by_place rows) where
   by_standings : IsSortedByKey (λ (row : Placed). row.standing) by_standing rows

@@ -1,5 +1,5 @@
 -- A manager in order whose rows tell what an entry's history tells stands for that entry.
-use Rattle.std.proofs.Common.{◌≡◌, ◌+◌, ◌-◌, ◌==◌, ◌++◌, ◌&&◌, ℕ, suc, Bool, true, false, cond, List, [], ◌∷◌, Option, Some, None, map, length, nat_eq, arith, refl, sym, ap, ◌∙◌, subst, if◌then◌else◌}
+use Rattle.std.proofs.Common.{◌≡◌, ◌+◌, ◌-◌, ◌==◌, ℕ, Bool, true, false, cond, List, [], ◌∷◌, Option, Some, None, map, length, arith, refl, sym, ap, ◌∙◌, subst, if◌then◌else◌}
 use Rattle.std.specs.List.{AllByRecursion as Each}
 use Rattle.std.specs.Option.{option_map}
 use Rattle.std.proofs.lemmas.Bool.{false≢true}
@@ -14,12 +14,10 @@ use Rattle.rule_book.specs.declared.team.Team.{Team}
 use Rattle.rule_book.specs.declared.transfers.Sale.{Sale}
 use Rattle.rule_book.specs.Batch.{HavePositions}
 use Rattle.rule_book.specs.Entries.{entry_in}
-use Rattle.rule_book.specs.EntryRecords.{sales_in, sold_by, sold_in}
+use Rattle.rule_book.specs.EntryRecords.{sales_in, sold_in}
 use Rattle.rule_book.specs.History.{Deed, Event, is_touched, kept}
-use Rattle.rule_book.specs.History.Deed.{First, Swap, Lineup, Play, Cancel}
 use Rattle.rule_book.specs.HistorySquad.{bought_at, earned, order_of, picks_of, spent}
 use Rattle.rule_book.specs.HistoryTeam.{IsTeam}
-use Rattle.rule_book.specs.HistoryTransfers.{is_swap, swaps_in}
 use Rattle.rule_book.specs.TeamOfHistory.{CanPay, team_of}
 use Rattle.rule_book.proofs.TeamFacts.{team_is_the_one}
 use Rattle.season_ledger.specs.Rows.{row_at}
@@ -36,6 +34,7 @@ use Rattle.season_records.proofs.Determined.{numbers_determined}
 use Rattle.season_records.proofs.FactsTold.{unmapped}
 use Rattle.record_changes.specs.Ordered.{IsManagerInOrder, IsRowInOrder}
 use Rattle.record_changes.specs.RowsTold.{manager_item, team_by, transfer_by}
+use Rattle.season_ledger.proofs.Restored.{sold_count}
 
 -- What is read back.
 
@@ -103,23 +102,6 @@ is_team position e g h t pays is same =
 pays_there : (position : ℕ → Position) (h : List Event) (g : ℕ) (o : Option Standing) → Tells position h g o → is_touched h g ≡ true → CanPay h g
 pays_there position h g None bare here = absurd (false≢true (sym bare ∙ here))
 pays_there position h g (Some s) tells here = ((team_is_the_one position h g s.team).0 tells.1).0
-
--- a history has as many transfers as swaps
-sold_count : (h : List Event) (g : ℕ) → length (sold_in h g) ≡ swaps_in h g
-sold_count [] g = refl
-sold_count (e ∷ h) g = by_deed e.deed (nat_eq e.gw g) (sold_count h g)
-  where
-    by_deed : (d : Deed) (b : Bool) → length (sold_in h g) ≡ swaps_in h g → length (cond b (sold_by d ++ sold_in h g) (sold_in h g)) ≡ cond (b && is_swap d) (suc (swaps_in h g)) (swaps_in h g)
-    by_deed (First squad captain vice) true i = i
-    by_deed (First squad captain vice) false i = i
-    by_deed (Swap sale) true i = ap suc i
-    by_deed (Swap sale) false i = i
-    by_deed (Lineup players captain vice) true i = i
-    by_deed (Lineup players captain vice) false i = i
-    by_deed (Play chip) true i = i
-    by_deed (Play chip) false i = i
-    by_deed Cancel true i = i
-    by_deed Cancel false i = i
 
 -- what holds of each row holds of the one that is found
 same_number : (a b : ℕ) → (a == b) ≡ true → a ≡ b

@@ -1,10 +1,12 @@
 pub mod AgreeFacts
 pub mod AtId
 pub mod Examples
+pub mod OneAfterOther
 pub mod OrderFacts
 pub mod Placed
 pub mod RangeFacts
 pub mod RankLemmas
+pub mod SheetFacts
 pub mod TableLemmas
 pub mod TableOrder
 pub mod TeamFacts
@@ -12,5 +14,6 @@ pub mod UpToFacts
 pub mod Worked
 pub mod WorkedLeagues
 pub mod WorkedSeason
+pub mod Deadlines
 pub mod DetailsFacts
 pub mod HadFacts

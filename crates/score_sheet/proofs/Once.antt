@@ -1,15 +1,14 @@
 -- An input is read, and its rows are spelled, in one way.
-use Rattle.std.proofs.Common.{◌≡◌, ◌<◌, ◌+◌, ◌++◌, [], ◌∷◌, ℕ, List, length, get_or, None, arith, refl, sym, ap, ◌∙◌}
+use Rattle.std.proofs.Common.{◌≡◌, ◌<◌, ◌+◌, ◌++◌, [], ◌∷◌, ℕ, List, length, None, arith, refl, sym, ap, ◌∙◌}
 use Rattle.csv.specs.Machine.{Read, next_record}
 use Rattle.csv.specs.Reading.{Reached, AreRecords}
 use Rattle.csv.specs.Records.{field_at}
 use Rattle.csv.specs.declared.parser.Config.{Config}
 use Rattle.csv.specs.declared.parser.State.{State}
-use Rattle.fpl_base.specs.declared.kinds.Position.{Position}
-use Rattle.fpl_base.specs.declared.kinds.Position.TheVariants.{Keeper, Defender, Midfielder, Forward}
 use Rattle.rule_book.specs.declared.line.Appearance.{Appearance}
 use Rattle.rule_book.specs.declared.line.Line.{Line}
-use Rattle.fpl_base.specs.Letters.{letter_of}
+use Rattle.fpl_base.proofs.OneLetter.{same_letter}
+use Rattle.fpl_base.specs.declared.kinds.Position.{Position}
 use Rattle.score_sheet.specs.Rows.{Spells, Adds, AddAll, AreRows, IsWrongAt}
 use Rattle.fpl_base.specs.declared.kinds.Profile.{Profile}
 use Rattle.score_sheet.specs.Sheets.{Scores, HasWrongRow}
@@ -32,27 +31,6 @@ same_records cfg s s2 s3 xs ys zs (a ∷ as_) (b ∷ bs) p pe q qe =
 
 pub one_reading : (cfg : Config) (s : State) (xs : List ℕ) (a b : List (List (List ℕ))) → AreRecords cfg s xs a → AreRecords cfg s xs b → a ≡ b
 one_reading cfg s xs a b p q = same_records cfg s p.0 q.0 xs p.1 q.1 a b p.2 p.3 q.2 q.3
-
-heads : (xs ys : List ℕ) → xs ≡ ys → get_or xs 0 0 ≡ get_or ys 0 0
-heads xs ys e = ap (λ zs. get_or zs 0 0) e
-
-same_letter : (p q : Position) → letter_of p ≡ letter_of q → p ≡ q
-same_letter Keeper Keeper e = refl
-same_letter Keeper Defender e = absurd (omega (arith, heads _ _ e))
-same_letter Keeper Midfielder e = absurd (omega (arith, heads _ _ e))
-same_letter Keeper Forward e = absurd (omega (arith, heads _ _ e))
-same_letter Defender Keeper e = absurd (omega (arith, heads _ _ e))
-same_letter Defender Defender e = refl
-same_letter Defender Midfielder e = absurd (omega (arith, heads _ _ e))
-same_letter Defender Forward e = absurd (omega (arith, heads _ _ e))
-same_letter Midfielder Keeper e = absurd (omega (arith, heads _ _ e))
-same_letter Midfielder Defender e = absurd (omega (arith, heads _ _ e))
-same_letter Midfielder Midfielder e = refl
-same_letter Midfielder Forward e = absurd (omega (arith, heads _ _ e))
-same_letter Forward Keeper e = absurd (omega (arith, heads _ _ e))
-same_letter Forward Defender e = absurd (omega (arith, heads _ _ e))
-same_letter Forward Midfielder e = absurd (omega (arith, heads _ _ e))
-same_letter Forward Forward e = refl
 
 -- fields spell one row
 same_row : (fields : List (List ℕ)) (a b : Appearance) → Spells fields a → Spells fields b → a ≡ b

@@ -7,7 +7,8 @@ use Rattle.std.proofs.lemmas.Bool.{cases_Bool, eq-eqb, ne_eqb}
 use Rattle.rule_book.specs.declared.season.Fixture.{Fixture}
 use Rattle.rule_book.specs.Calendar.{standing_among, is_gameweek, is_early}
 use Rattle.season_calendar.specs.Kept.{is_there_early}
-use Rattle.season_calendar.proofs.Around.{All-take_from, AllPairs-head, AllPairs-tail, find_behind, parts_at}
+use Rattle.fpl_base.proofs.Around.{All-take_from, AllPairs-head, AllPairs-tail, parts_at}
+use Rattle.season_calendar.proofs.Around.{find_behind}
 
 -- the first of a list of numbers that passes
 pub first_passes : (p : ℕ → Bool) (ns : List ℕ) (k d : ℕ) → k < length ns → ((j e : ℕ) → j < k → p (get_or ns j e) ≡ false) → p (get_or ns k d) ≡ true → find p ns ≡ Some (get_or ns k d)

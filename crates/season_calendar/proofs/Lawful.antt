@@ -16,7 +16,8 @@ use Rattle.rule_book.specs.Refusals.{first_broken}
 use Rattle.rule_book.specs.Calendar.{CalendarFacts, IsCalendar, StandsRightly, standing, standing_among, is_gameweek, is_early, is_after_previous, is_before_next, with_deadline, with_fixture, gameweek_full, kickoff_early}
 use Rattle.season_calendar.specs.Kept.{AreStanding, IsKept, IsAt, IsGap, ids_with, ids_without, put_in, taken_out}
 use Rattle.rule_book.specs.CalendarCalls.{place_refusal}
-use Rattle.season_calendar.proofs.Around.{filter_none, filter_front, filter_back, none_found, AllPairs-head, AllPairs-tail, AllPairs-middle, parts_at, set_parts}
+use Rattle.fpl_base.proofs.Around.{AllPairs-head, AllPairs-tail, AllPairs-middle, parts_at, set_parts}
+use Rattle.season_calendar.proofs.Around.{filter_none, filter_front, filter_back, none_found}
 use Rattle.season_calendar.proofs.Locks.{rise_with}
 use Rattle.season_calendar.proofs.Standing.{Before, After, InSeason, standing-away, standing-without, standing-others, length-standing_here, lists_put_in, lists_taken_out}
 

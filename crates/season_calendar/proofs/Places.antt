@@ -11,7 +11,8 @@ use Rattle.std.proofs.lemmas.Bool.Decides.{nat_tests}
 use Rattle.rule_book.specs.declared.season.Fixture.{Fixture}
 use Rattle.rule_book.specs.Calendar.{between, moved_to}
 use Rattle.season_calendar.specs.Kept.{IsAt, IsGap}
-use Rattle.season_calendar.proofs.Around.{All-take_from, All-drop_from, find_none, find_behind, parts_at, set_parts}
+use Rattle.fpl_base.proofs.Around.{All-take_from, All-drop_from, parts_at, set_parts}
+use Rattle.season_calendar.proofs.Around.{find_none, find_behind}
 
 -- an earlier fixture has no greater id
 id_later : (xs : List Fixture) (i j : ℕ) (d : Fixture) → AllPairs (λ x y. x.id < y.id) xs → i ≤ j → j < length xs → (get_or xs i d).id ≤ (get_or xs j d).id

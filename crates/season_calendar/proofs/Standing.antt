@@ -9,7 +9,8 @@ use Rattle.rule_book.specs.declared.season.Fixture.{Fixture}
 use Rattle.rule_book.specs.Calendar.{standing_among, is_gameweek}
 use Rattle.season_calendar.specs.Kept.{AreStanding, ids_with, ids_without, put_in, taken_out}
 use Rattle.std.specs.List.Sorted.{IsPartitionPoint}
-use Rattle.season_calendar.proofs.Around.{filter_all, filter_front, filter_back, All-take_from, All-drop_from}
+use Rattle.fpl_base.proofs.Around.{All-take_from, All-drop_from}
+use Rattle.season_calendar.proofs.Around.{filter_all, filter_front, filter_back}
 
 -- all before the key, and all after it
 abbrev pub Before : ℕ → List Fixture → Type 0

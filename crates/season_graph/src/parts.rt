@@ -148,15 +148,9 @@ fn part_at(books: &Books, part: &Part, place: usize) -> Option<Part>
         Part::Fixtures => fixture_at(books, place),
         Part::Fixture(fixture) => line_at(books, fixture, place),
         Part::Players(first) => player_at(books, first, place),
-        Part::Player(player, first) => {
-            let gameweek = gameweek_at(books, u32::from(first) + 1, place)?;
-            Some(Part::One(Node::PlayerGw(player, gameweek)))
-        }
+        Part::Player(player, first) => player_gameweek_at(books, player, first, place),
         Part::Entries(first) => Some(Part::Entry(entry_at(books, place)?, first)),
-        Part::Entry(entry, first) => {
-            let gameweek = gameweek_at(books, u32::from(first) + 1, place)?;
-            Some(Part::One(Node::TeamGw(entry, gameweek)))
-        }
+        Part::Entry(entry, first) => team_gameweek_at(books, entry, first, place),
         Part::Teams(gameweek) => Some(Part::One(Node::TeamGw(entry_at(books, place)?, gameweek))),
         Part::Totals(first) => totals_at(books, first, place),
         Part::TotalsOf(entry) => total_at(books, entry, place),
@@ -181,6 +175,22 @@ fn part_at(books: &Books, part: &Part, place: usize) -> Option<Part>
         }
         Part::CupRound(cup, gameweek) => tie_at(books, cup, gameweek, place),
     }
+}
+
+// The node at a place of the gameweeks of a player behind the first ones.
+fn player_gameweek_at(books: &Books, player: PlayerId, first: u8, place: usize) -> Option<Part>
+    ensures { result ≡ slice_get (parts_of (facts_of books.now) (Part.Player player first)) place }
+{
+    let gameweek = gameweek_at(books, u32::from(first) + 1, place)?;
+    Some(Part::One(Node::PlayerGw(player, gameweek)))
+}
+
+// The node at a place of the gameweeks of an entry behind the first ones.
+fn team_gameweek_at(books: &Books, entry: EntryId, first: u8, place: usize) -> Option<Part>
+    ensures { result ≡ slice_get (parts_of (facts_of books.now) (Part.Entry entry first)) place }
+{
+    let gameweek = gameweek_at(books, u32::from(first) + 1, place)?;
+    Some(Part::One(Node::TeamGw(entry, gameweek)))
 }
 
 // The part at a place of all nodes.

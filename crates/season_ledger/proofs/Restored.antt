@@ -115,8 +115,8 @@ fit_rows first teams sales r (x ∷ l) same rise = (own (same x.0 x.1 (let u : n
 pub kept_rows : (teams : List (ℕ × Team)) (sales : List (ℕ × Sale)) → (first : Option ℕ) × AreEntryRecords first teams sales → IsKept (rows_of_records teams sales)
 kept_rows teams sales p = record { rise = rise_rows teams sales p.1.rise; bare = bare_rows teams sales p.1.bare; fit = fit_rows p.0 teams sales p.1 teams (λ g t e. e) p.1.rise }
 
--- the swaps of a history
-sold_count : (h : List Event) (g : ℕ) → length (sold_in h g) ≡ swaps_in h g
+-- a history has as many transfers as swaps
+pub sold_count : (h : List Event) (g : ℕ) → length (sold_in h g) ≡ swaps_in h g
 sold_count [] g = refl
 sold_count (e ∷ h) g = by_deed e.deed (nat_eq e.gw g) (sold_count h g)
   where

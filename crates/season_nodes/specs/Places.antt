@@ -69,7 +69,8 @@ own_place order differ i within =
           ]
         ]
 
-listed : (n : ℕ) (leagues : List LeagueFacts) (e i : ℕ) (league : LeagueFacts) → slice_get leagues i ≡ Some league → is_member league e ≡ true → Among (leagues_from n leagues e) (n + i)
+-- the leagues of an entry are those of which it is a member
+pub listed : (n : ℕ) (leagues : List LeagueFacts) (e i : ℕ) (league : LeagueFacts) → slice_get leagues i ≡ Some league → is_member league e ≡ true → Among (leagues_from n leagues e) (n + i)
 listed n [] e i league at is = absurd (cc)
 listed n (x ∷ xs) e zero league at is =
     let same : n ≡ n + 0 = omega arith in

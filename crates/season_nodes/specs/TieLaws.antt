@@ -1,11 +1,10 @@
 -- The ties of a bracket: how many there are, which two lead to one, and who can reach it.
-use Rattle.std.proofs.Common.{◌≡◌, ℕ, zero, suc, ◌+◌, ◌-◌, ◌*◌, ◌/◌, ◌^◌, ◌<◌, ◌≤◌, ◌==◌, Bool, true, false, ◌||◌, cond, ◌⊎◌, inl, inr, ⊎_elim, List, [], ◌∷◌, Option, Some, None, length, refl, sym, ◌∙◌, ap, subst, arith}
+use Rattle.std.proofs.Common.{◌≡◌, ℕ, zero, suc, ◌+◌, ◌-◌, ◌*◌, ◌/◌, ◌^◌, ◌<◌, ◌≤◌, ◌==◌, Bool, true, false, cond, ◌⊎◌, inl, inr, ⊎_elim, List, [], ◌∷◌, Option, Some, None, length, refl, sym, ◌∙◌, ap, subst, arith}
 use Rattle.std.specs.List.{slice_get}
 use Rattle.std.specs.Option.{unwrap_or}
 use Rattle.std.proofs.Math.Nat.{add-sub_of_le, div-eq_of_lt, mul-div-le, mul-div_cancel_left, mul-le-mul_left, pow-le-pow_right}
 use Rattle.std.proofs.Math.Pow.{pow-lt}
 use Rattle.std.proofs.lemmas.Bool.{cases_lt}
-use Rattle.std.proofs.lemmas.Bool.Decides.{nat_tests}
 use Rattle.std.proofs.lemmas.Nat.{pow-add, pow_pos, shr-shr, shr_le}
 use Rattle.std.proofs.lemmas.Option.{slice_get_within}
 use Rattle.rule_book.specs.Entries.{entry_in}
@@ -13,29 +12,12 @@ use Rattle.rule_book.specs.declared.cup.Bracket.{Bracket}
 use Rattle.rescore_graph.specs.Graph.{Among}
 use Rattle.leagues_and_cups.specs.Shapes.{IsTieAfter}
 use Rattle.season_nodes.specs.Brackets.{bracket_in, is_in, no_bracket, ties_after}
-
-same_id : (n m : ℕ) → (n == m) ≡ true → n ≡ m
-same_id n m e = grind (arith, nat_tests)
-
-same_test : (n m : ℕ) → n ≡ m → (n == m) ≡ true
-same_test n m e = grind (arith, nat_tests)
-
-or_case : (x y : Bool) → (x || y) ≡ true → (x ≡ true) ⊎ (y ≡ true)
-or_case true y e = inl refl
-or_case false y e = inr e
-
-or_left : (x y : Bool) → x ≡ true → (x || y) ≡ true
-or_left true y e = refl
-or_left false y e = absurd (cc)
-
-or_right : (x y : Bool) → y ≡ true → (x || y) ≡ true
-or_right true y e = refl
-or_right false y e = e
+use Rattle.season_nodes.specs.Reading.{or_case, or_left, or_right, same_number, same_test}
 
 -- who is in some slots is among them
 pub in_slots : (slots : List ℕ) (e : ℕ) → is_in slots e ≡ true → Among slots e
 in_slots [] e is = absurd (cc)
-in_slots (slot ∷ slots) e is = ⊎_elim (λ t. inl (same_id slot e t)) (λ r. inr (in_slots slots e r)) (or_case (slot == e) (is_in slots e) is)
+in_slots (slot ∷ slots) e is = ⊎_elim (λ t. inl (same_number slot e t)) (λ r. inr (in_slots slots e r)) (or_case (slot == e) (is_in slots e) is)
 
 pub slots_in : (slots : List ℕ) (e : ℕ) → Among slots e → is_in slots e ≡ true
 slots_in [] e a = absurd a

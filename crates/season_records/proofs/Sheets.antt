@@ -1,12 +1,12 @@
 -- What is found of lines and sheets once others stand in place of some.
-use Rattle.std.proofs.Common.{ℕ, ◌≡◌, ◌==◌, Bool, true, false, [], ◌∷◌, None, fold, inl, inr, length, arith, refl, sym, ap, subst, ◌∙◌, unwrap_or, if◌then◌else◌}
+use Rattle.std.proofs.Common.{ℕ, ◌≡◌, ◌==◌, Bool, false, [], ◌∷◌, None, fold, inl, inr, arith, refl, sym, ap, subst, ◌∙◌}
 use Rattle.std.specs.List.{list_any}
 use Rattle.std.proofs.lemmas.Bool.Decides.{nat_tests}
 use Rattle.std.proofs.lemmas.Bool.{cases_eq}
 use Rattle.rule_book.specs.declared.line.Line.{Line}
-use Rattle.rule_book.specs.ById.{at_id, placed_at}
-use Rattle.rule_book.specs.MatchFacts.{Lines, Sheet, bare_sheet, by_player, line_in, players_in, tells_facts, MatchFacts, with_line, with_sheet, without_line, sheet_of}
-use Rattle.rule_book.proofs.AtId.{one_other, one_same, placed_other, placed_same}
+use Rattle.rule_book.specs.MatchFacts.{Lines, Sheet, by_player, line_in, players_in, tells_facts, MatchFacts, with_line, with_sheet, without_line, sheet_of}
+use Rattle.rule_book.proofs.AtId.{one_other, placed_other}
+use Rattle.rule_book.proofs.SheetFacts.{found_other, found_same}
 
 -- another player's line stays
 pub line_beside : (lines : Lines) (p : ℕ) (line : Line) (q : ℕ) → (q ≡ p → ⊥) → line_in lines q ≡ line_in (with_line lines p line) q
@@ -30,26 +30,6 @@ no_line_put q (row ∷ lines) so_far none apart =
 
 pub no_line_by_player : (q : ℕ) (lines : Lines) → list_any (λ p. p == q) (players_in lines) ≡ false → line_in (by_player lines) q ≡ None
 no_line_by_player q lines apart = no_line_put q lines [] refl apart
-
-no_lines : (lines : Lines) → length lines ≡ 0 → lines ≡ []
-no_lines [] e = refl
-no_lines (row ∷ lines) e = absurd (omega arith)
-
--- a sheet that tells nothing is the bare one
-bare : (sheet : Sheet) → tells_facts sheet ≡ false → sheet ≡ bare_sheet
-bare sheet e =
-    let not_finished : sheet.finished ≡ false = grind (arith, nat_tests, e) in
-    let none : length sheet.lines ≡ 0 = grind (arith, nat_tests, e) in
-    λ i. record { lines = no_lines sheet.lines none i; finished = not_finished i }
-
-module _ (facts : MatchFacts) (fixture : ℕ) (sheet : Sheet) where
-  found_same : (b : Bool) → tells_facts sheet ≡ b → unwrap_or (at_id (placed_at facts fixture (if b then (fixture, sheet) ∷ [] else [])) fixture) bare_sheet ≡ sheet
-  found_same true e = ap (λ o. unwrap_or o bare_sheet) (placed_same facts ((fixture, sheet) ∷ []) fixture ∙ one_same fixture sheet)
-  found_same false e = ap (λ o. unwrap_or o bare_sheet) (placed_same facts [] fixture) ∙ sym (bare sheet e)
-
-  found_other : (b : Bool) (other : ℕ) → (other ≡ fixture → ⊥) → unwrap_or (at_id (placed_at facts fixture (if b then (fixture, sheet) ∷ [] else [])) other) bare_sheet ≡ sheet_of facts other
-  found_other true other apart = ap (λ o. unwrap_or o bare_sheet) (placed_other facts ((fixture, sheet) ∷ []) fixture other apart (one_other fixture other sheet apart))
-  found_other false other apart = ap (λ o. unwrap_or o bare_sheet) (placed_other facts [] fixture other apart refl)
 
 -- what is looked at in a fixture's sheet stays where the new sheet of a fixture shows the same
 pub sheet_kept : {Y : Type 0} (look : Sheet → Y) (m : MatchFacts) (f : ℕ) (sheet : Sheet) (g : ℕ) → (g ≡ f → look (sheet_of m g) ≡ look sheet)

@@ -1,18 +1,17 @@
 -- What cells hold of an entry's totals is what is shown of its histories.
-use Rattle.std.proofs.Common.{◌≡◌, ◌<◌, ◌≤◌, ◌+◌, ◌-◌, ◌==◌, ◌&&◌, ◌||◌, ℕ, zero, suc, ℤ, pos, Bool, true, false, cond, inl, inr, List, [], ◌∷◌, length, get_or, Option, Some, None, map, max, nat_le, arith, refl, sym, ap, subst, ◌∙◌, if◌then◌else◌}
-use Rattle.std.specs.List.{list_any, range_with_len, slice_get}
+use Rattle.std.proofs.Common.{◌≡◌, ◌<◌, ◌≤◌, ◌+◌, ◌-◌, ◌==◌, ◌&&◌, ◌||◌, ℕ, zero, suc, ℤ, pos, Bool, true, false, inl, inr, List, [], ◌∷◌, length, get_or, Option, Some, None, map, max, nat_le, arith, refl, sym, ap, subst, ◌∙◌, if◌then◌else◌}
+use Rattle.std.specs.List.{list_any, range_with_len}
 use Rattle.std.specs.Option.{option_and_then, option_map_or}
 use Rattle.std.proofs.Math.Bool.{and-true}
 use Rattle.std.proofs.lemmas.Bool.{le-leb}
 use Rattle.std.proofs.lemmas.Bool.Decides.{nat_tests}
-use Rattle.std.proofs.lemmas.Option.{same_Some}
 use Rattle.rule_book.specs.declared.cup.Bracket.{Bracket}
 use Rattle.rule_book.specs.Entries.{entry_in}
 use Rattle.rule_book.specs.HeadToHead.{total_of}
 use Rattle.rule_book.specs.History.{Event}
 use Rattle.rule_book.specs.HistoryRules.{FirstTold}
 use Rattle.rule_book.specs.HistoryTeam.{is_begun}
-use Rattle.rule_book.specs.LeagueCalls.{is_head, is_member, leagues_from, leagues_of}
+use Rattle.rule_book.specs.LeagueCalls.{is_head, is_member, leagues_of}
 use Rattle.rule_book.specs.Leagues.{LeagueFacts}
 use Rattle.rule_book.specs.PlayerFigures.{position_in}
 use Rattle.rule_book.specs.Totals.{total_from}
@@ -34,6 +33,7 @@ use Rattle.season_views.specs.Entries.{net_by, total_since}
 use Rattle.season_views.proofs.CupRounds.{not_by}
 use Rattle.season_views.proofs.Scores.{begun_is, begun_told, scored}
 use Rattle.season_views.proofs.Told.{begun_by, net_begun}
+use Rattle.season_nodes.specs.Places.{listed}
 
 -- nothing counts where all that would is open
 none_count : (net : ℕ → ℤ) (from locked first : ℕ) → locked < max from first → total_from net from (Some first) locked ≡ pos 0
@@ -93,20 +93,6 @@ module _ (facts : Facts) (managers : Managers) (leagues : List LeagueFacts) (cup
       ∙ live_case (is_begun h facts.calendar.locked && nat_le s facts.calendar.locked) refl
 
 -- The gameweeks from which an entry has a total.
-
--- the leagues of an entry are those of which it is a member
-listed : (n : ℕ) (leagues : List LeagueFacts) (e i : ℕ) (league : LeagueFacts) → slice_get leagues i ≡ Some league → is_member league e ≡ true → Among (leagues_from n leagues e) (n + i)
-listed n [] e i league at is = absurd (cc)
-listed n (x ∷ xs) e zero league at is =
-    let same : n ≡ n + 0 = omega arith in
-    subst (λ t. Among (cond t (n ∷ leagues_from (n + 1) xs e) (leagues_from (n + 1) xs e)) (n + 0)) (sym (ap (λ l. is_member l e) (same_Some x league at) ∙ is)) (inl same)
-listed n (x ∷ xs) e (suc i) league at is =
-    let same : n + 1 + i ≡ n + suc i = omega arith in
-    behind (is_member x e) (subst (Among (leagues_from (n + 1) xs e)) same (listed (n + 1) xs e i league at is))
-  where
-    behind : (t : Bool) → Among (leagues_from (n + 1) xs e) (n + suc i) → Among (cond t (n ∷ leagues_from (n + 1) xs e) (leagues_from (n + 1) xs e)) (n + suc i)
-    behind true a = inr a
-    behind false a = a
 
 or_true : (b : Bool) → (b || true) ≡ true
 or_true true = refl

@@ -1,6 +1,5 @@
 pub mod Alike
 pub mod Bases
-pub mod Deadlines
 pub mod Found
 pub mod KeptLemmas
 pub mod Loops

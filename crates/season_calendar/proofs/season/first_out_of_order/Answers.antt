@@ -1,7 +1,8 @@
 use Rattle.std.proofs.Common.{◌≡◌, ◌≤◌, ◌+◌, ◌-◌, ◌∙◌, get_or, sym, arith}
 use Rattle.std.proofs.lemmas.Bool.Decides.{nat_tests}
 use Rattle.std.proofs.lemmas.List.{get_or_default}
-use Rattle.season_calendar.proofs.Refused.{first_late, none_late, made_number}
+use Rattle.rule_book.proofs.Deadlines.{first_late, none_late}
+use Rattle.season_calendar.proofs.Refused.{made_number}
 use Rattle.season_calendar.proofs.season.first_out_of_order.Goals as goal
 
 pub returns-then-le : goal.returns-then-le

@@ -2,7 +2,7 @@ use Rattle.std.proofs.Common.{◌≡◌, ◌≤◌, ◌-◌, ◌∙◌, ap, get_
 use Rattle.std.specs.Prelude.{is_some}
 use Rattle.std.proofs.lemmas.Bool.Decides.{nat_tests}
 use Rattle.std.proofs.lemmas.List.{get_or_default}
-use Rattle.stored_records.proofs.Deadlines.{first_late, none_late}
+use Rattle.rule_book.proofs.Deadlines.{first_late, none_late}
 use Rattle.stored_records.proofs.season_rules.is_out_of_order.Goals as goal
 
 pub returns-then-le : goal.returns-then-le

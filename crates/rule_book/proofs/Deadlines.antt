@@ -9,10 +9,10 @@ use Rattle.std.proofs.lemmas.Bool.{le-leb, lt-leb, lt-ltb, le-ltb}
 use Rattle.rule_book.specs.Calendar.{first_out_of_order}
 
 -- the pairs of a deadline and the next
-length-pairs : (ds : List ℕ) → length (zip ds (drop 1 ds)) ≡ length ds - 1
+pub length-pairs : (ds : List ℕ) → length (zip ds (drop 1 ds)) ≡ length ds - 1
 length-pairs ds = length-zip ds (drop 1 ds) ∙ omega (arith, length-drop 1 ds)
 
-pair_at : (ds : List ℕ) (k : ℕ) → k + 1 < length ds → get_or (zip ds (drop 1 ds)) k (0, 0) ≡ (get_or ds k 0, get_or ds (k + 1) 0)
+pub pair_at : (ds : List ℕ) (k : ℕ) → k + 1 < length ds → get_or (zip ds (drop 1 ds)) k (0, 0) ≡ (get_or ds k 0, get_or ds (k + 1) 0)
 pair_at ds k lt =
     let one : 1 + k ≡ k + 1 = omega arith in
     get_or-zip ds (drop 1 ds) k (0, 0) (omega arith) (omega (arith, length-drop 1 ds)) ∙ ap (λ n. (get_or ds k 0, n)) (get_or-drop 1 ds k 0 ∙ ap (λ n. get_or ds n 0) one)
