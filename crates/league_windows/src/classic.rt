@@ -19,10 +19,10 @@ use crate::scores::{last_behind, last_points, net};
 use fpl_base::{EntryId, Gw, LeagueId, Memory, ReadCount};
 use json::Writer;
 use json_members::{write_count, write_integer, write_text};
-use leagues_and_cups::League;
+use leagues_and_cups::{League, rank_classic};
 use rule_book::{LeagueKind, Ranked, ranks};
 use season_ledger::rows_tell;
-use season_views::{Seen, SeenCells, classic_rows, classic_table};
+use season_views::{Seen, SeenCells, classic_rows};
 use std::alloc::{AllocError, Global};
 use std::cmp::Reverse;
 use std::sync::ledger::Ledger;
@@ -203,7 +203,7 @@ fn write_standings<L: Ledger>(
 {
     let rows = classic_rows(alloc, seen, cells, league, steps)?;
     let ranks = last_ranks(alloc, seen, cells, league, &rows, steps)?;
-    let table = classic_table(alloc, &rows)?;
+    let table = rank_classic(alloc, &rows)?;
     begin_standings(out, id, league)?;
     write_rows(out, seen, cells, league, &table, &ranks, steps)?;
     end_standings(out)?;

@@ -4,6 +4,7 @@ pub mod LeaguesOf
 pub mod Members
 pub mod Numbers
 pub mod RunningRanks
+pub mod TableEntries
 pub mod ClassicStandingLemmas
 pub mod DrawLemmas
 pub mod MatchLemmas

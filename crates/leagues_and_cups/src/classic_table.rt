@@ -1,8 +1,9 @@
 // The table of a classic league.
-ghost use Rattle.std.specs.Prelude.{◌≡◌, ◌<◌, ◌-◌, ◌^◌, length, map, get_or, IfOk, IsSorted};
+ghost use Rattle.std.specs.Prelude.{◌≡◌, ◌<◌, ◌≤◌, ◌-◌, ◌^◌, ℕ, All, length, map, get_or, IfOk, IsSorted};
 ghost use Rattle.std.specs.Ordering.{is_lt};
 ghost use Rattle.rule_book.specs.Ranks.{AllDiffer};
 ghost use Rattle.rule_book.specs.ClassicTable.{IsClassicTable};
+ghost use Rattle.rule_book.specs.Tables.{classic_table_of};
 ghost use Rattle.leagues_and_cups.specs.ClassicStanding.{placed_of_row, by_standing, by_place, rank_placed, with_rank, ranked_placed};
 ghost use Rattle.leagues_and_cups.specs.declared.classic_table.Placed.{Placed};
 
@@ -113,7 +114,10 @@ fn ranked_rows(alloc: Global, rows: &[Placed]) -> Result<Vec<Ranked>, Memory>
 /// `docs/RULES.md` has this under "Tables and ranks".
 pub fn rank_classic(alloc: Global, rows: &[(EntryId, i32, u32)]) -> Result<Vec<Ranked>, Memory>
     requires { AllDiffer (map (λ row. row.0) rows.now) }
-    ensures { IfOk result (λ table. IsClassicTable rows.now table.items) }
+    ensures ranked { IfOk result (λ table. IsClassicTable rows.now table.items) }
+    ensures value { IfOk result (λ table. table.items ≡ classic_table_of rows.now) }
+    ensures entries { (n : ℕ) → All (λ e. e ≤ n) (map (λ row. row.0) rows.now)
+        → IfOk result (λ table. All (λ row. row.entry ≤ n) table.items) }
 {
     let mut placed = all_placed(alloc, rows)?;
     placed.sort_unstable();

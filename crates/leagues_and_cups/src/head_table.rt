@@ -1,8 +1,9 @@
 // The table of a head-to-head league.
-ghost use Rattle.std.specs.Prelude.{◌≡◌, ◌<◌, ◌^◌, length, map, IfOk};
+ghost use Rattle.std.specs.Prelude.{◌≡◌, ◌<◌, ◌≤◌, ◌^◌, ℕ, All, length, map, IfOk};
 ghost use Rattle.std.specs.List.{zip};
 ghost use Rattle.rule_book.specs.Ranks.{AllDiffer};
 ghost use Rattle.rule_book.specs.HeadToHead.{IsHeadTable};
+ghost use Rattle.rule_book.specs.Tables.{head_table_of};
 ghost use Rattle.leagues_and_cups.specs.HeadStanding.{standing_of_row, with_rank};
 
 use fpl_base::{EntryId, Memory};
@@ -77,7 +78,10 @@ pub fn rank_head_to_head(
     rows: &[(EntryId, HeadScore)],
 ) -> Result<Vec<HeadRanked>, Memory>
     requires { AllDiffer (map (λ row. row.0) rows.now) }
-    ensures { IfOk result (λ table. IsHeadTable rows.now table.items) }
+    ensures ranked { IfOk result (λ table. IsHeadTable rows.now table.items) }
+    ensures value { IfOk result (λ table. table.items ≡ head_table_of rows.now) }
+    ensures entries { (n : ℕ) → All (λ e. e ≤ n) (map (λ row. row.0) rows.now)
+        → IfOk result (λ table. All (λ row. row.entry ≤ n) table.items) }
 {
     let standings = standings_of(alloc, rows)?;
     let ranks = ranks(alloc, &standings)?;

@@ -12,7 +12,6 @@ pub mod Numbered
 pub mod ShownLeagues
 pub mod Scores
 pub mod ShownLines
-pub mod Tables
 pub mod Told
 pub mod Totals
 pub mod Written

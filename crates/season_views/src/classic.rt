@@ -2,7 +2,6 @@
 ghost use Rattle.std.specs.Prelude.{◌≡◌, ◌≤◌, ◌+◌, ◌*◌, ℕ, All, IfOk, false, length, map};
 ghost use Rattle.rule_book.specs.LeagueCalls.{is_head};
 ghost use Rattle.rule_book.specs.Ranks.{AllDiffer};
-ghost use Rattle.rule_book.specs.Tables.{classic_table_of};
 ghost use Rattle.season_book.specs.LeagueViews.{classic_shown, ranked_shown};
 ghost use Rattle.season_views.specs.Cells.{AreKeptFrom, AreKeptWith};
 ghost use Rattle.season_views.specs.Entries.{OfEachBook, OfEachNames};
@@ -13,7 +12,7 @@ use crate::reading::total_held;
 use crate::seen::{Seen, SeenCells};
 use fpl_base::{EntryId, Gw, ListOf, Memory, ReadCount};
 use leagues_and_cups::{League, rank_classic};
-use rule_book::{Ranked, tables_are_the_one};
+use rule_book::Ranked;
 use season_book::{ShownClassic, ShownRanked};
 use season_ledger::rows_tell;
 use std::alloc::Global;
@@ -68,18 +67,6 @@ pub fn classic_rows<L: Ledger>(
     Ok(rows)
 }
 
-/// The rows with their ranks, by rank, then entry.
-pub fn classic_table(alloc: Global, rows: &[(EntryId, i32, u32)]) -> Result<Vec<Ranked>, Memory>
-    requires { AllDiffer (map (λ row. row.0) rows.now) }
-    ensures value { IfOk result (λ table. table.items ≡ classic_table_of rows.now) }
-    ensures entries { (n : ℕ) → All (λ e. e ≤ n) (map (λ row. row.0) rows.now)
-        → IfOk result (λ table. All (λ row. row.entry ≤ n) table.items) }
-{
-    // The law by which there is one table, for the prover.
-    tables_are_the_one();
-    rank_classic(alloc, rows)
-}
-
 // A row with the name of its entry.
 fn ranked_shown<L: Ledger>(seen: &Seen<L>, row: &Ranked) -> Result<ShownRanked, Memory>
     requires { row.now.entry ≤ length seen.now.managers.managers }
@@ -127,7 +114,7 @@ pub fn classic<L: Ledger>(
     ensures cost { steps.new ≤ steps.old + 2 * length league.now.members }
 {
     let rows = classic_rows(alloc, seen, cells, league, steps)?;
-    let table = classic_table(alloc, &rows)?;
+    let table = rank_classic(alloc, &rows)?;
     Ok(ShownClassic {
         name: league.name().copy()?,
         start: league.start(),

@@ -3,7 +3,6 @@ ghost use Rattle.std.specs.Prelude.{◌≡◌, ◌≤◌, ◌+◌, ℕ, All, IfO
 ghost use Rattle.rule_book.specs.Entries.{entry_in};
 ghost use Rattle.rule_book.specs.LeagueRows.{head_rows};
 ghost use Rattle.rule_book.specs.Ranks.{AllDiffer};
-ghost use Rattle.rule_book.specs.Tables.{head_table_of};
 ghost use Rattle.season_book.specs.LeagueViews.{head_ranked_shown, head_shown};
 ghost use Rattle.season_graph.specs.Followed.{AreEvaluated};
 ghost use Rattle.season_graph.specs.Told.{net_told};
@@ -17,7 +16,7 @@ use crate::reading::head_held;
 use crate::seen::{Seen, SeenCells};
 use fpl_base::{EntryId, LeagueId, ListOf, Memory, ReadCount};
 use leagues_and_cups::{League, rank_head_to_head};
-use rule_book::{HeadRanked, HeadScore, tables_are_the_one};
+use rule_book::{HeadRanked, HeadScore};
 use season_book::{ShownHead, ShownHeadRanked};
 use season_ledger::rows_tell;
 use std::alloc::Global;
@@ -45,18 +44,6 @@ pub fn head_rows<L: Ledger>(
         rows.push((*member, score))?;
     }
     Ok(rows)
-}
-
-/// The rows with their ranks, by rank, then entry.
-pub fn head_table(alloc: Global, rows: &[(EntryId, HeadScore)]) -> Result<Vec<HeadRanked>, Memory>
-    requires { AllDiffer (map (λ row. row.0) rows.now) }
-    ensures value { IfOk result (λ table. table.items ≡ head_table_of rows.now) }
-    ensures entries { (n : ℕ) → All (λ e. e ≤ n) (map (λ row. row.0) rows.now)
-        → IfOk result (λ table. All (λ row. row.entry ≤ n) table.items) }
-{
-    // The law by which there is one table, for the prover.
-    tables_are_the_one();
-    rank_head_to_head(alloc, rows)
 }
 
 // A row with the name of its entry.
@@ -108,7 +95,7 @@ pub fn head<L: Ledger>(
     rows_tell();
     let _count = seen.players().len();
     let rows = head_rows(alloc, cells, id, league, steps)?;
-    let table = head_table(alloc, &rows)?;
+    let table = rank_head_to_head(alloc, &rows)?;
     Ok(ShownHead {
         name: league.name().copy()?,
         start: league.start(),

@@ -13,10 +13,10 @@ mod seen;
 mod sheets;
 mod views;
 
-pub use classic::{classic_row, classic_rows, classic_table};
+pub use classic::{classic_row, classic_rows};
 pub use cups::{cup, is_played, ties, winners_held};
 pub use entries::{entry_gameweek, gameweek_of, issued, my_entry};
-pub use head::{head_rows, head_table};
+pub use head::head_rows;
 pub use leagues::league;
 pub use moments::write_moment;
 pub use names::name_of;

@@ -25,8 +25,8 @@ last_ranks-requires-clause-each g c =
     let rows = c.in_ok-rows.rows.items in
     ap length c.deref.ensures.value ∙ sym (length-map rows (λ (row : ℕ × ℤ × ℕ). row.0)) ∙ ap length c.in_ok-rows.ensures.entries
 
-pub classic_table-requires : goal.classic_table-requires
-classic_table-requires g c =
+pub rank_classic-requires : goal.rank_classic-requires
+rank_classic-requires g c =
     let firsts = ap (map (λ (row : ℕ × ℤ × ℕ). row.0)) c.deref-2.ensures.value ∙ c.in_ok-rows.ensures.entries in
     subst AllDiffer (sym firsts) c.in_ok-rows.ensures.differ
 

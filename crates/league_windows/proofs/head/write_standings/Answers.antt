@@ -34,8 +34,8 @@ last_ranks-requires-clause-each g c =
     let rows = c.in_ok-rows.rows.items in
     ap length c.deref.ensures.value ∙ sym (length-map rows (λ (row : ℕ × HeadScore). row.0)) ∙ ap length c.in_ok-rows.ensures.entries
 
-pub head_table-requires : goal.head_table-requires
-head_table-requires g c =
+pub rank_head_to_head-requires : goal.rank_head_to_head-requires
+rank_head_to_head-requires g c =
     let firsts = ap (map (λ (row : ℕ × HeadScore). row.0)) c.deref-2.ensures.value ∙ c.in_ok-rows.ensures.entries in
     subst AllDiffer (sym firsts) c.in_ok-rows.ensures.differ
 

@@ -6,13 +6,15 @@ use Rattle.rule_book.specs.Ranks.{rank_among}
 use Rattle.rule_book.specs.HeadToHead.{is_better, head_ranked}
 use Rattle.rule_book.specs.declared.tables.HeadRanked.{HeadRanked}
 use Rattle.rule_book.proofs.TableLemmas.{rows_with_ranks}
+use Rattle.rule_book.proofs.TableOrder.{head_table_is_the_one}
 use Rattle.leagues_and_cups.specs.HeadStanding.{standing_of_row, with_rank}
 use Rattle.leagues_and_cups.specs.declared.head_table.Standing.{Standing}
 use Rattle.leagues_and_cups.proofs.HeadStandingLemmas.{less_is_better}
+use Rattle.leagues_and_cups.proofs.TableEntries.{head_entries}
 use Rattle.leagues_and_cups.proofs.head_table.rank_head_to_head.Goals as goal
 
-pub returns : goal.returns
-returns c =
+pub returns-clause-ranked : goal.returns-clause-ranked
+returns-clause-ranked c =
     let rows = c.args.rows.now in
     let less = λ (a : Standing) (b : Standing). is_lt (ordering_then (nat_cmp b.points.0 a.points.0) (int_cmp b.scored.0 a.scored.0)) in
     let ranks = c.in_ok-ranks.ensures ∙ ap (λ (l : List Standing). map (rank_among less l) l) c.deref.ensures.value in
@@ -22,3 +24,9 @@ returns c =
       each_ranked = subst (λ (l : List HeadRanked). IsPermutation l c.sort_by_key.new.self.items) same c.in_ok-sort_by_key.ensures.permutation;
       in_order = c.in_ok-sort_by_key.ensures.sorted (λ (row : HeadRanked). (row.rank, row.entry)) (answers_always _ _ _ (λ f a r q k. search rules));
     }
+
+pub returns-clause-value : goal.returns-clause-value
+returns-clause-value c = (head_table_is_the_one c.args.rows.now c.sort_by_key.new.self.items c.requires).0 (returns-clause-ranked c)
+
+pub returns-clause-entries : goal.returns-clause-entries
+returns-clause-entries c n few = head_entries c.args.rows.now c.sort_by_key.new.self.items n (returns-clause-ranked c) few

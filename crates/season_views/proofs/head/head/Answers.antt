@@ -10,8 +10,8 @@ use Rattle.season_views.proofs.Matches.{rows_are}
 use Rattle.season_views.proofs.ShownLeagues.{head_made}
 use Rattle.season_views.proofs.head.head.Goals as goal
 
-pub head_table-requires : goal.head_table-requires
-head_table-requires g c =
+pub rank_head_to_head-requires : goal.rank_head_to_head-requires
+rank_head_to_head-requires g c =
     let firsts = ap (map (λ (row : ℕ × HeadScore). row.0)) c.deref.ensures.value ∙ c.in_ok-rows.ensures.entries in
     subst AllDiffer (sym firsts) c.in_ok-rows.ensures.differ
 
