@@ -1,12 +1,13 @@
 //! One league: who is in it, and in which order it was drawn.
-ghost use Rattle.std.specs.Prelude.{◌≡◌, ◌<◌, ◌≤◌, false, nat_lt, length, AllPairs, IfOk, IfSome, IsTrue, OnErr, OnOk};
+ghost use Rattle.std.specs.Prelude.{◌≡◌, ◌≢◌, ◌<◌, ◌≤◌, ℕ, nat_lt, length, All, AllPairs, IfOk, IfSome, IsTrue, OnErr, OnOk};
 ghost use Rattle.std.specs.Str.{bytes_eq};
 ghost use Rattle.rule_book.specs.LeagueCalls.{is_drawn, is_member, most_members, new_league, with_member, with_order};
 ghost use Rattle.rule_book.specs.LeagueRows.{place_of};
 ghost use Rattle.rule_book.specs.Ranks.{AllDiffer};
-ghost use Rattle.leagues_and_cups.specs.Books.{CanDraw, CanEnter, IsLeague, league_of};
+ghost use Rattle.leagues_and_cups.specs.Books.{CanDraw, CanEnter, IsLeague, league_of, row_of, with_number};
 
-use fpl_base::{Code, EntryId, Gw, ListOf, Memory, Name};
+use crate::memberships::Memberships;
+use fpl_base::{Code, EntryId, Gw, LeagueId, ListOf, Memory, Name};
 use rule_book::LeagueKind;
 use std::alloc::Global;
 use std::marker::Model;
@@ -24,7 +25,7 @@ pub struct League {
     code: Code,
     start: Gw,
     creator: EntryId,
-    members: Ids,
+    members: Vec<EntryId>,
     order: Ids,
 }
 
@@ -34,9 +35,9 @@ impl Model for League {
 
     ghost Value = { LeagueFacts };
 
-    ghost view = { λ l. league_of l.kind l.name l.code l.start l.creator l.members l.order };
+    ghost view = { λ l. league_of l.kind l.name l.code l.start l.creator l.members.items l.order };
 
-    ghost invariant = { λ l. IsLeague (league_of l.kind l.name l.code l.start l.creator l.members l.order) };
+    ghost invariant = { λ l. IsLeague (league_of l.kind l.name l.code l.start l.creator l.members.items l.order) };
 }
 
 impl League {
@@ -51,7 +52,7 @@ impl League {
     ) -> Result<Self, Memory>
         ensures { IfOk result (λ league. league ≡ new_league kind name code start creator) }
     {
-        let mut members = Ids::with_room(alloc, 1)?;
+        let mut members = Vec::with_capacity(alloc, 1)?;
         members.push(creator)?;
         Ok(League {
             kind,
@@ -71,11 +72,11 @@ impl League {
         code: Code,
         start: Gw,
         creator: EntryId,
-        members: Ids,
+        members: Vec<EntryId>,
         order: Ids,
     ) -> Self
-        requires { IsLeague (league_of kind name code start creator members order) }
-        ensures { result ≡ league_of kind name code start creator members order }
+        requires { IsLeague (league_of kind name code start creator members.items order) }
+        ensures { result ≡ league_of kind name code start creator members.items order }
     {
         League {
             kind,
@@ -149,7 +150,7 @@ impl League {
     pub fn is_member(&self, e: EntryId) -> bool
         ensures { result ≡ is_member self.now e }
     {
-        self.members.as_slice().binary_search(&e).is_ok()
+        self.members.binary_search(&e).is_ok()
     }
 
     /// Whether it was drawn.
@@ -178,31 +179,29 @@ impl League {
     pub(crate) fn has_room(&self) -> bool
         ensures { result ≡ nat_lt (length self.now.members) (most_members self.now.kind) }
     {
-        self.members.as_slice().len() < most_members(self.kind)
+        self.members.len() < most_members(self.kind)
     }
 
-    // The members with one more, in his place.
-    pub(crate) fn joined(&self, e: EntryId) -> Result<Ids, Memory>
-        requires new { is_member self.now e ≡ false }
-        ensures { IfOk result (λ ids. ids ≡ (with_member e self.now).members) }
-    {
-        let members = self.members.as_slice();
-        let place = members.partition_point(|member| *member < e);
-        let mut ids = Vec::with_capacity(self.members.allocator(), members.len() + 1)?;
-        ids.extend_from_slice(members)?;
-        ids.insert(place, e)?;
-        Ok(Ids::of(ids))
-    }
-
-    // Keeps the members with one more. Takes no memory.
-    pub(crate) fn set_members(&mut self, e: EntryId, members: Ids)
+    // Puts an entry among the members, in its place, and the league among those of the entry.
+    pub(crate) fn admit(
+        &mut self,
+        e: EntryId,
+        l: LeagueId,
+        memberships: &mut Memberships,
+    ) -> Result<(), Memory>
         requires open { CanEnter self.old e }
-        requires one_more { members ≡ (with_member e self.old).members }
-        ensures { self.new ≡ with_member e self.old }
+        requires new { All (λ n. n ≢ l) (row_of memberships.old e) }
+        ensures ok { OnOk result (self.new ≡ with_member e self.old) }
+        ensures added { OnOk result (row_of memberships.new e ≡ with_number l (row_of memberships.old e)) }
+        ensures others { (d : ℕ) → d ≢ e → row_of memberships.new d ≡ row_of memberships.old d }
+        ensures err { OnErr result (self.new ≡ self.old) }
+        ensures left { OnErr result (row_of memberships.new e ≡ row_of memberships.old e) }
     {
-        // What the type tells of an entry, for the prover.
-        let _entry = e;
-        self.members = members;
+        let place = self.members.partition_point(|member| *member < e);
+        self.members.reserve(1)?;
+        memberships.add(e, l)?;
+        let _ = self.members.insert(place, e);
+        Ok(())
     }
 
     // Keeps the order in which it was drawn.

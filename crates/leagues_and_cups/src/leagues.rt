@@ -138,9 +138,7 @@ impl Leagues {
         ensures err { OnErr result (self.new ≡ self.old) }
     {
         let league = &mut self.leagues[l.get() as usize - 1];
-        let members = league.joined(e)?;
-        self.memberships.add(e, l)?;
-        league.set_members(e, members);
+        league.admit(e, l, &mut self.memberships)?;
         Ok(())
     }
 

@@ -5,7 +5,6 @@ ghost use Rattle.store_validation.specs.LeagueRules.{members_of};
 ghost use Rattle.fpl_base.specs.Keeping.{KeysRise};
 
 use fpl_base::{EntryId, LeagueId, Memory};
-use leagues_and_cups::Ids;
 use std::alloc::Global;
 use stored_records::Stored;
 
@@ -18,13 +17,13 @@ fn entry(number: u32) -> EntryId
 }
 
 /// The members of a league, by ascending number.
-pub(crate) fn members_of(alloc: Global, stored: &Stored, league: LeagueId) -> Result<Ids, Memory>
+pub(crate) fn members_of(alloc: Global, stored: &Stored, league: LeagueId) -> Result<Vec<EntryId>, Memory>
     requires rise { KeysRise stored.now }
     requires lawful { judged stored.now ≡ None }
-    ensures { IfOk result (λ ids. ids ≡ members_of stored.now league) }
+    ensures { IfOk result (λ ids. ids.items ≡ members_of stored.now league) }
 {
     let rows = stored.members(league);
-    let mut ids = Ids::with_room(alloc, rows.len())?;
+    let mut ids = Vec::with_capacity(alloc, rows.len())?;
     for row in rows {
         ids.push(entry(row.key().b))?;
     }
