@@ -17,6 +17,7 @@ mod Through
 mod Appending
 mod EventRanks
 mod LeagueMembers
+mod OwnLeagues
 mod Summaries
 mod Transfers
 mod WindowShown

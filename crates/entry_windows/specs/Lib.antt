@@ -3,4 +3,5 @@ pub mod EntryLaws
 pub mod Races
 pub mod Told
 pub mod EntrySummary
+pub mod EntryLeagues
 pub mod EntryTokens

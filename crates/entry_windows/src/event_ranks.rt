@@ -8,12 +8,14 @@ ghost use Rattle.rule_book.specs.LeagueCalls.{is_head, is_member};
 ghost use Rattle.rule_book.specs.Ranks.{rank_among};
 ghost use Rattle.season_views.specs.Cells.{AreKeptWith};
 ghost use Rattle.season_views.specs.Seen.{IsKept, OfEachSeen};
+ghost use Rattle.entry_windows.specs.EntryLeagues.{is_of_kind, league_reads, league_told};
+ghost use Rattle.season_book.specs.EntryWindow.{entry_league_told};
 ghost use Rattle.season_book.specs.LeagueTables.{classic_last_rank, classic_rank, head_last_rank, head_rank};
 
 use fpl_base::{EntryId, LeagueId, Memory, ReadCount};
 use league_windows::{classic_last_ranks, head_last_ranks, rank_of};
 use leagues_and_cups::League;
-use rule_book::HeadScore;
+use rule_book::{HeadScore, LeagueKind};
 use season_ledger::rows_tell;
 use season_views::{Seen, SeenCells, classic_rows, head_rows};
 use std::alloc::Global;
@@ -27,8 +29,8 @@ pub struct LeagueRanks {
     pub current: u64,
 }
 
-/// Those of a member of a classic league.
-pub fn classic_ranks<L: Ledger>(
+// Those of a member of a classic league.
+fn classic_ranks<L: Ledger>(
     alloc: Global,
     seen: &Seen<L>,
     cells: &SeenCells<L>,
@@ -56,8 +58,8 @@ pub fn classic_ranks<L: Ledger>(
     Ok(LeagueRanks { last, current })
 }
 
-/// Those of a member of a head-to-head league.
-pub fn head_ranks<L: Ledger>(
+// Those of a member of a head-to-head league.
+fn head_ranks<L: Ledger>(
     alloc: Global,
     seen: &Seen<L>,
     cells: &SeenCells<L>,
@@ -88,6 +90,33 @@ pub fn head_ranks<L: Ledger>(
     let last = rank_of(league.members(), &ranks, entry);
     let current = head_rank_of(league.members(), &rows, entry);
     Ok(LeagueRanks { last, current })
+}
+
+/// Those of a member of a league of a kind.
+pub fn ranks_in<L: Ledger>(
+    alloc: Global,
+    seen: &Seen<L>,
+    cells: &SeenCells<L>,
+    kind: LeagueKind,
+    id: LeagueId,
+    league: &League,
+    entry: EntryId,
+    steps: &mut ReadCount<L>,
+) -> Result<LeagueRanks, Memory>
+    requires kept { IsKept seen.now cells.now }
+    requires kind { is_of_kind kind league.now ≡ true }
+    requires there { entry_in seen.now.leagues id ≡ Some league.now }
+    requires member { is_member league.now entry ≡ true }
+    ensures told { IfOk result
+        (λ ranks. OfEachSeen seen.now
+        (λ entries. entry_league_told entry ranks.last ranks.current (id, league.now)
+        ≡ league_told kind seen.now.facts entries entry (id, league.now))) }
+    ensures cost { steps.new ≤ steps.old + league_reads kind entry league.now }
+{
+    match kind {
+        LeagueKind::Classic => classic_ranks(alloc, seen, cells, league, entry, steps),
+        LeagueKind::Head => head_ranks(alloc, seen, cells, id, league, entry, steps),
+    }
 }
 
 // The place of a member among the members.
