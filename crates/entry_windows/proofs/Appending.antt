@@ -1,6 +1,5 @@
 -- Tokens that are written where memory may be wanting, as what they append, and those of an entry put together.
-use Rattle.std.proofs.Common.{◌≡◌, ◌∙◌, ◌++◌, ◌∷◌, [], ℕ, ℤ, Bool, true, false, List, Option, Ok, append_assoc, ap, codes, refl, sym, if◌then◌else◌}
-use Rattle.std.specs.Prelude.{not}
+use Rattle.std.proofs.Common.{◌≡◌, ◌∙◌, ◌++◌, ◌∷◌, [], ℕ, ℤ, List, Option, Ok, append_assoc, ap, codes}
 use Rattle.json.specs.Token.{Token}
 use Rattle.json.specs.Written.{Written}
 use Rattle.serde_json.specs.Data.{Data, member, no_members, object, string}
@@ -48,12 +47,3 @@ entry_tokens e last transfers leagues name first bank points rank total overall 
     (member (codes "summary_overall_points") (integer_or_null total)
     (member (codes "summary_overall_rank") (count_or_null overall)
     no_members))))))))))))))
-
--- what is written where it is due is written
-pub if_due : (a b : Written) (due : Bool) (ts : List Token) → due ≡ true → (b.tokens ≡ a.tokens ++ ts) × (b.before ≡ a.before) → (b.tokens ≡ a.tokens ++ (if due then ts else [])) × (b.before ≡ a.before)
-if_due a b due ts is wrote = (wrote.0 ∙ ap (λ t. a.tokens ++ (if t then ts else [])) (sym is), wrote.1)
-
--- a kind that is not the one is the other
-pub is_other : (b : Bool) → not b ≡ false → b ≡ true
-is_other true fails = refl
-is_other false fails = sym fails
