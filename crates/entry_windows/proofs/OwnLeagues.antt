@@ -88,9 +88,12 @@ own_at leagues e i l below is =
     sym (ap (λ r. r.0) at.1) ∙ sym (get_or-map (λ row. row.0) own i row l within) ∙ ap (λ ns. get_or ns i l) (own_numbers leagues e) ∙ sym is in
     let stands = subst (StandsFrom e 1 leagues) at.1 (stand_from e 1 leagues i row within) in
     let some : (l == 0) ≡ false = grind (arith, nat_tests, stands.0, number) in
-    let less : l - 1 ≡ row.0 - 1 = omega (arith, number) in
-    (row.1, there.1 ∙ ap (λ n. Some (n, row.1)) number,
-    ap (λ b. if b then None else slice_get leagues (l - 1)) some ∙ ap (slice_get leagues) less ∙ stands.1, stands.2)
+    let less : l - 1 ≡ row.0 - 1 = omega (arith, number) in (
+      row.1,
+      there.1 ∙ ap (λ n. Some (n, row.1)) number,
+      ap (λ b. if b then None else slice_get leagues (l - 1)) some ∙ ap (slice_get leagues) less ∙ stands.1,
+      stands.2,
+    )
 
 -- what passes both tests passes the one among those that pass the other
 pub filter_both : {X : Type 0} (p q : X → Bool) (xs : List X) → filter p (filter q xs) ≡ filter (λ x. p x && q x) xs

@@ -17,7 +17,11 @@ fn entry(number: u32) -> EntryId
 }
 
 /// The members of a league, by ascending number.
-pub(crate) fn members_of(alloc: Global, stored: &Stored, league: LeagueId) -> Result<Vec<EntryId>, Memory>
+pub(crate) fn members_of(
+    alloc: Global,
+    stored: &Stored,
+    league: LeagueId,
+) -> Result<Vec<EntryId>, Memory>
     requires rise { KeysRise stored.now }
     requires lawful { judged stored.now ≡ None }
     ensures { IfOk result (λ ids. ids.items ≡ members_of stored.now league) }
