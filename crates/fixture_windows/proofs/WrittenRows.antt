@@ -8,20 +8,8 @@ use Rattle.json.specs.Token.{Token}
 use Rattle.json.specs.Written.{Written}
 use Rattle.serde_json.specs.Data.{Data}
 use Rattle.json_members.specs.Tokens.{Appends, tokens_of}
-use Rattle.json_members.proofs.ListLemmas.{kept_less, kept_more, rest_of}
+use Rattle.json_members.proofs.ListLemmas.{rest_of}
 use Rattle.fixture_windows.specs.RowParts.{row_tokens}
-
--- one more of those that are kept of a list is written, or passed over
-module _ {X : Type 0} (f : X → Data) (test : X → Bool) where
-  pub kept_if : {u : Unit {0}} {a b : Written} {whole : List Token} (xs : List X) (i : ℕ) (x : X) → i < length xs → x ≡ get_or xs i x → Appends (Ok u) a b (if test x then tokens_of (f x) else [])
-      → a.tokens ++ rest_of f (filter test (drop i xs)) ≡ whole → b.tokens ++ rest_of f (filter test (drop (i + 1) xs)) ≡ whole
-  kept_if {u = u} {a = a} {b = b} {whole = whole} xs i x below is wrote so = by_test (test x) refl wrote
-    where
-      by_test : (v : Bool) → test x ≡ v → Appends (Ok u) a b (if v then tokens_of (f x) else []) → b.tokens ++ rest_of f (filter test (drop (i + 1) xs)) ≡ whole
-      by_test true passes wrote = kept_more f test xs i x below is passes wrote so
-      by_test false fails wrote =
-          ap (λ ts. ts ++ rest_of f (filter test (drop (i + 1) xs))) (wrote.tokens ∙ append-nil a.tokens)
-          ∙ kept_less f test a.tokens xs i x below is fails so
 
 -- the rows of one more are written
 module _ {X Y : Type 0} (f : Y → Data) (each : X → List Y) where

@@ -86,6 +86,16 @@ module _ {X : Type 0} (f : X → Data) (test : X → Bool) where
       ∙ ap (λ l. before ++ l) (sym (at_drop_more (λ l. rest_of f (filter test l)) xs i x below))
       ∙ so
 
+  -- so is one that may be either
+  pub kept_if : {u : Unit {0}} {a b : Written} {whole : List Token} (xs : List X) (i : ℕ) (x : X) → i < length xs → x ≡ get_or xs i x → Appends (Ok u) a b (if test x then tokens_of (f x) else [])
+      → a.tokens ++ rest_of f (filter test (drop i xs)) ≡ whole → b.tokens ++ rest_of f (filter test (drop (i + 1) xs)) ≡ whole
+  kept_if {u = u} {a = a} {b = b} {whole = whole} xs i x below is wrote so = by_test (test x) refl wrote
+    where
+      by_test : (v : Bool) → test x ≡ v → Appends (Ok u) a b (if v then tokens_of (f x) else []) → b.tokens ++ rest_of f (filter test (drop (i + 1) xs)) ≡ whole
+      by_test true passes wrote = kept_more xs i x below is passes wrote so
+      by_test false fails wrote =
+          ap (λ t. t ++ rest_of f (filter test (drop (i + 1) xs))) (wrote.tokens ∙ append-nil a.tokens) ∙ kept_less a.tokens xs i x below is fails so
+
 -- pairs of two lists
 pub length-zip : {K V : Type 0} (ks : List K) (vs : List V) → length vs ≡ length ks → length (zip ks vs) ≡ length ks
 length-zip [] vs same = refl
@@ -103,20 +113,7 @@ module _ {X : Type 0} (f : ℕ × X → Data) (test : ℕ × X → Bool) where
   pub numbered_if : {u : Unit {0}} {a b : Written} {whole : List Token} (xs : List X) (i n : ℕ) (x : X) → slice_get xs i ≡ Some x → 1 + i ≡ n
       → Appends (Ok u) a b (if test (n, x) then tokens_of (f (n, x)) else [])
       → a.tokens ++ rest_of f (filter test (drop i (enumerate_from 1 xs))) ≡ whole → b.tokens ++ rest_of f (filter test (drop (i + 1) (enumerate_from 1 xs))) ≡ whole
-  numbered_if {u = u} {a = a} {b = b} {whole = whole} xs i n x at number wrote so = by_test (test (n, x)) refl wrote
-    where
-      there : (i < length xs) × (get_or xs i x ≡ x)
-      there = got xs i x at
-
-      below : i < length (enumerate_from 1 xs)
-      below = subst (λ m. i < m) (sym (length-enumerate_from 1 xs)) there.0
-
-      is : (n, x) ≡ get_or (enumerate_from 1 xs) i (n, x)
-      is = sym (get_or-enumerate_from 1 xs i (n, x) there.0 ∙ (λ j. (number j, there.1 j)))
-
-      by_test : (v : Bool) → test (n, x) ≡ v → Appends (Ok u) a b (if v then tokens_of (f (n, x)) else [])
-          → b.tokens ++ rest_of f (filter test (drop (i + 1) (enumerate_from 1 xs))) ≡ whole
-      by_test true passes wrote = kept_more f test (enumerate_from 1 xs) i (n, x) below is passes wrote so
-      by_test false fails wrote =
-          ap (λ t. t ++ rest_of f (filter test (drop (i + 1) (enumerate_from 1 xs)))) (wrote.tokens ∙ append-nil a.tokens)
-          ∙ kept_less f test a.tokens (enumerate_from 1 xs) i (n, x) below is fails so
+  numbered_if xs i n x at number wrote so =
+      let there = got xs i x at in
+      kept_if f test (enumerate_from 1 xs) i (n, x) (subst (λ m. i < m) (sym (length-enumerate_from 1 xs)) there.0)
+      (sym (get_or-enumerate_from 1 xs i (n, x) there.0 ∙ (λ j. (number j, there.1 j)))) wrote so

@@ -8,7 +8,7 @@ ghost use Rattle.leagues_and_cups.specs.ClassicStanding.{placed_of_row, by_stand
 ghost use Rattle.leagues_and_cups.specs.declared.classic_table.Placed.{Placed};
 
 use fpl_base::{EntryId, Memory};
-use rule_book::Ranked;
+use rule_book::{Ranked, tables_are_the_one};
 use std::alloc::Global;
 use std::cmp::Reverse;
 
@@ -119,6 +119,8 @@ pub fn rank_classic(alloc: Global, rows: &[(EntryId, i32, u32)]) -> Result<Vec<R
     ensures entries { (n : ℕ) → All (λ e. e ≤ n) (map (λ row. row.0) rows.now)
         → IfOk result (λ table. All (λ row. row.entry ≤ n) table.items) }
 {
+    // The law that a table of rows whose entries differ is the one, for the prover.
+    tables_are_the_one();
     let mut placed = all_placed(alloc, rows)?;
     placed.sort_unstable();
     ranked_rows(alloc, &placed)

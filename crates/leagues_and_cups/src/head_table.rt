@@ -7,7 +7,7 @@ ghost use Rattle.rule_book.specs.Tables.{head_table_of};
 ghost use Rattle.leagues_and_cups.specs.HeadStanding.{standing_of_row, with_rank};
 
 use fpl_base::{EntryId, Memory};
-use rule_book::{HeadRanked, HeadScore, ranks};
+use rule_book::{HeadRanked, HeadScore, ranks, tables_are_the_one};
 use std::alloc::Global;
 use std::cmp::Reverse;
 
@@ -83,6 +83,8 @@ pub fn rank_head_to_head(
     ensures entries { (n : ℕ) → All (λ e. e ≤ n) (map (λ row. row.0) rows.now)
         → IfOk result (λ table. All (λ row. row.entry ≤ n) table.items) }
 {
+    // The law that a table of rows whose entries differ is the one, for the prover.
+    tables_are_the_one();
     let standings = standings_of(alloc, rows)?;
     let ranks = ranks(alloc, &standings)?;
     let mut table = ranked_rows(alloc, rows, &ranks)?;

@@ -47,7 +47,7 @@ issued_alike facts entries others a e = of_both (entry_in entries e) (entry_in o
     of_both (Some x) None b = absurd b
     of_both (Some x) (Some y) b = refl
 
-started_alike : (h h2 : List Event) → start_of h ≡ start_of h2 → is_started h ≡ is_started h2
+pub started_alike : (h h2 : List Event) → start_of h ≡ start_of h2 → is_started h ≡ is_started h2
 started_alike [] [] same = refl
 started_alike [] (e ∷ h2) same = cc
 started_alike (e ∷ h) [] same = cc

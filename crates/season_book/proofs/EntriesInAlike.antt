@@ -15,6 +15,11 @@ use Rattle.season_book.specs.EntryTotals.{entries_in, is_in}
 pub entries_are : (caller : Caller) (book other : Book) → Alike caller book other → (facts : Facts) → book.facts ≡ Some facts → EntriesAlike (Some facts) book.entries other.entries
 entries_are caller book other a facts is = subst (λ o. EntriesAlike o book.entries other.entries) is a.entries
 
+-- one of a list that is kept, or passed over
+pub kept_same : {X Y : Type 0} (f : X → Y) (x y : X) (xs ys : List X) (b : Bool) → f x ≡ f y → map f xs ≡ map f ys → map f (cond b (x ∷ xs) xs) ≡ map f (cond b (y ∷ ys) ys)
+kept_same f x y xs ys true one rest = λ i. one i ∷ rest i
+kept_same f x y xs ys false one rest = rest
+
 module _ (facts : Facts) where
   -- two entries in a locked gameweek
   module _ (entry other : EntryFacts) (a : EntryAlike (Some facts) entry other) (g : ℕ) (le : g ≤ facts.calendar.locked) where
@@ -47,10 +52,6 @@ module _ (facts : Facts) where
   -- and of all that are in a locked gameweek, each with its number
   module _ {X : Type 0} (f : ℕ × EntryFacts → X) (g : ℕ) (le : g ≤ facts.calendar.locked)
       (same : (n : ℕ) (entry other : EntryFacts) → EntryAlike (Some facts) entry other → f (n, entry) ≡ f (n, other)) where
-    kept_alike : (x y : ℕ × EntryFacts) (xs ys : List (ℕ × EntryFacts)) (b : Bool) → f x ≡ f y → map f xs ≡ map f ys → map f (cond b (x ∷ xs) xs) ≡ map f (cond b (y ∷ ys) ys)
-    kept_alike x y xs ys true one rest = λ i. one i ∷ rest i
-    kept_alike x y xs ys false one rest = rest
-
     from_alike : (entries others : List EntryFacts) → EntriesAlike (Some facts) entries others → (n : ℕ)
         → map f (filter (λ row. is_in row.1 g) (enumerate_from n entries)) ≡ map f (filter (λ row. is_in row.1 g) (enumerate_from n others))
     from_alike [] [] all n = refl
@@ -59,7 +60,7 @@ module _ (facts : Facts) where
     from_alike (entry ∷ entries) (other ∷ others) (one, more) n =
         let behind : List (ℕ × EntryFacts) = filter (λ (row : ℕ × EntryFacts). is_in row.1 g) (enumerate_from (n + 1) entries) in
         ap (λ b. map f (cond b ((n, entry) ∷ behind) behind)) (in_alike entry other one g le)
-        ∙ kept_alike (n, entry) (n, other) behind (filter (λ row. is_in row.1 g) (enumerate_from (n + 1) others)) (is_in other g)
+        ∙ kept_same f (n, entry) (n, other) behind (filter (λ row. is_in row.1 g) (enumerate_from (n + 1) others)) (is_in other g)
         (same n entry other one) (from_alike entries others more (n + 1))
 
     pub all_in_alike : (entries others : List EntryFacts) → EntriesAlike (Some facts) entries others → map f (entries_in entries g) ≡ map f (entries_in others g)

@@ -24,14 +24,10 @@ use Rattle.season_book.specs.Book.{Book, EntryFacts, Facts}
 use Rattle.season_book.specs.EntryViews.{score_by, team_by}
 use Rattle.season_book.specs.Agree.{Alike, EntriesAlike, EntryAlike}
 use Rattle.season_book.proofs.EntriesFacts.{BothAlike, both_alike}
+use Rattle.season_book.proofs.EntriesInAlike.{kept_same}
 use Rattle.season_book.specs.EntryTotals.{event_rank, gross_by, is_in, overall_rank, row_through, total_through}
 use Rattle.season_book.specs.EntryWindow.{classic_league_told, classic_leagues_of, entry_league_told, entry_leagues_told, entry_told, entry_window, head_league_told, head_leagues_of, transfers_after}
 use Rattle.season_book.proofs.StandingsAlike.{classic_last_alike, classic_row_alike, classic_rows_alike, head_last_alike, head_row_alike, head_rows_alike}
-
--- one of a list that is kept, or passed over
-kept_same : {X Y : Type 0} (f : X → Y) (x y : X) (xs ys : List X) (b : Bool) → f x ≡ f y → map f xs ≡ map f ys → map f (cond b (x ∷ xs) xs) ≡ map f (cond b (y ∷ ys) ys)
-kept_same f x y xs ys true one rest = λ i. one i ∷ rest i
-kept_same f x y xs ys false one rest = rest
 
 -- what is the same at numbers up to k is so over a range of such numbers
 range_same : {X : Type 0} (f f2 : ℕ → X) (k a n : ℕ) → n ≤ (k + 1) - a → ((g : ℕ) → g ≤ k → f g ≡ f2 g) → map f (range_with_len a n) ≡ map f2 (range_with_len a n)

@@ -28,7 +28,8 @@ use Rattle.rule_book.proofs.UpToFacts.{count_the_same, tell_the_same}
 use Rattle.season_book.specs.Book.{Book, EntryFacts, Facts}
 use Rattle.season_book.specs.EntryViews.{has_scored, score_by, team_by}
 use Rattle.season_book.specs.Agree.{Alike, EntriesAlike, EntryAlike}
-use Rattle.season_book.proofs.EntriesFacts.{BothAlike, both_alike}
+use Rattle.season_book.proofs.EntriesFacts.{BothAlike, both_alike, started_alike}
+use Rattle.season_book.proofs.EntriesInAlike.{kept_same}
 use Rattle.season_book.specs.ChipNames.{chip_name}
 use Rattle.season_book.specs.EntryRows.{benched, entry_row_data, entry_row_of}
 use Rattle.season_book.specs.EntryTotals.{is_in, row_through, total_through}
@@ -46,17 +47,6 @@ first_same [] [] same = refl
 first_same [] (e ∷ h2) same = cc
 first_same (e ∷ h) [] same = cc
 first_same (e ∷ h) (e2 ∷ h2) same = same_Some e.gw e2.gw same
-
-started_same : (h h2 : List Event) → start_of h ≡ start_of h2 → is_started h ≡ is_started h2
-started_same [] [] same = refl
-started_same [] (e ∷ h2) same = cc
-started_same (e ∷ h) [] same = cc
-started_same (e ∷ h) (e2 ∷ h2) same = refl
-
--- one of a list that is kept, or passed over
-kept_same : {X Y : Type 0} (f : X → Y) (x y : X) (xs ys : List X) (b : Bool) → f x ≡ f y → map f xs ≡ map f ys → map f (cond b (x ∷ xs) xs) ≡ map f (cond b (y ∷ ys) ys)
-kept_same f x y xs ys true one rest = λ i. one i ∷ rest i
-kept_same f x y xs ys false one rest = rest
 
 -- what is the same at numbers up to k is so over a range of such numbers
 range_same : {X : Type 0} (f f2 : ℕ → X) (k a n : ℕ) → n ≤ (k + 1) - a → ((g : ℕ) → g ≤ k → f g ≡ f2 g) → map f (range_with_len a n) ≡ map f2 (range_with_len a n)
@@ -175,7 +165,7 @@ module _ (facts : Facts) where
 
     history_same : (if is_started entry.history then Some (history_data facts entries (e, entry)) else None) ≡ (if is_started other.history then Some (history_data facts others (e, other)) else None)
     history_same =
-        let started = started_same entry.history other.history a.start in
+        let started = started_alike entry.history other.history a.start in
         λ i. if started i then Some (object
         (member (codes "chips") (array (items_of (chips_same i)))
         (member (codes "current") (array (items_of (current_same i)))

@@ -1,5 +1,5 @@
 -- What entries have in locked gameweeks, of books that are the same to a caller.
-use Rattle.std.proofs.Common.{◌≡◌, ◌≤◌, ℕ, List, [], Option, Some, None, if◌then◌else◌, ap}
+use Rattle.std.proofs.Common.{◌≡◌, ◌≤◌, ℕ, List, [], Option, Some, None, if◌then◌else◌, refl, ap}
 use Rattle.std.specs.Option.{option_map_or}
 use Rattle.rule_book.specs.Entries.{entry_in}
 use Rattle.rule_book.specs.History.{Event}
@@ -10,7 +10,7 @@ use Rattle.rule_book.proofs.AgreeFacts.{scores_agree}
 use Rattle.rule_book.proofs.UpToFacts.{count_the_same}
 use Rattle.season_book.specs.Book.{EntryFacts, Facts}
 use Rattle.season_book.specs.EntryViews.{score_by}
-use Rattle.season_book.specs.LeagueViews.{name_of, net_in, no_side, side_by, side_in, side_of}
+use Rattle.season_book.specs.LeagueViews.{first_of, history_of, name_of, net_in, no_side, side_by, side_in, side_of}
 use Rattle.season_book.specs.Agree.{EntriesAlike}
 use Rattle.season_book.proofs.EntriesFacts.{BothAlike, both_alike}
 
@@ -27,21 +27,36 @@ module _ (facts : Facts) (entries others : List EntryFacts) (a : EntriesAlike (S
   name_alike e = of_both (entry_in entries e) (entry_in others e) (both_alike (Some facts) entries others a e)
     where
       of_both : (x y : Option EntryFacts) → BothAlike (Some facts) x y → option_map_or (λ (entry : EntryFacts). entry.name) x [] ≡ option_map_or (λ (entry : EntryFacts). entry.name) y []
-      of_both None None b = λ i. []
+      of_both None None b = refl
       of_both None (Some y) b = absurd b
       of_both (Some x) None b = absurd b
       of_both (Some x) (Some y) b = b.name
 
-  -- what each gives to a tie, and its points
-  pub side_alike : AllSameUpTo facts.calendar.locked (side_in facts entries) (side_in facts others)
-  side_alike e g le = of_both (entry_in entries e) (entry_in others e) (both_alike (Some facts) entries others a e)
+  -- the gameweeks that they start in
+  pub first_alike : (e : ℕ) → first_of entries e ≡ first_of others e
+  first_alike e = of_both (entry_in entries e) (entry_in others e) (both_alike (Some facts) entries others a e)
     where
       of_both : (x y : Option EntryFacts) → BothAlike (Some facts) x y
-          → side_by facts (option_map_or (λ (entry : EntryFacts). entry.history) x []) g ≡ side_by facts (option_map_or (λ (entry : EntryFacts). entry.history) y []) g
-      of_both None None b = λ i. side_by facts [] g
+          → start_of (option_map_or (λ (entry : EntryFacts). entry.history) x []) ≡ start_of (option_map_or (λ (entry : EntryFacts). entry.history) y [])
+      of_both None None b = refl
       of_both None (Some y) b = absurd b
       of_both (Some x) None b = absurd b
-      of_both (Some x) (Some y) b = sides_agree facts x.history y.history b.locked b.start g le
+      of_both (Some x) (Some y) b = b.start
+
+  -- their histories, up to the locked gameweeks
+  pub history_alike : (e : ℕ) → AgreeUpTo facts.calendar.locked (history_of entries e) (history_of others e)
+  history_alike e = of_both (entry_in entries e) (entry_in others e) (both_alike (Some facts) entries others a e)
+    where
+      of_both : (x y : Option EntryFacts) → BothAlike (Some facts) x y
+          → AgreeUpTo facts.calendar.locked (option_map_or (λ (entry : EntryFacts). entry.history) x []) (option_map_or (λ (entry : EntryFacts). entry.history) y [])
+      of_both None None b = refl
+      of_both None (Some y) b = absurd b
+      of_both (Some x) None b = absurd b
+      of_both (Some x) (Some y) b = b.locked
+
+  -- what each gives to a tie, and its points
+  pub side_alike : AllSameUpTo facts.calendar.locked (side_in facts entries) (side_in facts others)
+  side_alike e g le = sides_agree facts (history_of entries e) (history_of others e) (history_alike e) (first_alike e) g le
 
   pub net_alike : AllSameUpTo facts.calendar.locked (net_in facts entries) (net_in facts others)
   net_alike e g le = ap (λ side. side.net) (side_alike e g le)

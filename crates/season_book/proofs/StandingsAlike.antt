@@ -23,7 +23,7 @@ use Rattle.season_book.specs.EntryViews.{score_by}
 use Rattle.season_book.specs.LeagueViews.{first_of, history_of, name_of, net_in, no_side, side_of}
 use Rattle.season_book.specs.Windows.{numbered}
 use Rattle.season_book.specs.Agree.{Alike, EntriesAlike}
-use Rattle.season_book.proofs.EntriesFacts.{BothAlike, both_alike}
+use Rattle.season_book.proofs.SidesAlike.{first_alike, history_alike, name_alike, net_alike}
 use Rattle.season_book.specs.ClassicStandings.{classic_row_told, classic_standings, classic_standings_window, last_points}
 use Rattle.season_book.specs.HeadStandings.{head_row_told, head_standings, head_standings_window}
 use Rattle.season_book.specs.LeaguePages.{standings_told}
@@ -33,60 +33,27 @@ module _ (facts : Facts) (entries others : List EntryFacts) (a : EntriesAlike (S
   abbrev locked : ℕ
   locked = facts.calendar.locked
 
-  name_alike : (e : ℕ) → name_of entries e ≡ name_of others e
-  name_alike e = of_both (entry_in entries e) (entry_in others e) (both_alike (Some facts) entries others a e)
-    where
-      of_both : (x y : Option EntryFacts) → BothAlike (Some facts) x y → option_map_or (λ (entry : EntryFacts). entry.name) x [] ≡ option_map_or (λ (entry : EntryFacts). entry.name) y []
-      of_both None None b = refl
-      of_both None (Some y) b = absurd b
-      of_both (Some x) None b = absurd b
-      of_both (Some x) (Some y) b = b.name
-
-  first_alike : (e : ℕ) → first_of entries e ≡ first_of others e
-  first_alike e = of_both (entry_in entries e) (entry_in others e) (both_alike (Some facts) entries others a e)
-    where
-      of_both : (x y : Option EntryFacts) → BothAlike (Some facts) x y
-          → start_of (option_map_or (λ (entry : EntryFacts). entry.history) x []) ≡ start_of (option_map_or (λ (entry : EntryFacts). entry.history) y [])
-      of_both None None b = refl
-      of_both None (Some y) b = absurd b
-      of_both (Some x) None b = absurd b
-      of_both (Some x) (Some y) b = b.start
-
-  history_alike : (e : ℕ) → AgreeUpTo locked (history_of entries e) (history_of others e)
-  history_alike e = of_both (entry_in entries e) (entry_in others e) (both_alike (Some facts) entries others a e)
-    where
-      of_both : (x y : Option EntryFacts) → BothAlike (Some facts) x y
-          → AgreeUpTo locked (option_map_or (λ (entry : EntryFacts). entry.history) x []) (option_map_or (λ (entry : EntryFacts). entry.history) y [])
-      of_both None None b = refl
-      of_both None (Some y) b = absurd b
-      of_both (Some x) None b = absurd b
-      of_both (Some x) (Some y) b = b.locked
+  first : (e : ℕ) → first_of entries e ≡ first_of others e
+  first = first_alike facts entries others a
 
   begun_alike : (e g : ℕ) → g ≤ locked → is_begun (history_of entries e) g ≡ is_begun (history_of others e) g
-  begun_alike e g le = (count_the_same locked (history_of entries e) (history_of others e) (history_alike e) (first_alike e) g le).begun
-
-  net_alike : AllSameUpTo locked (net_in facts entries) (net_in facts others)
-  net_alike e g le =
-      let begun = begun_alike e g le in
-      let score : score_by facts (history_of entries e) g ≡ score_by facts (history_of others e) g =
-      scores_agree facts.profile facts.calendar facts.players facts.matches locked (history_of entries e) (history_of others e) (history_alike e) (first_alike e) g le in
-      λ i. (if begun i then side_of (score i) else no_side).net
+  begun_alike e g le = (count_the_same locked (history_of entries e) (history_of others e) (history_alike facts entries others a e) (first e) g le).begun
 
   transfers_alike : (g e : ℕ) → g ≤ locked → transfers_through facts entries g e ≡ transfers_through facts others g e
-  transfers_alike g e le = (count_the_same locked (history_of entries e) (history_of others e) (history_alike e) (first_alike e) g le).counted
+  transfers_alike g e le = (count_the_same locked (history_of entries e) (history_of others e) (history_alike facts entries others a e) (first e) g le).counted
 
   points_alike : (e : ℕ) → last_points facts entries e ≡ last_points facts others e
   points_alike e =
       let begun = begun_alike e locked (omega arith) in
       let score : score_by facts (history_of entries e) locked ≡ score_by facts (history_of others e) locked =
-      scores_agree facts.profile facts.calendar facts.players facts.matches locked (history_of entries e) (history_of others e) (history_alike e) (first_alike e) locked (omega arith) in
+      scores_agree facts.profile facts.calendar facts.players facts.matches locked (history_of entries e) (history_of others e) (history_alike facts entries others a e) (first e) locked (omega arith) in
       λ i. if nat_le 1 locked && begun i then (score i).gross else pos 0
 
   module _ (league : LeagueFacts) where
     pub classic_row_alike : (g e : ℕ) → g ≤ locked → classic_row_through facts entries league g e ≡ classic_row_through facts others league g e
     classic_row_alike g e le =
-        let total = totals_agree (net_in facts entries e) (net_in facts others e) league.start g (first_of entries e) (λ k low. net_alike e k (omega (arith, low, le)))
-        ∙ ap (λ first. total_from (net_in facts others e) league.start first g) (first_alike e) in
+        let total = totals_agree (net_in facts entries e) (net_in facts others e) league.start g (first_of entries e) (λ k low. net_alike facts entries others a e k (omega (arith, low, le)))
+        ∙ ap (λ first. total_from (net_in facts others e) league.start first g) (first e) in
         let transfers = transfers_alike g e le in
         λ i. (e, total i, transfers i)
 
@@ -103,17 +70,17 @@ module _ (facts : Facts) (entries others : List EntryFacts) (a : EntriesAlike (S
     pub classic_same : (l : ℕ) → classic_standings facts entries l league ≡ classic_standings facts others l league
     classic_same l =
         let rows = classic_rows_alike locked (omega arith) in
-        λ i. standings_told l league (array (items_of (map (λ row. classic_row_told (name_alike row.1.entry i) (points_alike row.1.entry i) (classic_last_alike row.1.entry i) row)
+        λ i. standings_told l league (array (items_of (map (λ row. classic_row_told (name_alike facts entries others a row.1.entry i) (points_alike row.1.entry i) (classic_last_alike row.1.entry i) row)
         (numbered (classic_table_of (rows i))))))
 
     pub head_rows_alike : (g : ℕ) → g ≤ locked → head_rows_through facts entries league g ≡ head_rows_through facts others league g
-    head_rows_alike g le = (rows_agree (net_in facts entries) (net_in facts others) g league (λ e k low. net_alike e k (omega (arith, low, le)))).head
+    head_rows_alike g le = (rows_agree (net_in facts entries) (net_in facts others) g league (λ e k low. net_alike facts entries others a e k (omega (arith, low, le)))).head
 
     -- a row is that of a league with one member
     pub head_row_alike : (g e : ℕ) → g ≤ locked → head_row_through facts entries league g e ≡ head_row_through facts others league g e
     head_row_alike g e le =
         let none : ℕ × HeadScore = head_row_through facts entries league g e in
-        ap (λ rows. get_or rows 0 none) (rows_agree (net_in facts entries) (net_in facts others) g (record league { members = e ∷ [] }) (λ x k low. net_alike x k (omega (arith, low, le)))).head
+        ap (λ rows. get_or rows 0 none) (rows_agree (net_in facts entries) (net_in facts others) g (record league { members = e ∷ [] }) (λ x k low. net_alike facts entries others a x k (omega (arith, low, le)))).head
 
     pub head_last_alike : (e : ℕ) → head_last_rank facts entries league e ≡ head_last_rank facts others league e
     head_last_alike e =
@@ -125,7 +92,7 @@ module _ (facts : Facts) (entries others : List EntryFacts) (a : EntriesAlike (S
     pub head_same : (l : ℕ) → head_standings facts entries l league ≡ head_standings facts others l league
     head_same l =
         let rows = head_rows_alike locked (omega arith) in
-        λ i. standings_told l league (array (items_of (map (λ row. head_row_told l (name_alike row.1.entry i) (head_last_alike row.1.entry i) row)
+        λ i. standings_told l league (array (items_of (map (λ row. head_row_told l (name_alike facts entries others a row.1.entry i) (head_last_alike row.1.entry i) row)
         (numbered (head_table_of (rows i))))))
 
 -- the entries of books that are the same, with their facts

@@ -21,66 +21,23 @@ use Rattle.season_book.specs.EntryViews.{score_by}
 use Rattle.season_book.specs.LeagueViews.{classic_rows_by, counted_of, cup_shown, first_of, history_of, league_shown, league_shown_as, name_of, net_in, no_side, side_by, side_in, side_of}
 use Rattle.season_book.specs.declared.shown.Shown.TheVariants as shown
 use Rattle.season_book.specs.Agree.{EntriesAlike}
-use Rattle.season_book.proofs.EntriesFacts.{BothAlike, both_alike}
-
--- histories that agree up to the locked gameweeks have the same in one
-sides_agree : (facts : Facts) (h h2 : List Event) → AgreeUpTo facts.calendar.locked h h2 → start_of h ≡ start_of h2 → (g : ℕ) → g ≤ facts.calendar.locked
-    → side_by facts h g ≡ side_by facts h2 g
-sides_agree facts h h2 a s g le =
-    let begun : is_begun h g ≡ is_begun h2 g = (count_the_same facts.calendar.locked h h2 a s g le).begun in
-    let score : score_by facts h g ≡ score_by facts h2 g = scores_agree facts.profile facts.calendar facts.players facts.matches facts.calendar.locked h h2 a s g le in
-    λ i. if begun i then side_of (score i) else no_side
+use Rattle.season_book.proofs.SidesAlike.{first_alike, history_alike, name_alike, net_alike, side_alike}
 
 module _ (facts : Facts) (entries others : List EntryFacts) (a : EntriesAlike (Some facts) entries others) where
   abbrev locked : ℕ
   locked = facts.calendar.locked
 
-  name_alike : (e : ℕ) → name_of entries e ≡ name_of others e
-  name_alike e = of_both (entry_in entries e) (entry_in others e) (both_alike (Some facts) entries others a e)
-    where
-      of_both : (x y : Option EntryFacts) → BothAlike (Some facts) x y → option_map_or (λ (entry : EntryFacts). entry.name) x [] ≡ option_map_or (λ (entry : EntryFacts). entry.name) y []
-      of_both None None b = refl
-      of_both None (Some y) b = absurd b
-      of_both (Some x) None b = absurd b
-      of_both (Some x) (Some y) b = b.name
-
-  first_alike : (e : ℕ) → first_of entries e ≡ first_of others e
-  first_alike e = of_both (entry_in entries e) (entry_in others e) (both_alike (Some facts) entries others a e)
-    where
-      of_both : (x y : Option EntryFacts) → BothAlike (Some facts) x y
-          → start_of (option_map_or (λ (entry : EntryFacts). entry.history) x []) ≡ start_of (option_map_or (λ (entry : EntryFacts). entry.history) y [])
-      of_both None None b = refl
-      of_both None (Some y) b = absurd b
-      of_both (Some x) None b = absurd b
-      of_both (Some x) (Some y) b = b.start
-
-  history_alike : (e : ℕ) → AgreeUpTo locked (history_of entries e) (history_of others e)
-  history_alike e = of_both (entry_in entries e) (entry_in others e) (both_alike (Some facts) entries others a e)
-    where
-      of_both : (x y : Option EntryFacts) → BothAlike (Some facts) x y
-          → AgreeUpTo locked (option_map_or (λ (entry : EntryFacts). entry.history) x []) (option_map_or (λ (entry : EntryFacts). entry.history) y [])
-      of_both None None b = refl
-      of_both None (Some y) b = absurd b
-      of_both (Some x) None b = absurd b
-      of_both (Some x) (Some y) b = b.locked
-
-  side_alike : AllSameUpTo locked (side_in facts entries) (side_in facts others)
-  side_alike e g le = sides_agree facts (history_of entries e) (history_of others e) (history_alike e) (first_alike e) g le
-
-  net_alike : AllSameUpTo locked (net_in facts entries) (net_in facts others)
-  net_alike e g le = ap (λ side. side.net) (side_alike e g le)
-
   counted_alike : (e : ℕ) → counted_of facts entries e ≡ counted_of facts others e
-  counted_alike e = (count_the_same locked (history_of entries e) (history_of others e) (history_alike e) (first_alike e) locked (omega arith)).counted
+  counted_alike e = (count_the_same locked (history_of entries e) (history_of others e) (history_alike facts entries others a e) (first_alike facts entries others a e) locked (omega arith)).counted
 
   -- leagues
   classic_rows_alike : (league : LeagueFacts) → classic_rows_by facts entries league ≡ classic_rows_by facts others league
   classic_rows_alike league =
-      (rows_agree (net_in facts entries) (net_in facts others) locked league net_alike).classic (first_of entries) (counted_of facts entries)
-      ∙ (λ i. classic_rows (net_in facts others) (λ e. first_alike e i) (λ e. counted_alike e i) locked league)
+      (rows_agree (net_in facts entries) (net_in facts others) locked league (net_alike facts entries others a)).classic (first_of entries) (counted_of facts entries)
+      ∙ (λ i. classic_rows (net_in facts others) (λ e. first_alike facts entries others a e i) (λ e. counted_alike e i) locked league)
 
   head_rows_alike : (league : LeagueFacts) → head_rows (net_in facts entries) locked league ≡ head_rows (net_in facts others) locked league
-  head_rows_alike league = (rows_agree (net_in facts entries) (net_in facts others) locked league net_alike).head
+  head_rows_alike league = (rows_agree (net_in facts entries) (net_in facts others) locked league (net_alike facts entries others a)).head
 
   shown_as : (k : LeagueKind) (league : LeagueFacts) → league_shown_as k facts entries league ≡ league_shown_as k facts others league
   shown_as kind.Classic league =
@@ -88,14 +45,14 @@ module _ (facts : Facts) (entries others : List EntryFacts) (a : EntriesAlike (S
       λ i. shown.Classic (record {
         name = league.name;
         start = league.start;
-        rows = map (λ row. record { row = row; name = name_alike row.entry i }) (classic_table_of (rows i));
+        rows = map (λ row. record { row = row; name = name_alike facts entries others a row.entry i }) (classic_table_of (rows i));
       })
   shown_as kind.Head league =
       let rows = head_rows_alike league in
       λ i. shown.Head (record {
         name = league.name;
         start = league.start;
-        rows = map (λ row. record { row = row; name = name_alike row.entry i }) (head_table_of (rows i));
+        rows = map (λ row. record { row = row; name = name_alike facts entries others a row.entry i }) (head_table_of (rows i));
       })
 
   pub league_alike : (league : LeagueFacts) → league_shown facts entries league ≡ league_shown facts others league
@@ -103,7 +60,7 @@ module _ (facts : Facts) (entries others : List EntryFacts) (a : EntriesAlike (S
 
   -- cups
   rounds_alike : (b : Bracket) → rounds_shown b (side_in facts entries) locked ≡ rounds_shown b (side_in facts others) locked
-  rounds_alike b = λ i. map (λ round. rounds_agree b (side_in facts entries) (side_in facts others) locked round side_alike i) (range_with_len 1 (rounds_of b))
+  rounds_alike b = λ i. map (λ round. rounds_agree b (side_in facts entries) (side_in facts others) locked round (side_alike facts entries others a) i) (range_with_len 1 (rounds_of b))
 
   pub cup_alike : (b : Bracket) → cup_shown facts entries b ≡ cup_shown facts others b
   cup_alike b = let rounds = rounds_alike b in λ i. record { start = b.start; rounds = rounds i }

@@ -4,7 +4,6 @@ use Rattle.rule_book.specs.declared.season.Fixture.{Fixture}
 use Rattle.rule_book.specs.MatchFacts.{MatchFacts, has_facts}
 use Rattle.season_views.proofs.Written.{ended}
 use Rattle.season_book.specs.ElementSummary.{coming_row, has_club}
-use Rattle.fixture_windows.proofs.WrittenRows.{kept_if}
 use Rattle.fixture_windows.proofs.element_summary.write_coming.Goals as goal
 
 abbrev is_coming : ℕ → MatchFacts → Fixture → Bool

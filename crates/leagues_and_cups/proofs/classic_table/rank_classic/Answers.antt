@@ -1,7 +1,6 @@
 use Rattle.std.proofs.Common.{◌≡◌, ◌∙◌, sym, ap, subst, List, map, IsPermutation}
 use Rattle.std.proofs.lemmas.Result.{IfOk-weaker}
 use Rattle.rule_book.specs.ClassicTable.{IsClassicTable}
-use Rattle.rule_book.proofs.TableOrder.{classic_table_is_the_one}
 use Rattle.leagues_and_cups.specs.ClassicStanding.{placed_of_row, ranked_placed}
 use Rattle.leagues_and_cups.specs.declared.classic_table.Placed.{Placed}
 use Rattle.leagues_and_cups.proofs.ClassicStandingLemmas.{is_table}
@@ -19,7 +18,7 @@ returns-clause-ranked c =
 
 pub returns-clause-value : goal.returns-clause-value
 returns-clause-value c =
-    IfOk-weaker c.ranked_rows.result _ _ (λ table is. (classic_table_is_the_one c.args.rows.now table.items c.requires).0 is) (returns-clause-ranked c)
+    IfOk-weaker c.ranked_rows.result _ _ (λ table is. (c.tables_are_the_one.ensures.classic c.args.rows.now table.items c.requires).0 is) (returns-clause-ranked c)
 
 pub returns-clause-entries : goal.returns-clause-entries
 returns-clause-entries c n few =

@@ -6,7 +6,6 @@ use Rattle.rule_book.specs.Ranks.{rank_among}
 use Rattle.rule_book.specs.HeadToHead.{is_better, head_ranked}
 use Rattle.rule_book.specs.declared.tables.HeadRanked.{HeadRanked}
 use Rattle.rule_book.proofs.TableLemmas.{rows_with_ranks}
-use Rattle.rule_book.proofs.TableOrder.{head_table_is_the_one}
 use Rattle.leagues_and_cups.specs.HeadStanding.{standing_of_row, with_rank}
 use Rattle.leagues_and_cups.specs.declared.head_table.Standing.{Standing}
 use Rattle.leagues_and_cups.proofs.HeadStandingLemmas.{less_is_better}
@@ -26,7 +25,7 @@ returns-clause-ranked c =
     }
 
 pub returns-clause-value : goal.returns-clause-value
-returns-clause-value c = (head_table_is_the_one c.args.rows.now c.sort_by_key.new.self.items c.requires).0 (returns-clause-ranked c)
+returns-clause-value c = (c.tables_are_the_one.ensures.head c.args.rows.now c.sort_by_key.new.self.items c.requires).0 (returns-clause-ranked c)
 
 pub returns-clause-entries : goal.returns-clause-entries
 returns-clause-entries c n few = head_entries c.args.rows.now c.sort_by_key.new.self.items n (returns-clause-ranked c) few
