@@ -1,5 +1,5 @@
 -- Rows of a list that are written, or left out, or several at once.
-use Rattle.std.proofs.Common.{◌≡◌, ◌∙◌, sym, ap, refl, ℕ, ◌+◌, ◌<◌, List, [], ◌∷◌, ◌++◌, Ok, Bool, true, false, length, get_or, drop, append_assoc, append-nil, filter, sum_by, subst, Err, IsErr, Result, if◌then◌else◌}
+use Rattle.std.proofs.Common.{◌≡◌, ◌∙◌, sym, ap, refl, ℕ, ◌+◌, ◌<◌, List, [], ◌∷◌, ◌++◌, Ok, length, get_or, drop, append_assoc, append-nil, sum_by, subst, Err, IsErr, Result}
 use Rattle.std.specs.List.{flat_map}
 use Rattle.std.proofs.lemmas.List.{at_drop_more}
 use Rattle.std.proofs.lemmas.List.Sums.{sum_by-append, sum_by-drop_more}

@@ -1,6 +1,7 @@
 -- What entries that are the same to others have in locked gameweeks.
-use Rattle.std.proofs.Common.{◌≡◌, ◌≤◌, ◌+◌, ℕ, Bool, true, false, cond, List, [], ◌∷◌, Some, map, filter, refl, ap, ◌∙◌, subst}
+use Rattle.std.proofs.Common.{◌≡◌, ◌≤◌, ◌+◌, ℕ, cond, List, [], ◌∷◌, Option, Some, None, map, filter, refl, ap, ◌∙◌, subst}
 use Rattle.std.specs.List.{enumerate_from}
+use Rattle.std.specs.Option.{option_and_then}
 use Rattle.fpl_base.specs.declared.kinds.Caller.{Caller}
 use Rattle.rule_book.specs.UpToLaws.{CountTheSame, TellTheSame}
 use Rattle.rule_book.proofs.AgreeFacts.{scores_agree}
@@ -10,15 +11,20 @@ use Rattle.season_book.specs.Book.{Book, EntryFacts, Facts}
 use Rattle.season_book.specs.EntryViews.{score_by, team_by}
 use Rattle.season_book.specs.Agree.{Alike, EntriesAlike, EntryAlike}
 use Rattle.season_book.specs.EntryTotals.{entries_in, is_in}
+use Rattle.season_book.proofs.EntriesFacts.{BothAlike}
+use Rattle.season_book.proofs.ListsAlike.{kept_same}
 
 -- the entries of books that are the same to a caller
 pub entries_are : (caller : Caller) (book other : Book) → Alike caller book other → (facts : Facts) → book.facts ≡ Some facts → EntriesAlike (Some facts) book.entries other.entries
 entries_are caller book other a facts is = subst (λ o. EntriesAlike o book.entries other.entries) is a.entries
 
--- one of a list that is kept, or passed over
-pub kept_same : {X Y : Type 0} (f : X → Y) (x y : X) (xs ys : List X) (b : Bool) → f x ≡ f y → map f xs ≡ map f ys → map f (cond b (x ∷ xs) xs) ≡ map f (cond b (y ∷ ys) ys)
-kept_same f x y xs ys true one rest = λ i. one i ∷ rest i
-kept_same f x y xs ys false one rest = rest
+-- what is the same of each two entries that are the same to others
+pub of_both : {T : Type 0} (facts : Option Facts) (f f2 : EntryFacts → Option T) → ((entry other : EntryFacts) → EntryAlike facts entry other → f entry ≡ f2 other)
+    → (x y : Option EntryFacts) → BothAlike facts x y → option_and_then f x ≡ option_and_then f2 y
+of_both facts f f2 same None None b = refl
+of_both facts f f2 same None (Some y) b = absurd b
+of_both facts f f2 same (Some x) None b = absurd b
+of_both facts f f2 same (Some x) (Some y) b = same x y b
 
 module _ (facts : Facts) where
   -- two entries in a locked gameweek

@@ -1,8 +1,8 @@
 -- What the window of an entry shows of books that are the same to a caller.
-use Rattle.std.proofs.Common.{◌≡◌, ◌≤◌, ◌+◌, ◌-◌, ◌&&◌, ℕ, zero, suc, ℤ, Bool, true, false, cond, if◌then◌else◌, nat_le, List, [], ◌∷◌, Option, Some, None, map, filter, codes, arith, refl, sym, ap, ◌∙◌, subst}
+use Rattle.std.proofs.Common.{◌≡◌, ◌≤◌, ◌+◌, ◌-◌, ◌&&◌, ℕ, ℤ, cond, if◌then◌else◌, nat_le, List, [], ◌∷◌, Some, None, map, filter, codes, arith, refl, sym, ap, ◌∙◌}
 use Rattle.std.specs.Prelude.{count_by, int_lt}
-use Rattle.std.specs.List.{enumerate_from, range_with_len, sum}
-use Rattle.std.specs.Option.{option_and_then, option_map}
+use Rattle.std.specs.List.{enumerate_from, sum}
+use Rattle.std.specs.Option.{option_map}
 use Rattle.std.proofs.lemmas.List.Sums.{sum_by-cons}
 use Rattle.serde_json.specs.Data.{array, member, no_members, object, string}
 use Rattle.serde_json.specs.View.{items_of}
@@ -23,19 +23,12 @@ use Rattle.rule_book.proofs.UpToFacts.{count_the_same, tell_the_same}
 use Rattle.season_book.specs.Book.{Book, EntryFacts, Facts}
 use Rattle.season_book.specs.EntryViews.{score_by, team_by}
 use Rattle.season_book.specs.Agree.{Alike, EntriesAlike, EntryAlike}
-use Rattle.season_book.proofs.EntriesFacts.{BothAlike, both_alike}
-use Rattle.season_book.proofs.EntriesInAlike.{kept_same}
+use Rattle.season_book.proofs.EntriesFacts.{both_alike}
+use Rattle.season_book.proofs.EntriesInAlike.{entries_are, of_both}
+use Rattle.season_book.proofs.ListsAlike.{kept_same, range_same}
 use Rattle.season_book.specs.EntryTotals.{event_rank, gross_by, is_in, overall_rank, row_through, total_through}
 use Rattle.season_book.specs.EntryWindow.{classic_league_told, classic_leagues_of, entry_league_told, entry_leagues_told, entry_told, entry_window, head_league_told, head_leagues_of, transfers_after}
 use Rattle.season_book.proofs.StandingsAlike.{classic_last_alike, classic_row_alike, classic_rows_alike, head_last_alike, head_row_alike, head_rows_alike}
-
--- what is the same at numbers up to k is so over a range of such numbers
-range_same : {X : Type 0} (f f2 : ℕ → X) (k a n : ℕ) → n ≤ (k + 1) - a → ((g : ℕ) → g ≤ k → f g ≡ f2 g) → map f (range_with_len a n) ≡ map f2 (range_with_len a n)
-range_same f f2 k a zero le same = refl
-range_same f f2 k a (suc n) le same =
-    let one = same a (omega (arith, le)) in
-    let rest = range_same f f2 k (a + 1) n (omega (arith, le)) same in
-    λ i. one i ∷ rest i
 
 module _ (facts : Facts) where
   abbrev last : ℕ
@@ -161,19 +154,11 @@ module _ (facts : Facts) where
       shown_same : option_map (entry_told facts entries leagues (e, entry)) (start_of entry.history) ≡ option_map (entry_told facts others leagues (e, other)) (start_of other.history)
       shown_same = ap (option_map (entry_told facts entries leagues (e, entry))) a.start ∙ (λ i. option_map (λ first. told_same first i) (start_of other.history))
 
--- what is the same of each two entries that are the same to others
-of_both : {T : Type 0} (facts : Option Facts) (f f2 : EntryFacts → Option T) → ((entry other : EntryFacts) → EntryAlike facts entry other → f entry ≡ f2 other)
-    → (x y : Option EntryFacts) → BothAlike facts x y → option_and_then f x ≡ option_and_then f2 y
-of_both facts f f2 same None None b = refl
-of_both facts f f2 same None (Some y) b = absurd b
-of_both facts f f2 same (Some x) None b = absurd b
-of_both facts f f2 same (Some x) (Some y) b = same x y b
-
 -- an entry is the same by both books
 pub entry_alike : (caller : Caller) (book other : Book) → Alike caller book other → (facts : Facts) → book.facts ≡ Some facts → (e : ℕ)
     → entry_window facts book.entries book.leagues e ≡ entry_window facts other.entries other.leagues e
 entry_alike caller book other a facts is e =
-    let all : EntriesAlike (Some facts) book.entries other.entries = subst (λ o. EntriesAlike o book.entries other.entries) is a.entries in
+    let all = entries_are caller book other a facts is in
     of_both (Some facts) (λ entry. option_map (entry_told facts book.entries book.leagues (e, entry)) (start_of entry.history))
     (λ entry. option_map (entry_told facts other.entries book.leagues (e, entry)) (start_of entry.history))
     (λ entry twin same. shown_same facts book.entries other.entries all book.leagues e entry twin same)

@@ -1,7 +1,6 @@
 -- What the windows of an entry's gameweeks show of books that are the same to a caller.
-use Rattle.std.proofs.Common.{◌≡◌, ◌≤◌, ◌+◌, ◌-◌, ℕ, zero, suc, Bool, true, false, ◌&&◌, cond, if◌then◌else◌, nat_le, nat_lt, List, [], ◌∷◌, Option, Some, None, map, filter, is_some, arith, refl, ap, ◌∙◌, subst}
+use Rattle.std.proofs.Common.{◌≡◌, ◌≤◌, ◌+◌, ◌-◌, ℕ, zero, suc, Bool, true, false, ◌&&◌, cond, if◌then◌else◌, nat_le, nat_lt, List, [], ◌∷◌, Some, None, map, filter, is_some, arith, refl, ap, ◌∙◌}
 use Rattle.std.specs.List.{enumerate_from, range_with_len}
-use Rattle.std.specs.Option.{option_and_then}
 use Rattle.std.proofs.lemmas.Bool.Decides.{nat_tests}
 use Rattle.std.proofs.lemmas.Option.{same_Some}
 use Rattle.std.specs.Prelude.{codes}
@@ -28,8 +27,9 @@ use Rattle.rule_book.proofs.UpToFacts.{count_the_same, tell_the_same}
 use Rattle.season_book.specs.Book.{Book, EntryFacts, Facts}
 use Rattle.season_book.specs.EntryViews.{has_scored, score_by, team_by}
 use Rattle.season_book.specs.Agree.{Alike, EntriesAlike, EntryAlike}
-use Rattle.season_book.proofs.EntriesFacts.{BothAlike, both_alike, started_alike}
-use Rattle.season_book.proofs.EntriesInAlike.{kept_same}
+use Rattle.season_book.proofs.EntriesFacts.{both_alike, started_alike}
+use Rattle.season_book.proofs.EntriesInAlike.{entries_are, of_both}
+use Rattle.season_book.proofs.ListsAlike.{kept_same, range_same}
 use Rattle.season_book.specs.ChipNames.{chip_name}
 use Rattle.season_book.specs.EntryRows.{benched, entry_row_data, entry_row_of}
 use Rattle.season_book.specs.EntryTotals.{is_in, row_through, total_through}
@@ -47,14 +47,6 @@ first_same [] [] same = refl
 first_same [] (e ∷ h2) same = cc
 first_same (e ∷ h) [] same = cc
 first_same (e ∷ h) (e2 ∷ h2) same = same_Some e.gw e2.gw same
-
--- what is the same at numbers up to k is so over a range of such numbers
-range_same : {X : Type 0} (f f2 : ℕ → X) (k a n : ℕ) → n ≤ (k + 1) - a → ((g : ℕ) → g ≤ k → f g ≡ f2 g) → map f (range_with_len a n) ≡ map f2 (range_with_len a n)
-range_same f f2 k a zero le same = refl
-range_same f f2 k a (suc n) le same =
-    let one = same a (omega (arith, le)) in
-    let rest = range_same f f2 k (a + 1) n (omega (arith, le)) same in
-    λ i. one i ∷ rest i
 
 range_kept : {X : Type 0} (f f2 : ℕ → X) (test test2 : ℕ → Bool) (k a n : ℕ) → n ≤ (k + 1) - a → ((g : ℕ) → g ≤ k → f g ≡ f2 g) → ((g : ℕ) → g ≤ k → test g ≡ test2 g)
     → map f (filter test (range_with_len a n)) ≡ map f2 (filter test2 (range_with_len a n))
@@ -171,17 +163,6 @@ module _ (facts : Facts) where
         (member (codes "current") (array (items_of (current_same i)))
         (member (codes "past") no_list
         no_members)))) else None
-
--- what is the same of each two entries that are the same to others
-of_both : {T : Type 0} (facts : Option Facts) (f f2 : EntryFacts → Option T) → ((entry other : EntryFacts) → EntryAlike facts entry other → f entry ≡ f2 other)
-    → (x y : Option EntryFacts) → BothAlike facts x y → option_and_then f x ≡ option_and_then f2 y
-of_both facts f f2 same None None b = refl
-of_both facts f f2 same None (Some y) b = absurd b
-of_both facts f f2 same (Some x) None b = absurd b
-of_both facts f f2 same (Some x) (Some y) b = same x y b
-
-entries_are : (caller : Caller) (book other : Book) → Alike caller book other → (facts : Facts) → book.facts ≡ Some facts → EntriesAlike (Some facts) book.entries other.entries
-entries_are caller book other a facts is = subst (λ o. EntriesAlike o book.entries other.entries) is a.entries
 
 -- an entry's gameweek is the same by both books
 pub picks_alike : (caller : Caller) (book other : Book) → Alike caller book other → (facts : Facts) → book.facts ≡ Some facts → (e g : ℕ)

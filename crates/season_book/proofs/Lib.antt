@@ -9,6 +9,7 @@ pub mod EntriesInAlike
 pub mod EntryWindowAlike
 pub mod EntryWindowsAlike
 pub mod HeadMatchesAlike
+pub mod ListsAlike
 pub mod LockFacts
 pub mod OtherFacts
 pub mod ReplyFacts

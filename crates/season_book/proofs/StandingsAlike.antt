@@ -1,6 +1,6 @@
 -- What standings show of books that are the same to a caller.
-use Rattle.std.proofs.Common.{◌≡◌, ◌≤◌, ◌-◌, ◌&&◌, ℕ, pos, if◌then◌else◌, List, [], ◌∷◌, Option, Some, None, get_or, map, nat_le, nat_lt, arith, refl, ap, subst, ◌∙◌}
-use Rattle.std.specs.Option.{option_and_then, option_map_or}
+use Rattle.std.proofs.Common.{◌≡◌, ◌≤◌, ◌-◌, ◌&&◌, ℕ, pos, if◌then◌else◌, List, [], ◌∷◌, Some, None, get_or, map, nat_le, nat_lt, arith, ap, ◌∙◌}
+use Rattle.std.specs.Option.{option_and_then}
 use Rattle.serde_json.specs.Data.{array}
 use Rattle.serde_json.specs.View.{items_of}
 use Rattle.fpl_base.specs.declared.kinds.Caller.{Caller}
@@ -11,18 +11,17 @@ use Rattle.rule_book.specs.HistoryTeam.{is_begun}
 use Rattle.rule_book.specs.LeagueCalls.{is_head}
 use Rattle.rule_book.specs.Leagues.{LeagueFacts}
 use Rattle.rule_book.specs.Ranks.{rank_among}
-use Rattle.rule_book.specs.ScoresAgree.{AllSameUpTo}
 use Rattle.rule_book.specs.Tables.{classic_table_of, head_table_of}
 use Rattle.rule_book.specs.Totals.{total_from}
-use Rattle.rule_book.specs.UpTo.{AgreeUpTo, start_of}
 use Rattle.rule_book.specs.declared.tables.HeadScore.{HeadScore}
 use Rattle.rule_book.proofs.AgreeFacts.{rows_agree, scores_agree, totals_agree}
 use Rattle.rule_book.proofs.UpToFacts.{count_the_same}
 use Rattle.season_book.specs.Book.{Book, EntryFacts, Facts}
 use Rattle.season_book.specs.EntryViews.{score_by}
-use Rattle.season_book.specs.LeagueViews.{first_of, history_of, name_of, net_in, no_side, side_of}
+use Rattle.season_book.specs.LeagueViews.{first_of, history_of, net_in}
 use Rattle.season_book.specs.Windows.{numbered}
 use Rattle.season_book.specs.Agree.{Alike, EntriesAlike}
+use Rattle.season_book.proofs.EntriesInAlike.{entries_are}
 use Rattle.season_book.proofs.SidesAlike.{first_alike, history_alike, name_alike, net_alike}
 use Rattle.season_book.specs.ClassicStandings.{classic_row_told, classic_standings, classic_standings_window, last_points}
 use Rattle.season_book.specs.HeadStandings.{head_row_told, head_standings, head_standings_window}
@@ -95,18 +94,14 @@ module _ (facts : Facts) (entries others : List EntryFacts) (a : EntriesAlike (S
         λ i. standings_told l league (array (items_of (map (λ row. head_row_told l (name_alike facts entries others a row.1.entry i) (head_last_alike row.1.entry i) row)
         (numbered (head_table_of (rows i))))))
 
--- the entries of books that are the same, with their facts
-alike_with : (book other : Book) (facts : Facts) → book.facts ≡ Some facts → EntriesAlike book.facts book.entries other.entries → EntriesAlike (Some facts) book.entries other.entries
-alike_with book other facts is a = subst (λ f. EntriesAlike f book.entries other.entries) is a
-
 pub classic_standings_alike : (caller : Caller) (book other : Book) → Alike caller book other → (facts : Facts) → book.facts ≡ Some facts → (l : ℕ)
     → classic_standings_window facts book.entries book.leagues l ≡ classic_standings_window facts other.entries other.leagues l
 classic_standings_alike caller book other a facts is l =
-    let same = classic_same facts book.entries other.entries (alike_with book other facts is a.entries) in
+    let same = classic_same facts book.entries other.entries (entries_are caller book other a facts is) in
     (λ i. option_and_then (λ league. if is_head league.kind then None else Some (same league l i)) (entry_in (a.leagues i) l))
 
 pub head_standings_alike : (caller : Caller) (book other : Book) → Alike caller book other → (facts : Facts) → book.facts ≡ Some facts → (l : ℕ)
     → head_standings_window facts book.entries book.leagues l ≡ head_standings_window facts other.entries other.leagues l
 head_standings_alike caller book other a facts is l =
-    let same = head_same facts book.entries other.entries (alike_with book other facts is a.entries) in
+    let same = head_same facts book.entries other.entries (entries_are caller book other a facts is) in
     (λ i. option_and_then (λ league. if is_head league.kind then Some (same league l i) else None) (entry_in (a.leagues i) l))

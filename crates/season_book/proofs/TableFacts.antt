@@ -1,24 +1,17 @@
 -- What leagues and cups show of entries that are the same to others.
-use Rattle.std.proofs.Common.{◌≡◌, ◌≤◌, ℕ, if◌then◌else◌, List, [], Option, Some, None, map, arith, refl, ap, ◌∙◌}
+use Rattle.std.proofs.Common.{◌≡◌, ℕ, List, Some, map, arith, ◌∙◌}
 use Rattle.std.specs.List.{range_with_len}
-use Rattle.std.specs.Option.{option_map_or}
 use Rattle.rule_book.specs.declared.cup.Bracket.{Bracket}
 use Rattle.rule_book.specs.declared.league.LeagueKind.{LeagueKind}
 use Rattle.rule_book.specs.declared.league.LeagueKind.TheVariants as kind
 use Rattle.rule_book.specs.CupRounds.{rounds_of, rounds_shown}
-use Rattle.rule_book.specs.History.{Event}
-use Rattle.rule_book.specs.HistoryTeam.{is_begun}
-use Rattle.rule_book.specs.Entries.{entry_in}
 use Rattle.rule_book.specs.LeagueRows.{classic_rows, head_rows}
 use Rattle.rule_book.specs.Leagues.{LeagueFacts}
-use Rattle.rule_book.specs.ScoresAgree.{AllSameUpTo}
 use Rattle.rule_book.specs.Tables.{classic_table_of, head_table_of}
-use Rattle.rule_book.specs.UpTo.{AgreeUpTo, start_of}
-use Rattle.rule_book.proofs.AgreeFacts.{rounds_agree, rows_agree, scores_agree}
+use Rattle.rule_book.proofs.AgreeFacts.{rounds_agree, rows_agree}
 use Rattle.rule_book.proofs.UpToFacts.{count_the_same}
 use Rattle.season_book.specs.Book.{EntryFacts, Facts}
-use Rattle.season_book.specs.EntryViews.{score_by}
-use Rattle.season_book.specs.LeagueViews.{classic_rows_by, counted_of, cup_shown, first_of, history_of, league_shown, league_shown_as, name_of, net_in, no_side, side_by, side_in, side_of}
+use Rattle.season_book.specs.LeagueViews.{classic_rows_by, counted_of, cup_shown, first_of, history_of, league_shown, league_shown_as, net_in, side_in}
 use Rattle.season_book.specs.declared.shown.Shown.TheVariants as shown
 use Rattle.season_book.specs.Agree.{EntriesAlike}
 use Rattle.season_book.proofs.SidesAlike.{first_alike, history_alike, name_alike, net_alike, side_alike}

@@ -1,5 +1,5 @@
 use Rattle.std.proofs.Common.{◌∙◌, ◌&&◌, ℕ, Bool, filter, not, refl}
-use Rattle.json_members.proofs.ListLemmas.{rest_of}
+use Rattle.json_members.proofs.ListLemmas.{kept_if, rest_of}
 use Rattle.rule_book.specs.declared.season.Fixture.{Fixture}
 use Rattle.rule_book.specs.MatchFacts.{MatchFacts, has_facts}
 use Rattle.season_views.proofs.Written.{ended}
