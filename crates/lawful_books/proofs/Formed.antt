@@ -1,13 +1,11 @@
 -- What the deeds of a lawful history make of its squad.
 use Rattle.std.proofs.Common.{◌≡◌, ◌≢◌, ◌<◌, ◌≤◌, ◌+◌, ℕ, Bool, true, false, cond, not, ◌&&◌, ◌||◌, List, [], ◌∷◌, ◌++◌, map, length, eqb, nat_eq, nat_lt, arith, refl, sym, ap, ◌∙◌, subst, ⊎_elim}
 use Rattle.std.specs.Prelude.{filter}
-use Rattle.std.specs.List.{AllByRecursion as Each, count_by}
+use Rattle.std.specs.List.{AllByRecursion as Each}
 use Rattle.std.proofs.lemmas.Bool.{cases_eq}
 use Rattle.std.proofs.lemmas.Bool.Decides.{nat_tests}
 use Rattle.std.proofs.lemmas.List.{append-nil, length-map}
-use Rattle.std.proofs.lemmas.List.Sums.{sum_by-cons}
 use Rattle.fpl_base.specs.declared.kinds.Position.{Position}
-use Rattle.fpl_base.specs.declared.kinds.Position.TheVariants.{Keeper, Defender, Midfielder, Forward}
 use Rattle.rule_book.specs.declared.team.Pick.{Pick}
 use Rattle.rule_book.specs.declared.transfers.Sale.{Sale}
 use Rattle.rule_book.specs.EntryRecords.{IsPriced}
@@ -17,7 +15,7 @@ use Rattle.rule_book.specs.HistoryRules.{FitsKept, IsHistory, is_first, times}
 use Rattle.rule_book.specs.HistorySquad.{armbands_of, bought_at, follow_one, holdings_of, in_squad, order_of, picks_of}
 use Rattle.rule_book.specs.HistoryTeam.{is_begun}
 use Rattle.rule_book.specs.PlayerFigures.{position_in}
-use Rattle.rule_book.specs.Positions.{is_keeper, is_defender, is_midfielder, is_forward, keepers, defenders, midfielders, forwards}
+use Rattle.rule_book.specs.Positions.{keepers, defenders, midfielders, forwards}
 use Rattle.rule_book.specs.Squads.{has_squad_shape, positions_of}
 use Rattle.season_book.specs.Book.{Facts}
 use Rattle.season_book.specs.Commands.{has_player}
@@ -26,6 +24,7 @@ use Rattle.season_ledger.proofs.Ledger.{holdings-first}
 use Rattle.season_ledger.proofs.Legality.{all_fit, headed, sound_at}
 use Rattle.season_ledger.proofs.Lists.{map_map}
 use Rattle.season_ledger.proofs.Swaps.{armbands-push, bought-push, order-none, order-some, push_more}
+use Rattle.squad_rules.proofs.FormationFacts.{all_of_four}
 use Rattle.lawful_books.specs.Histories.{AreLinedUp, AreThere, IsLawfulDeed, IsLawfulFirst, IsLawfulHistory, IsLawfulSwap, positions}
 use Rattle.lawful_books.specs.Fifteens.{TeamsAreFit, TeamsHaveShape}
 use Rattle.lawful_books.proofs.TeamsPlayers.{among_each, each_among, each_filter, each_map, each_map_back, was_among}
@@ -193,24 +192,9 @@ module _ (facts : Facts) where
       not_flipped true f = refl
       not_flipped false f = cc
 
--- each position is one of the four
-counted_all : (xs : List Position) → keepers xs + defenders xs + midfielders xs + forwards xs ≡ length xs
-counted_all [] = refl
-counted_all (x ∷ xs) =
-    omega (arith, counted_all xs, one_of_four x, more is_keeper, more is_defender, more is_midfielder, more is_forward)
-  where
-    more : (test : Position → Bool) → count_by test (x ∷ xs) ≡ cond (test x) 1 0 + count_by test xs
-    more test = sum_by-cons (λ y. cond (test y) 1 0) x xs
-
-    one_of_four : (x : Position) → cond (is_keeper x) 1 0 + cond (is_defender x) 1 0 + cond (is_midfielder x) 1 0 + cond (is_forward x) 1 0 ≡ 1
-    one_of_four Keeper = refl
-    one_of_four Defender = refl
-    one_of_four Midfielder = refl
-    one_of_four Forward = refl
-
 -- a squad of the right shape has fifteen
 pub fifteen_of_shape : (xs : List Position) → has_squad_shape xs ≡ true → length xs ≡ 15
-fifteen_of_shape xs shape = summed (keepers xs) (defenders xs) (midfielders xs) (forwards xs) shape (counted_all xs)
+fifteen_of_shape xs shape = summed (keepers xs) (defenders xs) (midfielders xs) (forwards xs) shape (all_of_four xs)
   where
     summed : (a b c d : ℕ) → (eqb a 2 && eqb b 5 && eqb c 5 && eqb d 3) ≡ true → a + b + c + d ≡ length xs → length xs ≡ 15
     summed a b c d four all =

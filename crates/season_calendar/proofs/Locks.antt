@@ -11,7 +11,7 @@ use Rattle.std.proofs.lemmas.Bool.Decides.{nat_tests, leb_tells}
 use Rattle.fpl_base.proofs.Around.{AllPairs-head, AllPairs-tail}
 
 -- no deadline that comes later has passed
-none_passed : (ds : List ℕ) (t : ℕ) → All (λ d. t < d) ds → count_by (λ d. leb d t) ds ≡ 0
+pub none_passed : (ds : List ℕ) (t : ℕ) → All (λ d. t < d) ds → count_by (λ d. leb d t) ds ≡ 0
 none_passed [] t h = refl
 none_passed (d ∷ ds) t h =
     let late : t < d = All-head (λ e. t < e) d ds h in

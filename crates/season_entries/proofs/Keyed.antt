@@ -41,7 +41,8 @@ same_keys players [] (x ∷ entries) a = absurd a
 same_keys players (m ∷ managers) [] a = absurd a
 same_keys players (m ∷ managers) (x ∷ entries) a = ap (λ k. k ∷ hosts.keys_of entries) a.0.key ∙ ap (λ l. m.key ∷ l) (same_keys players managers entries a.1)
 
-same_many : (players : List Player) (managers : List Manager) (entries : List EntryFacts) → AreEntries players managers entries → length entries ≡ length managers
+-- as many entries as managers
+pub same_many : (players : List Player) (managers : List Manager) (entries : List EntryFacts) → AreEntries players managers entries → length entries ≡ length managers
 same_many players [] [] a = refl
 same_many players [] (x ∷ entries) a = absurd a
 same_many players (m ∷ managers) [] a = absurd a

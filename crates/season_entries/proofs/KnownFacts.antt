@@ -15,16 +15,11 @@ use Rattle.manager_book.specs.Managers.{nobody}
 use Rattle.season_book.specs.Book.{EntryFacts}
 use Rattle.season_book.specs.LeagueCommands.{is_issued, is_registered}
 use Rattle.season_entries.specs.Entries.{AreEntries, IsEntry}
+use Rattle.season_entries.proofs.Keyed.{same_many}
 use Rattle.season_entries.proofs.Placing.{have_positions}
 use Rattle.season_entries.specs.Known.{EntriesAreKnown, is_issued_by, is_registered_by}
 
 -- at a place, from 0
-
-same_many : (players : List Player) (managers : List Manager) (entries : List EntryFacts) → AreEntries players managers entries → length entries ≡ length managers
-same_many players [] [] a = refl
-same_many players [] (x ∷ entries) a = absurd a
-same_many players (m ∷ managers) [] a = absurd a
-same_many players (m ∷ managers) (x ∷ entries) a = ap suc (same_many players managers entries a.1)
 
 issued_at : {X : Type 0} (xs : List X) (place : ℕ) → is_some (slice_get xs place) ≡ nat_lt place (length xs)
 issued_at [] place = none_below place

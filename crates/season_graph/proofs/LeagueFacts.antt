@@ -19,6 +19,7 @@ use Rattle.season_nodes.specs.Brackets.{bracket_in}
 use Rattle.season_nodes.specs.declared.nodes.Node.{Node}
 use Rattle.season_nodes.specs.declared.nodes.Node.TheVariants as node
 use Rattle.season_nodes.specs.declared.nodes.Value.{Value}
+use Rattle.season_nodes.specs.Places.{listed}
 use Rattle.season_nodes.specs.Reading.{among_left, among_right, from_any, from_filter, from_flat, to_any, to_filter, to_flat, to_map}
 use Rattle.season_graph.specs.Refreshed.{Refreshed}
 use Rattle.season_nodes.specs.Rounds.{order_in, start_in}
@@ -82,19 +83,6 @@ from_leagues n (x ∷ xs) e k a = by_case (is_member x e) refl (from_leagues (n 
     by_case true is rest (inr y) = behind (rest y)
     by_case false is rest y = behind (rest y)
 
-to_leagues : (n : ℕ) (leagues : List LeagueFacts) (e i : ℕ) (league : LeagueFacts) → slice_get leagues i ≡ Some league → is_member league e ≡ true → Among (leagues_from n leagues e) (n + i)
-to_leagues n [] e i league at is = absurd (cc)
-to_leagues n (x ∷ xs) e zero league at is =
-    let same : n ≡ n + 0 = omega arith in
-    subst (λ t. Among (cond t (n ∷ leagues_from (n + 1) xs e) (leagues_from (n + 1) xs e)) (n + 0)) (sym (ap (λ l. is_member l e) (same_Some x league at) ∙ is)) (inl same)
-to_leagues n (x ∷ xs) e (suc i) league at is =
-    let same : n + 1 + i ≡ n + suc i = omega arith in
-    behind (is_member x e) (subst (Among (leagues_from (n + 1) xs e)) same (to_leagues (n + 1) xs e i league at is))
-  where
-    behind : (t : Bool) → Among (leagues_from (n + 1) xs e) (n + suc i) → Among (cond t (n ∷ leagues_from (n + 1) xs e) (leagues_from (n + 1) xs e)) (n + suc i)
-    behind true a = inr a
-    behind false a = a
-
 -- a classic league of an entry that starts with a gameweek
 abbrev pub IsFrom : List LeagueFacts → ℕ → ℕ → ℕ → LeagueFacts → Type 0
 IsFrom leagues e s k league = (entry_in leagues k ≡ Some league) × (is_member league e ≡ true) × (start_of_classic league ≡ Some s)
@@ -121,7 +109,7 @@ module _ (b : SeasonFacts) where
   to_start e s k league is =
       let there = from_entry b.leagues k league (k == 0) refl is.0 in
       let place : 1 + (k - 1) ≡ k = omega (arith, there.0) in
-      let mine : Among (leagues_of b.leagues e) k = subst (Among (leagues_of b.leagues e)) place (to_leagues 1 b.leagues e (k - 1) league there.1 is.1) in
+      let mine : Among (leagues_of b.leagues e) k = subst (Among (leagues_of b.leagues e)) place (listed 1 b.leagues e (k - 1) league there.1 is.1) in
       let at : classic_start b.leagues k ≡ Some s = ap (option_and_then start_of_classic) is.0 ∙ is.2 in
       to_any s (starts_of b e) (inr (to_flat (classic_starts b.leagues) (leagues_of b.leagues e) k s mine (subst (λ o. Among (option_map_or (λ n. n ∷ []) o []) s) (sym at) (inl refl))))
 

@@ -18,7 +18,7 @@ use Rattle.season_ledger.proofs.Legality.{Headed, headed}
 use Rattle.season_ledger.proofs.Lists.{filter_agree_on, each_weaker}
 
 -- a row that is there stands above what all rows stand above
-above : (rows : List Row) (g v : ℕ) (t : Standing) → AllAbove g rows → row_at rows v ≡ Some t → g < v
+pub above : (rows : List Row) (g v : ℕ) (t : Standing) → AllAbove g rows → row_at rows v ≡ Some t → g < v
 above [] g v t a e = cc
 above (r ∷ rows) g v t a e = ⊎_elim
     (λ (q : r.gw ≡ v). omega (arith, a.0))

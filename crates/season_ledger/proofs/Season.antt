@@ -22,7 +22,7 @@ use Rattle.season_ledger.specs.Rows.{is_up_to, row_at, or_else, base_at, AllAbov
 use Rattle.season_ledger.specs.Batches.{IsFirstTeam, BatchOn, LineupOn, CanPlay, CanCancel, players_of}
 use Rattle.season_ledger.specs.Stands.{IsPlaced, StandsFor, RowsAlwaysTell}
 use Rattle.season_ledger.proofs.Held.{Holds, RowsHold, Stands}
-use Rattle.season_ledger.proofs.Carry.{base_some, standing_told}
+use Rattle.season_ledger.proofs.Carry.{above, base_some, standing_told}
 use Rattle.season_ledger.proofs.Frees.{chip_is, used_is, past_told, first_is, free_in_told, cost_told, counted_told}
 use Rattle.squad_rules.proofs.ChipsPlayed.{among_agree}
 use Rattle.season_ledger.proofs.Places.{place_there}
@@ -49,13 +49,6 @@ kept_put rows g s k later early fit = record { rise = rise-put rows g s k.rise l
         (λ (n : r.gw ≢ g). let t : nat_eq r.gw g ≡ false = grind (arith, nat_tests) in rw t b)
         (cases_eq r.gw g)
 
-above_row : (rows : List Row) (g v : ℕ) (t : Standing) → AllAbove g rows → row_at rows v ≡ Some t → g < v
-above_row [] g v t a e = cc
-above_row (r ∷ rows) g v t a e = ⊎_elim
-    (λ (q : r.gw ≡ v). omega (arith, a.0))
-    (λ (n : r.gw ≢ v). let f : nat_eq r.gw v ≡ false = grind (arith, nat_tests) in above_row rows g v t a.1 (rw f at e))
-    (cases_eq r.gw v)
-
 -- a free hit that stands is not in the first gameweek
 pub standing_early : (rows : List Row) (g : ℕ) (s : Standing) → IsKept rows → standing_at rows g ≡ Some s → is_free_hit s.team.chip ≡ true → is_past rows g ≡ true
 standing_early rows g s k e free = by_row (row_at rows g) (base_at rows g) refl e
@@ -68,7 +61,7 @@ standing_early rows g s k e free = by_row (row_at rows g) (base_at rows g) refl 
     own (r ∷ rs) k e = ⊎_elim
         (λ (q : r.gw ≡ g). let t : nat_eq r.gw g ≡ true = grind (arith, nat_tests) in let x : Some r.standing ≡ Some s = rw t at e in let y : r.standing ≡ s = cc in
         absurd (clash (sym k.bare ∙ ap (λ (v : Standing). is_free_hit v.team.chip) y ∙ free)))
-        (λ (n : r.gw ≢ g). let t : nat_eq r.gw g ≡ false = grind (arith, nat_tests) in let l : r.gw < g = above_row rs r.gw g s k.rise.0 (rw t at e) in grind (arith, nat_tests))
+        (λ (n : r.gw ≢ g). let t : nat_eq r.gw g ≡ false = grind (arith, nat_tests) in let l : r.gw < g = above rs r.gw g s k.rise.0 (rw t at e) in grind (arith, nat_tests))
         (cases_eq r.gw g)
 
     by_row : (o : Option Standing) (b : Option Row) → row_at rows g ≡ o → or_else o (carried b) ≡ Some s → is_past rows g ≡ true

@@ -1,25 +1,13 @@
 -- The deadline of a gameweek locks that gameweek and those before it.
-use Rattle.std.proofs.Common.{◌≡◌, ◌∙◌, refl, ℕ, zero, suc, ◌+◌, ◌<◌, ◌≤◌, true, false, cond, leb, List, [], ◌∷◌, Some, arith, slice_get, subst}
+use Rattle.std.proofs.Common.{◌≡◌, ◌∙◌, ℕ, zero, suc, ◌+◌, ◌<◌, ◌≤◌, true, cond, leb, List, [], ◌∷◌, Some, arith, slice_get, subst}
 use Rattle.std.specs.Prelude.{count_by}
 use Rattle.std.specs.List.{All, AllPairs}
 use Rattle.std.proofs.lemmas.List.Elements.{All-head, All-tail}
 use Rattle.std.proofs.lemmas.List.Sums.{sum_by-cons}
 use Rattle.std.proofs.lemmas.Bool.Decides.{nat_tests}
 use Rattle.std.proofs.lemmas.Option.{none-some, same_Some}
-
--- what rises from the first on
-first_below : (d : ℕ) (ds : List ℕ) → AllPairs (λ a b. a < b) (d ∷ ds) → All (λ e. d < e) ds
-first_below d ds rise k e lt = rise 0 (suc k) e (omega arith) (omega arith)
-
-others_rise : (d : ℕ) (ds : List ℕ) → AllPairs (λ a b. a < b) (d ∷ ds) → AllPairs (λ a b. a < b) ds
-others_rise d ds rise i j e lt le = rise (suc i) (suc j) e (omega arith) (omega arith)
-
-none_passed : (ds : List ℕ) (t : ℕ) → All (λ d. t < d) ds → count_by (λ d. leb d t) ds ≡ 0
-none_passed [] t h = refl
-none_passed (d ∷ ds) t h =
-    let late : t < d = All-head (λ e. t < e) d ds h in
-    let still : leb d t ≡ false = grind (arith, nat_tests) in
-    sum_by-cons (λ e. cond (leb e t) 1 0) d ds ∙ rw still (omega (arith, none_passed ds t (All-tail (λ e. t < e) d ds h)))
+use Rattle.fpl_base.proofs.Around.{AllPairs-head, AllPairs-tail}
+use Rattle.season_calendar.proofs.Locks.{none_passed}
 
 above : (d : ℕ) (ds : List ℕ) (n t : ℕ) → All (λ e. d < e) ds → slice_get ds n ≡ Some t → d < t
 above d [] n t all at = absurd (none-some t at)
@@ -35,8 +23,8 @@ pub passed_by : (ds : List ℕ) (n t : ℕ) → AllPairs (λ a b. a < b) ds → 
 passed_by [] n t rise at = absurd (none-some t at)
 passed_by (d ∷ ds) zero t rise at =
     let same : d ≡ t = same_Some d t at in
-    one_more d t 0 ds (omega (arith, same)) (none_passed ds t (subst (λ t. All (λ e. t < e) ds) same (first_below d ds rise)))
+    one_more d t 0 ds (omega (arith, same)) (none_passed ds t (subst (λ t. All (λ e. t < e) ds) same (AllPairs-head (λ a b. a < b) d ds rise)))
 passed_by (d ∷ ds) (suc n) t rise at =
-    let lt : d < t = above d ds n t (first_below d ds rise) at in
+    let lt : d < t = above d ds n t (AllPairs-head (λ a b. a < b) d ds rise) at in
     let same : n + 1 + 1 ≡ suc n + 1 = omega arith in
-    one_more d t (n + 1) ds (omega (arith, lt)) (passed_by ds n t (others_rise d ds rise) at) ∙ same
+    one_more d t (n + 1) ds (omega (arith, lt)) (passed_by ds n t (AllPairs-tail (λ a b. a < b) d ds rise) at) ∙ same

@@ -12,7 +12,6 @@ use Rattle.fpl_base.specs.declared.rule.Rule.{Rule}
 use Rattle.fpl_base.specs.declared.rule.Rule.TheVariants as rule
 use Rattle.rule_book.specs.declared.cup.Bracket.{Bracket}
 use Rattle.rule_book.specs.Entries.{entry_in}
-use Rattle.rule_book.specs.declared.player.Player.{Player}
 use Rattle.rule_book.specs.HistoryRules.{is_started}
 use Rattle.manager_book.specs.declared.manager.Manager.{Manager}
 use Rattle.manager_book.specs.Managers.{Managers, number_from}
@@ -375,10 +374,3 @@ has_key managers key e found is same =
     let place : e - 1 ≡ at.place = omega (arith, at.number) in
     same ∙ ap (λ i. option_map (λ (m : Manager). m.key) (slice_get managers i)) place ∙ ap (option_map (λ (m : Manager). m.key)) at.there
     ∙ ap Some (sym ((bytes_eq-Decides key at.manager.key).0 at.keyed))
-
--- as many entries as managers
-pub same_many : (players : List Player) (managers : List Manager) (entries : List EntryFacts) → AreEntries players managers entries → length entries ≡ length managers
-same_many players [] [] a = refl
-same_many players [] (x ∷ entries) a = absurd a
-same_many players (m ∷ managers) [] a = absurd a
-same_many players (m ∷ managers) (x ∷ entries) a = ap suc (same_many players managers entries a.1)

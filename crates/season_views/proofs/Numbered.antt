@@ -1,5 +1,5 @@
 -- Things by their numbers, and what is written of them.
-use Rattle.std.proofs.Common.{◌≡◌, ◌<◌, ◌+◌, ◌-◌, ◌==◌, ℕ, zero, suc, false, List, [], ◌∷◌, length, Some, None, arith, refl, ap, subst, ◌∙◌, if◌then◌else◌}
+use Rattle.std.proofs.Common.{◌≡◌, ◌<◌, ◌+◌, ◌-◌, ◌==◌, ℕ, zero, suc, false, List, [], ◌∷◌, length, Some, None, arith, refl, sym, ap, subst, ◌∙◌, if◌then◌else◌}
 use Rattle.std.specs.List.{slice_get}
 use Rattle.std.proofs.lemmas.Bool.Decides.{nat_tests}
 use Rattle.rule_book.specs.declared.player.Player.{Player}
@@ -7,9 +7,10 @@ use Rattle.rule_book.specs.Entries.{entry_in}
 use Rattle.manager_book.specs.declared.manager.Manager.{Manager}
 use Rattle.season_book.specs.Book.{EntryFacts}
 use Rattle.season_entries.specs.Entries.{AreEntries}
+use Rattle.season_entries.proofs.Keyed.{same_many}
 
 -- there is something at each place below the length
-stands : {X : Type 0} (xs : List X) (i : ℕ) → i < length xs → (x : X) × (slice_get xs i ≡ Some x)
+pub stands : {X : Type 0} (xs : List X) (i : ℕ) → i < length xs → (x : X) × (slice_get xs i ≡ Some x)
 stands [] i below = absurd (omega arith)
 stands (x ∷ xs) zero below = (x, refl)
 stands (x ∷ xs) (suc i) below = stands xs i (omega arith)
@@ -26,10 +27,7 @@ numbered_at xs i n below is = let there = stands xs i below in (there.0, there.1
 
 -- managers stand for as many entries
 pub as_many : (players : List Player) (managers : List Manager) (entries : List EntryFacts) → AreEntries players managers entries → length managers ≡ length entries
-as_many players [] [] are = refl
-as_many players [] (entry ∷ entries) are = absurd are
-as_many players (m ∷ managers) [] are = absurd are
-as_many players (m ∷ managers) (entry ∷ entries) are = ap suc (as_many players managers entries are.1)
+as_many players managers entries are = sym (same_many players managers entries are)
 
 -- so it is with the entries of a book that managers stand for
 pub entry_numbered : (players : List Player) (managers : List Manager) (entries : List EntryFacts) (i n : ℕ) → AreEntries players managers entries → i < length managers → 1 + i ≡ n

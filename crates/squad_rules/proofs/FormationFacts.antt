@@ -21,7 +21,7 @@ one_of_four Midfielder = refl
 one_of_four Forward = refl
 
 -- each position is one of the four
-all_of_four : (xs : List Position) → keepers xs + defenders xs + midfielders xs + forwards xs ≡ length xs
+pub all_of_four : (xs : List Position) → keepers xs + defenders xs + midfielders xs + forwards xs ≡ length xs
 all_of_four [] = refl
 all_of_four (x ∷ xs) =
     omega (arith, all_of_four xs, one_of_four x, counted_more is_keeper x xs, counted_more is_defender x xs, counted_more is_midfielder x xs, counted_more is_forward x xs)

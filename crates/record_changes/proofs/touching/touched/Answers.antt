@@ -3,7 +3,7 @@ use Rattle.std.specs.Prelude.{IfOk}
 use Rattle.manager_book.specs.declared.manager.Manager.{Manager}
 use Rattle.season_records.specs.declared.slot.Slot.TheVariants as slot
 use Rattle.season_records.specs.Touched.{touched_by}
-use Rattle.season_running.proofs.RuledFacts.{same_many}
+use Rattle.season_entries.proofs.Keyed.{same_many}
 use Rattle.record_changes.proofs.touching.touched.Goals as goal
 
 pub returns-in-Entries : goal.returns-in-Entries

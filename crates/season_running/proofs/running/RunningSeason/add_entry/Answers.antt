@@ -4,7 +4,8 @@ use Rattle.season_running.specs.Changed.{IsChangedBy}
 use Rattle.season_running.specs.Standing.{Running}
 use Rattle.season_book.specs.EntryViews.{gameweek_seen}
 use Rattle.season_running.proofs.ChangedFacts.{key_changed}
-use Rattle.season_running.proofs.RuledFacts.{key_done, profile_stays, same_many}
+use Rattle.season_entries.proofs.Keyed.{same_many}
+use Rattle.season_running.proofs.RuledFacts.{key_done, profile_stays}
 use Rattle.season_running.proofs.StepFacts.{not_fewer}
 use Rattle.season_running.proofs.running.RunningSeason.add_entry.Goals as goal
 use Rattle.season_running.proofs.running.RunningSeason.add_entry.Goals.{in-Ok, in-Err}
