@@ -1,18 +1,13 @@
 -- Of a book for which rows stood, what each manager did is a history that ends by the next gameweek, and what counts in
 -- each gameweek can be paid.
-use Rattle.std.proofs.Common.{◌≡◌, ◌<◌, ℕ, zero, suc, true, false, List, [], ◌∷◌, AllPairs, Option, Some, None, length, get_or, nat_eq, arith, refl, sym, ap, subst, ◌∙◌}
+use Rattle.std.proofs.Common.{◌≡◌, ◌<◌, ℕ, true, false, List, [], AllPairs, Option, Some, None, sym, ap, subst, ◌∙◌}
 use Rattle.std.specs.Option.{option_map_or}
 use Rattle.std.proofs.lemmas.Bool.{false≢true}
-use Rattle.std.proofs.lemmas.Bool.Decides.{nat_tests}
 use Rattle.fpl_base.specs.declared.kinds.Position.{Position}
-use Rattle.fpl_base.specs.declared.kinds.Position.TheVariants.{Keeper}
-use Rattle.rule_book.specs.declared.player.Player.{Player}
-use Rattle.rule_book.specs.Batch.{HavePositions}
 use Rattle.rule_book.specs.Entries.{entry_in}
 use Rattle.rule_book.specs.History.{Event, is_touched}
 use Rattle.rule_book.specs.HistoryRules.{IsHistory, NoneAfter}
 use Rattle.rule_book.specs.PlayerFigures.{position_in}
-use Rattle.rule_book.specs.Players.{player_of}
 use Rattle.rule_book.specs.TeamOfHistory.{CanPay}
 use Rattle.rule_book.proofs.TeamFacts.{team_is_the_one}
 use Rattle.season_ledger.specs.Rows.{row_at}
@@ -22,23 +17,10 @@ use Rattle.manager_book.specs.declared.manager.Manager.{Manager}
 use Rattle.season_book.specs.Book.{Book, EntryFacts, Facts}
 use Rattle.season_records.specs.Touched.{gameweek_of}
 use Rattle.season_entries.specs.Entries.{AreEntries, IsEntry}
+use Rattle.season_entries.proofs.Placing.{rising_positions}
 use Rattle.season_running.specs.Standing.{players_in}
 use Rattle.record_changes.proofs.EntriesTold.{Both, both_at}
 use Rattle.season_opening.specs.Opening.{IsKeepable}
-
--- a player is the one of his id, so he plays where it is looked up that he plays
-own : (players : List Player) → AllPairs (λ p q. p.id < q.id) players → (i : ℕ) (d : Player) → i < length players
-    → player_of players (get_or players i d).id ≡ Some (get_or players i d)
-own [] rise i d l = absurd (omega arith)
-own (p ∷ players) rise zero d l = let t : nat_eq p.id p.id ≡ true = grind (arith, nat_tests) in rw t refl
-own (p ∷ players) rise (suc i) d l =
-    let m : i < length players = omega (arith, l) in
-    let before : p.id < (get_or players i d).id = rise 0 (suc i) d (omega arith) l in
-    let t : nat_eq p.id (get_or players i d).id ≡ false = grind (arith, nat_tests) in
-    rw t (own players (λ a b e f g. rise (suc a) (suc b) e (omega (arith, f)) (omega (arith, g))) i d m)
-
-their_positions : (players : List Player) → AllPairs (λ p q. p.id < q.id) players → HavePositions (position_in players) players
-their_positions players rise i d l = sym (ap (λ o. option_map_or (λ (p : Player). p.position) o Keeper) (own players rise i d l))
 
 -- what counts in a gameweek of which rows tell can be paid
 paid_by : (position : ℕ → Position) (h : List Event) (g : ℕ) (o : Option Standing) → Tells position h g o → is_touched h g ≡ true → CanPay h g
@@ -64,7 +46,7 @@ stood book facts e entry keepable rise season at =
     by None both = absurd both
     by (Some manager) both =
         let position : ℕ → Position = position_in facts.players in
-        let stands : StandsFor position manager.season entry.history = both.history position (their_positions facts.players rise) in
+        let stands : StandsFor position manager.season entry.history = both.history position (rising_positions facts.players rise) in
         record {
           history = stands.history;
           early = subst (NoneAfter (gameweek_of book)) (ap (λ o. option_map_or (λ (entry : EntryFacts). entry.history) o []) at) (keepable.early e);

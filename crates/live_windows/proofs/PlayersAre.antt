@@ -20,7 +20,7 @@ use Rattle.rule_book.specs.Points.{counted_yellow, points_of}
 use Rattle.squad_rules.specs.Elevens.{Row}
 use Rattle.season_book.specs.Book.{Facts}
 use Rattle.season_nodes.specs.Season.{Rising}
-use Rattle.season_views.proofs.EntryRows.{have_positions}
+use Rattle.season_entries.proofs.Placing.{have_positions}
 use Rattle.season_book.specs.DreamTeamWindow.{rows_of_gameweek}
 use Rattle.season_book.specs.LineSums.{clean_sheets_of, gameweek_lines}
 use Rattle.season_book.specs.LiveWindow.{explained_data, is_in_team, live_data, live_row, stats_data}

@@ -19,5 +19,9 @@ own (p ∷ players) rise (suc i) d l =
     let t : nat_eq p.id (get_or players i d).id ≡ false = grind (arith, nat_tests) in
     rw t (own players (λ a b e f g. rise (suc a) (suc b) e (omega (arith, f)) (omega (arith, g))) i d m)
 
+-- so each plays where it is looked up that he plays
+pub rising_positions : (players : List Player) → AllPairs (λ p q. p.id < q.id) players → HavePositions (position_in players) players
+rising_positions players rise i d l = sym (ap (λ o. option_map_or (λ (p : Player). p.position) o Keeper) (own players rise i d l))
+
 pub have_positions : (players : List Player) → ArePlayers players → HavePositions (position_in players) players
-have_positions players a i d l = sym (ap (λ o. option_map_or (λ (p : Player). p.position) o Keeper) (own players a.ascending i d l))
+have_positions players are = rising_positions players are.ascending

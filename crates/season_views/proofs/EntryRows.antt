@@ -1,70 +1,25 @@
 -- The entries that managers' rows stand for, by their numbers.
-use Rattle.std.proofs.Common.{◌≡◌, ◌<◌, ◌≤◌, ◌-◌, ◌==◌, ◌||◌, ℕ, zero, suc, Bool, true, false, List, [], ◌∷◌, length, get_or, Option, Some, None, AllPairs, arith, cond, nat_lt, nat_le, ◌&&◌, true≢false, slice_index_or, refl, sym, ap, subst, ◌∙◌, if◌then◌else◌}
+use Rattle.std.proofs.Common.{◌≡◌, ◌<◌, ◌≤◌, ◌-◌, ◌==◌, ◌||◌, ℕ, Bool, true, false, List, length, Option, Some, None, arith, nat_lt, nat_le, ◌&&◌, true≢false, refl, sym, ap, subst, ◌∙◌, if◌then◌else◌}
 use Rattle.std.specs.List.{slice_get}
-use Rattle.std.specs.Option.{option_and_then, option_map_or}
+use Rattle.std.specs.Option.{option_and_then}
 use Rattle.std.proofs.lemmas.Bool.Decides.{nat_tests}
 use Rattle.std.proofs.lemmas.Option.{cond_some, none-some, same_Some}
 use Rattle.fpl_base.specs.declared.kinds.Position.{Position}
-use Rattle.fpl_base.specs.declared.kinds.Position.TheVariants.{Keeper}
 use Rattle.rule_book.specs.declared.player.Player.{Player}
-use Rattle.rule_book.specs.Batch.{HavePositions}
 use Rattle.rule_book.specs.Calendar.{is_locked}
 use Rattle.rule_book.specs.HistoryTeam.{is_begun}
 use Rattle.rule_book.specs.PlayerFigures.{position_in}
-use Rattle.rule_book.specs.Players.{ArePlayers, player_of}
+use Rattle.rule_book.specs.Players.{ArePlayers}
 use Rattle.season_ledger.specs.Stands.{StandsFor}
 use Rattle.manager_book.specs.declared.manager.Manager.{Manager}
-use Rattle.manager_book.specs.Managers.{Managers, nobody, season_of}
+use Rattle.manager_book.specs.Managers.{Managers, season_of}
 use Rattle.season_book.specs.Book.{EntryFacts, Facts}
 use Rattle.season_book.specs.declared.shown.ShownEntryGameweek.{ShownEntryGameweek}
 use Rattle.season_book.specs.EntryViews.{entry_gameweek_shown, entry_shown, has_scored}
-use Rattle.season_entries.specs.Entries.{AreEntries, IsEntry}
+use Rattle.season_entries.specs.Entries.{AreEntries}
+use Rattle.season_entries.proofs.Issued.{entry_at, none_at}
+use Rattle.season_entries.proofs.Placing.{have_positions}
 use Rattle.season_views.specs.Entries.{OfEachHistory}
-
-same_number : (n : ℕ) → (n == n) ≡ true
-same_number n = grind (arith, nat_tests)
-
-other_number : (m n : ℕ) → m < n → (m == n) ≡ false
-other_number m n less = grind (arith, nat_tests, less)
-
--- each of players whose ids rise is the one that is found by his id
-found_at : (players : List Player) → AllPairs (λ p q. p.id < q.id) players → (k : ℕ) (d : Player) → k < length players → player_of players (get_or players k d).id ≡ Some (get_or players k d)
-found_at [] rise k d within = absurd (omega arith)
-found_at (p ∷ players) rise zero d within = ap (λ b. cond b (Some p) (player_of players p.id)) (same_number p.id)
-found_at (p ∷ players) rise (suc k) d within =
-    let q = get_or players k d in
-    ap (λ b. cond b (Some p) (player_of players q.id)) (other_number p.id q.id (rise 0 (suc k) d (omega arith) within))
-    ∙ found_at players (λ i j e less inside. rise (suc i) (suc j) e (omega arith) (omega arith)) k d (omega arith)
-
--- so each plays where he is found to play
-pub have_positions : (players : List Player) → ArePlayers players → HavePositions (position_in players) players
-have_positions players are k d within =
-    sym (ap (λ o. option_map_or (λ (player : Player). player.position) o Keeper) (found_at players are.ascending k d within))
-
--- the entry at a place, from 0
-pub record EntryAt (players : List Player) (managers : List Manager) (entries : List EntryFacts) (place : ℕ) : Type 0 where
-  pub entry : EntryFacts
-  pub there : slice_get entries place ≡ Some entry
-  pub stands : IsEntry players (slice_index_or managers place nobody) entry
-
-moved : (players : List Player) (m : Manager) (managers : List Manager) (entry : EntryFacts) (entries : List EntryFacts) (place : ℕ)
-    → EntryAt players managers entries place → EntryAt players (m ∷ managers) (entry ∷ entries) (suc place)
-moved players m managers entry entries place at = record { entry = at.entry; there = at.there; stands = at.stands }
-
-entry_at : (players : List Player) (managers : List Manager) (entries : List EntryFacts) (place : ℕ) → AreEntries players managers entries → place < length managers → EntryAt players managers entries place
-entry_at players [] entries place are within = absurd (omega arith)
-entry_at players (m ∷ managers) [] place are within = absurd are
-entry_at players (m ∷ managers) (entry ∷ entries) zero are within = record { entry = entry; there = refl; stands = are.0 }
-entry_at players (m ∷ managers) (entry ∷ entries) (suc place) are within =
-    moved players m managers entry entries place (entry_at players managers entries place are.1 (omega arith))
-
--- there is no entry behind the managers
-no_entry : (players : List Player) (managers : List Manager) (entries : List EntryFacts) (place : ℕ) → AreEntries players managers entries → length managers ≤ place → slice_get entries place ≡ None
-no_entry players [] [] place are past = refl
-no_entry players [] (entry ∷ entries) place are past = absurd are
-no_entry players (m ∷ managers) [] place are past = absurd are
-no_entry players (m ∷ managers) (entry ∷ entries) zero are past = absurd (omega arith)
-no_entry players (m ∷ managers) (entry ∷ entries) (suc place) are past = no_entry players managers entries place are.1 (omega arith)
 
 -- what is shown of an entry's gameweek
 abbrev shown_by : Facts → ℕ → EntryFacts → Option ShownEntryGameweek
@@ -79,7 +34,7 @@ among_all n e some past = grind (arith, nat_tests, some, past)
 none_case : (players : List Player) (managers : List Manager) (entries : List EntryFacts) (e : ℕ) (none past : Bool) → AreEntries players managers entries
     → (e == 0) ≡ none → nat_lt (length managers) e ≡ past → None ≡ (if none || past then None else Some e) → (if none then None else slice_get entries (e - 1)) ≡ None
 none_case players managers entries e true past are is_none is_past at = refl
-none_case players managers entries e false true are is_none is_past at = no_entry players managers entries (e - 1) are (past_all (length managers) e is_none is_past)
+none_case players managers entries e false true are is_none is_past at = none_at players managers entries (e - 1) are (past_all (length managers) e is_none is_past)
 none_case players managers entries e false false are is_none is_past at = absurd (none-some e at)
 
 -- an entry that was not issued is not shown

@@ -21,7 +21,7 @@ use Rattle.season_book.specs.Book.{EntryFacts, Facts}
 use Rattle.season_book.specs.LeagueViews.{history_of, name_of}
 use Rattle.season_entries.specs.Entries.{AreEntries}
 use Rattle.season_views.specs.Entries.{OfEachBook, OfEachHistory, OfEachNames}
-use Rattle.season_views.proofs.EntryRows.{have_positions}
+use Rattle.season_entries.proofs.Placing.{have_positions}
 
 -- no rows stand for a history in which nothing was done
 stands_nobody : (position : ℕ → Position) → StandsFor position [] []
