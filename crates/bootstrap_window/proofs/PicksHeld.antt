@@ -4,7 +4,7 @@ use Rattle.std.specs.List.{slice_get}
 use Rattle.std.proofs.lemmas.Bool.Decides.{nat_tests}
 use Rattle.rule_book.specs.declared.team.Pick.{Pick}
 use Rattle.season_book.specs.Elements.{is_picked}
-use Rattle.bootstrap_window.proofs.Counting.{take_next}
+use Rattle.season_views.proofs.Lists.{take_next}
 
 -- equal numbers are equal
 pub equal : (m n : ℕ) → (m == n) ≡ true → m ≡ n

@@ -1,14 +1,9 @@
 -- Tenths on either side of zero.
-use Rattle.std.proofs.Common.{◌≡◌, ◌<◌, ◌≤◌, ◌++◌, ◌∙◌, ◌⊎◌, ℕ, Bool, true, false, Result, Ok, Err, IfOk, inl, inr, arith, sym, ap, refl}
+use Rattle.std.proofs.Common.{◌≡◌, ◌<◌, ◌≤◌, ◌++◌, ◌∙◌, ◌⊎◌, ℕ, Bool, true, false, inl, inr, arith, sym, ap, refl}
 use Rattle.std.specs.Prelude.{◌&&◌, codes, nat_lt, if◌then◌else◌}
 use Rattle.std.proofs.lemmas.Bool.{lt-ltb}
 use Rattle.std.proofs.lemmas.Bool.Decides.{nat_tests}
 use Rattle.season_book.specs.Decimals.{signed_tenths_text, tenths_text}
-
--- what a result that is there has, and what follows from it
-pub if_ok : {T E : Type 0} (r : Result T E) (P Q : T → Type 0) → ((x : T) → P x → Q x) → IfOk r P → IfOk r Q
-if_ok (Ok x) P Q follows is = follows x is
-if_ok (Err e) P Q follows is = is
 
 pub below_zero : (b : Bool) (tenths : ℕ) → b ≡ true → 0 < tenths → codes "-" ++ tenths_text tenths ≡ signed_tenths_text b tenths
 below_zero b tenths is some =

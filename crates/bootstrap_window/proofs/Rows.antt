@@ -1,17 +1,16 @@
 -- Rows of entries that a loop goes through, one more at a time.
 use Rattle.std.proofs.Common.{◌≡◌, ◌<◌, ◌≤◌, ◌+◌, ◌∷◌, [], ◌++◌, ◌∙◌, ℕ, Bool, true, false, cond, List, Some, arith, length, map, take, refl, sym, ap, subst, if◌then◌else◌}
-use Rattle.std.specs.Prelude.{filter, sum_by, is_some}
+use Rattle.std.specs.Prelude.{filter, is_some}
 use Rattle.std.specs.List.{enumerate_from, slice_get}
 use Rattle.std.proofs.lemmas.List.{map-append, take_all}
 use Rattle.std.proofs.lemmas.List.FromFn.{get_or-enumerate_from, length-enumerate_from}
-use Rattle.std.proofs.lemmas.List.Sums.{sum_by_more}
-use Rattle.std.proofs.lemmas.Option.{slice_get_read, slice_get_within, get_or_from_slice_get}
+use Rattle.std.proofs.lemmas.Option.{slice_get_read}
 use Rattle.json_members.proofs.ListLemmas.{got}
 use Rattle.rule_book.specs.History.{Event}
 use Rattle.rule_book.specs.HistoryRules.{is_started}
 use Rattle.rule_book.specs.UpTo.{start_of}
 use Rattle.season_book.specs.Windows.{numbered}
-use Rattle.bootstrap_window.proofs.Counting.{take_next}
+use Rattle.season_views.proofs.Lists.{take_next}
 
 -- what stands at a place of a list is numbered there
 pub numbered_get : {X : Type 0} (xs : List X) (i n : ℕ) (x : X) → slice_get xs i ≡ Some x → 1 + i ≡ n → slice_get (numbered xs) i ≡ Some (n, x)
@@ -41,10 +40,6 @@ pub mapped_push : {X Y : Type 0} (f : X → Y) (p : X → Bool) (xs : List X) (i
     → map f (filter p (take (i + 1) xs)) ≡ map f (filter p (take i xs)) ++ (if p x then f x ∷ [] else [])
 mapped_push f p xs i x at =
     ap (map f) (kept_push p xs i x at) ∙ map-append f (filter p (take i xs)) (if p x then x ∷ [] else []) ∙ ap (λ l. map f (filter p (take i xs)) ++ l) (map_if f (p x) x)
-
--- one more of a list is added up
-pub sum_next : {X : Type 0} (f : X → ℕ) (xs : List X) (i : ℕ) (x : X) → slice_get xs i ≡ Some x → sum_by f (take (i + 1) xs) ≡ sum_by f (take i xs) + f x
-sum_next f xs i x at = sum_by_more f xs i x (slice_get_within xs i x at) ∙ ap (λ y. sum_by f (take i xs) + f y) (get_or_from_slice_get xs i x x at)
 
 -- all that is numbered stands before a place behind it
 pub all_numbered : {X : Type 0} (xs : List X) (i : ℕ) → length xs ≤ i → take i (numbered xs) ≡ numbered xs

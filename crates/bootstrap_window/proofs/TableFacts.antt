@@ -17,7 +17,7 @@ use Rattle.season_book.specs.Elements.{totals_over}
 use Rattle.season_book.specs.LineSums.{line_bonus, line_bps, line_points}
 use Rattle.bootstrap_window.specs.declared.totals.Totals.{Totals}
 use Rattle.bootstrap_window.specs.Tables.{AllSmall, AreSmall, Sums, Table, no_totals, or_none, told, totals_in, with_line}
-use Rattle.bootstrap_window.proofs.Counting.{take_next}
+use Rattle.season_views.proofs.Lists.{take_next}
 use Rattle.season_views.proofs.LinesHeld.{other_line, own_line}
 use Rattle.bootstrap_window.proofs.PicksHeld.{equal}
 use Rattle.bootstrap_window.proofs.TotalFacts.{totals_push}

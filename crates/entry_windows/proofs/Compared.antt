@@ -1,5 +1,6 @@
 -- Totals of entries compared, and their ranks.
-use Rattle.std.proofs.Common.{◌≡◌, ◌≤◌, ◌+◌, ◌&&◌, ℕ, ℤ, pos, ◌+ℤ◌, Bool, true, false, List, Some, None, arith, refl, sym, ap, ap₂, ◌∙◌, if◌then◌else◌}
+use Rattle.std.proofs.Common.{◌≡◌, ◌≤◌, ◌+◌, ◌&&◌, ℕ, ℤ, pos, ◌+ℤ◌, Bool, List, Some, None, arith, sym, ap, ap₂, ◌∙◌, if◌then◌else◌}
+use Rattle.season_views.proofs.Scores.{none_of}
 use Rattle.std.specs.List.{count_by}
 use Rattle.std.proofs.lemmas.Option.{cond_some}
 use Rattle.rule_book.specs.declared.team_score.TeamScore.{TeamScore}
@@ -15,10 +16,6 @@ use Rattle.season_book.specs.EntryTotals.{is_in, row_through, total_through}
 use Rattle.entry_windows.specs.Races.{AreRanks, IsRace}
 use Rattle.entry_windows.proofs.Counted.{rank_is}
 use Rattle.entry_windows.proofs.Through.{through_more}
-
-none_of : {X : Type 0} (b : Bool) (x : X) → None ≡ (if b then Some x else None) → b ≡ false
-none_of true x is = cc
-none_of false x is = refl
 
 -- the points of a gameweek in which an entry was, and of one in which it was not
 pub net_of_some : (facts : Facts) (h : List Event) (g : ℕ) (score : TeamScore) → Some score ≡ (if is_begun h g then Some (score_by facts h g) else None) → score.net ≡ (side_by facts h g).net

@@ -1,11 +1,9 @@
--- A member of a league stands among its members, and what is summed up over leagues.
-use Rattle.std.proofs.Common.{◌≡◌, ◌<◌, ◌+◌, ◌==◌, ℕ, List, Some, true, Contains, arith, get_or, length, map, take, ap, ◌∙◌}
-use Rattle.std.specs.List.{list_any, slice_get, sum_by}
+-- A member of a league stands among its members.
+use Rattle.std.proofs.Common.{◌≡◌, ◌<◌, ◌==◌, ℕ, List, true, Contains, arith, get_or, length, map, ap, ◌∙◌}
+use Rattle.std.specs.List.{list_any}
 use Rattle.std.proofs.lemmas.Bool.Decides.{nat_tests}
 use Rattle.std.proofs.lemmas.List.{get_or-map, get_or_default}
 use Rattle.std.proofs.lemmas.List.Folds.{Any-from_list_any}
-use Rattle.std.proofs.lemmas.List.Sums.{sum_by_more}
-use Rattle.std.proofs.lemmas.Option.{get_or_from_slice_get, slice_get_within}
 
 same_number : (a e : ℕ) → (a == e) ≡ true → a ≡ e
 same_number a e is = grind (arith, nat_tests, is)
@@ -14,10 +12,6 @@ pub member_stands : (members : List ℕ) (e : ℕ) → list_any (λ member. memb
 member_stands members e is =
     let any = Any-from_list_any (λ member. member == e) members is in
     (any.0, any.2, get_or_default members any.0 e any.1 any.2 ∙ any.3 ∙ same_number any.1 e any.4)
-
--- one more of a list is summed up
-pub summed_more : {X : Type 0} (f : X → ℕ) (xs : List X) (i : ℕ) (x : X) → slice_get xs i ≡ Some x → sum_by f (take (i + 1) xs) ≡ sum_by f (take i xs) + f x
-summed_more f xs i x at = sum_by_more f xs i x (slice_get_within xs i x at) ∙ ap (λ y. sum_by f (take i xs) + f y) (get_or_from_slice_get xs i x x at)
 
 -- what a function gives of a member stands at its place
 pub at_member : {X : Type 0} (f : ℕ → X) (members : List ℕ) (values : List X) (place e : ℕ) (d : X) → values ≡ map f members → place < length members → get_or members place 0 ≡ e → get_or values place d ≡ f e

@@ -1,7 +1,6 @@
 -- Reports, one row more at a time.
-use Rattle.std.proofs.Common.{◌≡◌, ◌<◌, ◌≤◌, ◌+◌, ◌∷◌, [], ◌++◌, ℕ, suc, List, length, map, get_or, take, arith, refl, sym, ap, ◌∙◌, append-nil, Result, Ok, Err}
+use Rattle.std.proofs.Common.{◌≡◌, ◌<◌, ◌≤◌, ◌+◌, ◌∷◌, [], ◌++◌, ℕ, suc, List, length, map, get_or, take, arith, refl, sym, ap, ◌∙◌, append-nil}
 use Rattle.std.specs.List.{flat_map}
-use Rattle.std.specs.Result.{IfOk}
 use Rattle.std.proofs.lemmas.List.{map_more, take_more, take_all, flat_map_more, length-take}
 use Rattle.csv.specs.Writing.{default_writer, row_text}
 use Rattle.season_calendar.specs.Instants.{IsInstant}
@@ -91,10 +90,6 @@ pub instants_taken : (texts : List (List ℕ)) (moments : List ℕ) (i : ℕ) �
 instants_taken texts moments i h are =
     let size : length (take i moments) ≡ i = simp length-take (omega arith) in
     instants_count texts (take i moments) are ∙ size
-
-pub if_ok : {T E : Type 0} (r : Result T E) (P Q : T → Type 0) → ((x : T) → P x → Q x) → IfOk r P → IfOk r Q
-if_ok (Ok x) P Q f h = f x h
-if_ok (Err e) P Q f h = tt
 
 -- a header alone
 pub header_text : (header fields : List (List ℕ)) (start report : List ℕ) → start ≡ [] → fields ≡ header → report ≡ start ++ row_text default_writer fields → report ≡ rows_text (header ∷ [])

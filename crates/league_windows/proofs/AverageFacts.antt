@@ -1,15 +1,14 @@
 -- The points of the Average by cells are those by the histories of its entries.
-use Rattle.std.proofs.Common.{◌≡◌, ◌≤◌, ℕ, zero, suc, true, List, [], Some, length, map, arith, refl, ap, subst, sym, ◌∙◌}
+use Rattle.std.proofs.Common.{◌≡◌, ◌≤◌, ℕ, true, List, [], Some, length, map, ap, subst, sym, ◌∙◌}
 use Rattle.std.specs.Option.{option_map_or}
 use Rattle.rule_book.specs.declared.cup.Bracket.{Bracket}
 use Rattle.rule_book.specs.Entries.{entry_in}
 use Rattle.rule_book.specs.LeagueRows.{average_in}
 use Rattle.rule_book.specs.Leagues.{LeagueFacts}
 use Rattle.rule_book.specs.Opponents.{mean_of}
-use Rattle.rule_book.specs.PlayerFigures.{position_in}
 use Rattle.rule_book.specs.Players.{ArePlayers}
 use Rattle.season_ledger.specs.Stands.{RowsAlwaysTell}
-use Rattle.manager_book.specs.Managers.{Managers, season_of}
+use Rattle.manager_book.specs.Managers.{Managers}
 use Rattle.season_graph.specs.Told.{average_told, net_told}
 use Rattle.season_nodes.specs.Rounds.{has_average, start_in}
 use Rattle.season_nodes.specs.Season.{has_round, is_live}
@@ -19,25 +18,15 @@ use Rattle.season_book.specs.Book.{EntryFacts, Facts}
 use Rattle.season_book.specs.LeagueViews.{net_in}
 use Rattle.season_entries.specs.Entries.{AreEntries}
 use Rattle.season_views.specs.Cells.{books_seen}
-use Rattle.season_views.specs.Entries.{net_by}
-use Rattle.season_views.proofs.Histories.{in_books}
-use Rattle.season_views.proofs.Scores.{net_is}
+use Rattle.season_views.proofs.Matches.{points_are}
 
 module _ (facts : Facts) (managers : Managers) (leagues : List LeagueFacts) (cups : List Bracket) where
   module _ (entries : List EntryFacts) (players : ArePlayers facts.players) (tell : RowsAlwaysTell) (profile : managers.profile ≡ facts.profile) (are : AreEntries facts.players managers.managers entries) where
-    -- the points of an entry by cells are those of its history; there is no entry 0, who would have none
-    points_are : (e g : ℕ) → 1 ≤ g → g ≤ facts.calendar.locked → net_told (books_seen facts managers leagues cups) e g ≡ net_in facts entries e g
-    points_are zero g one by = refl
-    points_are (suc e) g one by =
-        let issued : 1 ≤ suc e = omega arith in
-        in_books facts managers (suc e) (λ h. net_told (books_seen facts managers leagues cups) (suc e) g ≡ net_by facts h g) players issued
-        (λ h stands. net_is facts managers leagues cups (suc e) h issued (tell (position_in facts.players) (season_of managers (suc e)) h stands) profile g one by) entries are
-
     pub average_is : (l g : ℕ) (league : LeagueFacts) → entry_in leagues l ≡ Some league → 1 ≤ g → g ≤ facts.calendar.locked
         → average_told (books_seen facts managers leagues cups) l g ≡ average_in (net_in facts entries) league.order g
     average_is l g league there one by =
         ap (λ o. average_in (net_told (books_seen facts managers leagues cups)) (option_map_or (λ (those : LeagueFacts). those.order) o []) g) there
-        ∙ (λ i. mean_of (map (λ e. points_are e g one by i) league.order))
+        ∙ (λ i. mean_of (map (λ e. points_are facts managers leagues cups entries players tell profile are e g one by i) league.order))
 
   -- it plays where the members are odd
   pub average_lives : (l g : ℕ) (league : LeagueFacts) → entry_in leagues l ≡ Some league → league.start ≤ g → g ≤ facts.calendar.locked → has_average (length league.order) ≡ true

@@ -1,26 +1,13 @@
 -- The name of a manager, if he was issued, is that of the entry in each book.
-use Rattle.std.proofs.Common.{◌≡◌, ◌≤◌, ◌-◌, ◌==◌, ℕ, zero, suc, false, List, [], ◌∷◌, Option, Some, None, arith, refl, sym, ap, ◌∙◌, if◌then◌else◌}
+use Rattle.std.proofs.Common.{◌≡◌, ◌≤◌, ◌-◌, ℕ, List, [], Option, Some, None, refl, ap, ◌∙◌, if◌then◌else◌}
+use Rattle.season_views.proofs.Histories.{names_at, some_number}
 use Rattle.std.specs.List.{slice_get}
 use Rattle.std.specs.Option.{option_map, option_map_or}
-use Rattle.std.proofs.lemmas.Bool.Decides.{nat_tests}
 use Rattle.rule_book.specs.declared.player.Player.{Player}
-use Rattle.manager_book.specs.declared.manager.Manager.{Manager}
 use Rattle.manager_book.specs.Managers.{Managers, name_of as name_by}
 use Rattle.season_book.specs.Book.{EntryFacts}
 use Rattle.season_book.specs.LeagueViews.{name_of}
 use Rattle.season_entries.specs.Entries.{AreEntries}
-
-some_number : (e : ℕ) → 1 ≤ e → false ≡ (e == 0)
-some_number e one = grind (arith, nat_tests)
-
-names_at : (players : List Player) (managers : List Manager) (entries : List EntryFacts) (place : ℕ) → AreEntries players managers entries
-    → option_map (λ m. m.name) (slice_get managers place) ≡ option_map (λ entry. entry.name) (slice_get entries place)
-names_at players [] [] zero are = refl
-names_at players [] [] (suc place) are = refl
-names_at players [] (entry ∷ entries) place are = absurd are
-names_at players (m ∷ managers) [] place are = absurd are
-names_at players (m ∷ managers) (entry ∷ entries) zero are = ap Some (sym are.0.name)
-names_at players (m ∷ managers) (entry ∷ entries) (suc place) are = names_at players managers entries place are.1
 
 abbrev text_of : Option (List ℕ) → List ℕ
 text_of o = option_map_or (λ name. name) o []

@@ -26,7 +26,7 @@ use Rattle.season_views.specs.Cells.{books_seen}
 use Rattle.season_book.specs.HeadMatches.{opponent_place, stands_first}
 use Rattle.season_book.proofs.AgainstSame.{against}
 use Rattle.league_windows.proofs.LockedShown.{by_test}
-use Rattle.league_windows.proofs.NetShown.{net_shown}
+use Rattle.season_views.proofs.Matches.{points_are}
 
 same_place : (n : ℕ) (o : Opponent) → place_met n o ≡ opponent_place n o
 same_place n (Place j) = refl
@@ -74,7 +74,7 @@ module _ (facts : Facts) (managers : Managers) (leagues : List LeagueFacts) (cup
       → scores_held (held_values cells (node.Match l g i)) ≡ match_in (net_in facts entries) league (slice_index league.order i) i g
   scores_due cells l g i league evaluated there one since locked within first =
       let b : SeasonFacts = books_seen facts managers leagues cups in
-      let same : (e : ℕ) → net_told b e g ≡ net_in facts entries e g = λ e. net_shown facts managers leagues cups entries players tell profile are e g one (by_test g facts.calendar.locked locked) in
+      let same : (e : ℕ) → net_told b e g ≡ net_in facts entries e g = λ e. points_are facts managers leagues cups entries players tell profile are e g one (by_test g facts.calendar.locked locked) in
       let own = same (slice_index league.order i) in
       let theirs = against (net_told b) (net_in facts entries) league.order g same (opponent_of (length league.order) (g - league.start) i) in
       held_is b l g i league there cells evaluated (live_is b l g i league there since locked within first)

@@ -1,6 +1,6 @@
 -- From a host's rows to the books that they stand for, and back.
 use Rattle.std.proofs.Common.{◌≡◌, ◌∷◌, [], ℕ, List, Option, Some, None, refl, sym, ap, subst, ◌∙◌}
-use Rattle.std.specs.Prelude.{Result, Ok, Err, IfOk, IsOk}
+use Rattle.std.specs.Prelude.{Result, Ok, Err, IsOk}
 use Rattle.std.specs.Option.{option_map, option_map_or}
 use Rattle.fpl_base.specs.declared.kinds.Caller.{Caller}
 use Rattle.rule_book.specs.ById.{at_id}
@@ -15,7 +15,6 @@ use Rattle.season_book.specs.declared.command.Command.{Command}
 use Rattle.season_book.specs.declared.command.Command.TheVariants as commands
 use Rattle.season_book.specs.declared.made.Made.{Made}
 use Rattle.season_book.specs.declared.made.Made.TheVariants as mades
-use Rattle.season_book.specs.declared.request.Request.{Request}
 use Rattle.season_book.specs.declared.request.Request.TheVariants as request
 use Rattle.season_book.specs.declared.request.View.{View}
 use Rattle.season_book.specs.declared.request.View.TheVariants as views
@@ -53,11 +52,6 @@ pub seen_answered : (book : Book) (caller : Caller) (view : View) (facts : Facts
     → IsShown (seen_in book caller view facts) reply → IsShown (view_answer book caller view) reply
 seen_answered book caller view facts reply is shown =
     subst (λ o. IsShown (option_map_or (seen_in book caller view) o (unseen book caller view)) reply) (sym is) shown
-
--- what follows of a value that a call gave
-pub if_ok : {T E : Type 0} (P Q : T → Type 0) (result : Result T E) → ((value : T) → P value → Q value) → IfOk result P → IfOk result Q
-if_ok P Q (Ok value) follows p = follows value p
-if_ok P Q (Err error) follows p = tt
 
 -- Moments.
 

@@ -1,5 +1,5 @@
 -- What managers stand for, by the numbers of entries: their histories and their names.
-use Rattle.std.proofs.Common.{◌≡◌, ◌≤◌, ◌-◌, ◌==◌, ℕ, zero, suc, false, List, [], ◌∷◌, Option, Some, None, Result, Ok, Err, IfOk, arith, refl, sym, ap, subst, ◌∙◌, if◌then◌else◌, slice_index_or}
+use Rattle.std.proofs.Common.{◌≡◌, ◌≤◌, ◌-◌, ◌==◌, ℕ, zero, suc, false, List, [], ◌∷◌, Option, Some, None, arith, refl, sym, ap, subst, ◌∙◌, if◌then◌else◌, slice_index_or}
 use Rattle.std.specs.List.{slice_get}
 use Rattle.std.specs.Option.{option_map, option_map_or}
 use Rattle.std.proofs.lemmas.Bool.Decides.{nat_tests}
@@ -37,7 +37,7 @@ stands_at players (m ∷ managers) [] place have are = absurd are
 stands_at players (m ∷ managers) (entry ∷ entries) zero have are = are.0.history (position_in players) have
 stands_at players (m ∷ managers) (entry ∷ entries) (suc place) have are = stands_at players managers entries place have are.1
 
-some_number : (e : ℕ) → 1 ≤ e → false ≡ (e == 0)
+pub some_number : (e : ℕ) → 1 ≤ e → false ≡ (e == 0)
 some_number e one = grind (arith, nat_tests)
 
 -- what holds of each history that an entry's rows stand for holds of its history in each book
@@ -49,7 +49,7 @@ in_books facts managers e Holds players one holds entries are =
     (stands_at facts.players managers.managers entries (e - 1) (have_positions facts.players players) are))
 
 -- the names at a place
-names_at : (players : List Player) (managers : List Manager) (entries : List EntryFacts) (place : ℕ) → AreEntries players managers entries
+pub names_at : (players : List Player) (managers : List Manager) (entries : List EntryFacts) (place : ℕ) → AreEntries players managers entries
     → option_map (λ m. m.name) (slice_get managers place) ≡ option_map (λ entry. entry.name) (slice_get entries place)
 names_at players [] [] zero are = refl
 names_at players [] [] (suc place) are = refl
@@ -78,8 +78,3 @@ entry_seen facts managers entries e row name first players one is told are there
       (subst (λ o. FirstTold (option_map_or (λ (entry : EntryFacts). entry.history) o []) first) there
       (in_books facts managers e (λ h. FirstTold h first) players one told entries are)),
 )
-
--- what a result that is there has, and what follows from it
-pub if_ok : {T E : Type 0} (r : Result T E) (P Q : T → Type 0) → ((x : T) → P x → Q x) → IfOk r P → IfOk r Q
-if_ok (Ok x) P Q follows is = follows x is
-if_ok (Err e) P Q follows is = is

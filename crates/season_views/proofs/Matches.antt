@@ -59,7 +59,7 @@ module _ (net points : ℕ → ℕ → ℤ) (locked : ℕ) (same : (e g : ℕ) �
 module _ (facts : Facts) (managers : Managers) (leagues : List LeagueFacts) (cups : List Bracket) (entries : List EntryFacts) (players : ArePlayers facts.players) (tell : RowsAlwaysTell)
     (profile : managers.profile ≡ facts.profile) (are : AreEntries facts.players managers.managers entries) where
   -- the points of an entry by cells are those of its history; there is no entry 0, who would have none
-  points_are : (e g : ℕ) → 1 ≤ g → g ≤ facts.calendar.locked → net_told (books_seen facts managers leagues cups) e g ≡ net_in facts entries e g
+  pub points_are : (e g : ℕ) → 1 ≤ g → g ≤ facts.calendar.locked → net_told (books_seen facts managers leagues cups) e g ≡ net_in facts entries e g
   points_are zero g one by = refl
   points_are (suc e) g one by =
       let issued : 1 ≤ suc e = omega arith in

@@ -1,7 +1,8 @@
 use Rattle.std.proofs.Common.{◌<◌, ◌+◌, ◌∙◌, length, take, arith, ap, sym}
 use Rattle.rule_book.specs.declared.player.Player.{Player}
 use Rattle.season_book.specs.ElementTypes.{is_position, players_at}
-use Rattle.bootstrap_window.proofs.Counting.{count_next, stands}
+use Rattle.season_views.proofs.Numbered.{stands}
+use Rattle.bootstrap_window.proofs.Counting.{count_next}
 use Rattle.bootstrap_window.proofs.element_types.players_at.Goals as goal
 
 pub loop-place-preserved : goal.loop-place-preserved

@@ -8,7 +8,8 @@ use Rattle.rule_book.specs.Calendar.{CalendarFacts, is_locked}
 use Rattle.season_book.specs.Windows.{numbered}
 use Rattle.season_views.proofs.Written.{ended}
 use Rattle.season_book.specs.Events.{event_row, scores_in}
-use Rattle.bootstrap_window.proofs.Rows.{numbered_get, sum_next}
+use Rattle.season_views.proofs.Lists.{sum_next}
+use Rattle.bootstrap_window.proofs.Rows.{numbered_get}
 use Rattle.bootstrap_window.proofs.events.write_events.Goals as goal
 
 pub loop-place-preserved : goal.loop-place-preserved

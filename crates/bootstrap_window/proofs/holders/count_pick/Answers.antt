@@ -1,7 +1,7 @@
 use Rattle.std.proofs.Common.{◌≡◌, ◌<◌, ◌+◌, ◌-◌, ◌^◌, ◌∙◌, ◌==◌, ◌&&◌, ℕ, true, false, not, cond, ap, sym, subst, take}
 use Rattle.season_book.specs.Elements.{is_picked}
 use Rattle.bootstrap_window.specs.Tables.{count_in}
-use Rattle.bootstrap_window.proofs.Counting.{stands}
+use Rattle.season_views.proofs.Numbered.{stands}
 use Rattle.bootstrap_window.proofs.PicksHeld.{counted_now, not_again}
 use Rattle.bootstrap_window.proofs.holders.count_pick.Goals as goal
 

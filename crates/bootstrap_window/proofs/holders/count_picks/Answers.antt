@@ -2,7 +2,7 @@ use Rattle.std.proofs.Common.{◌≡◌, ◌≤◌, ◌<◌, ◌+◌, ◌∙◌,
 use Rattle.std.proofs.lemmas.List.{take_all}
 use Rattle.season_book.specs.Elements.{is_picked}
 use Rattle.bootstrap_window.specs.Tables.{count_in}
-use Rattle.bootstrap_window.proofs.Counting.{stands}
+use Rattle.season_views.proofs.Numbered.{stands}
 use Rattle.bootstrap_window.proofs.PicksHeld.{counted_once}
 use Rattle.bootstrap_window.proofs.holders.count_picks.Goals as goal
 

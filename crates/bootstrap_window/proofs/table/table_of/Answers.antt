@@ -9,7 +9,7 @@ use Rattle.rule_book.specs.PlayerFigures.{line_beside}
 use Rattle.season_views.specs.BootstrapReads.{fixture_reads}
 use Rattle.season_book.specs.Elements.{LineTotals, totals_over}
 use Rattle.bootstrap_window.specs.Tables.{AreSmall, told}
-use Rattle.bootstrap_window.proofs.Rows.{sum_next}
+use Rattle.season_views.proofs.Lists.{sum_next}
 use Rattle.bootstrap_window.proofs.TableFacts.{few_lines, length_taken, lines_more, none_in, none_small}
 use Rattle.bootstrap_window.proofs.table.table_of.Goals as goal
 

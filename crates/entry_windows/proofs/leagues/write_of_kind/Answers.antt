@@ -10,7 +10,7 @@ use Rattle.season_book.specs.Windows.{listed, my_leagues, numbered}
 use Rattle.season_views.proofs.Written.{ended, retold}
 use Rattle.entry_windows.specs.EntryLeagues.{is_of_kind, league_reads, league_told}
 use Rattle.entry_windows.proofs.Appending.{appended}
-use Rattle.entry_windows.proofs.LeagueMembers.{summed_more}
+use Rattle.season_views.proofs.Lists.{sum_next}
 use Rattle.entry_windows.proofs.OwnLeagues.{filter_both, kept_if, own_at, own_count, summed_own}
 use Rattle.entry_windows.proofs.leagues.write_of_kind.Goals as goal
 
@@ -37,7 +37,7 @@ loop-id-preserved g c =
           kept_if (league_told kind seen.facts entries e) (λ row. is_of_kind kind row.1) own index (id, there.0) there.1
           (appended {a = c.loop-id.out} {b = c.write_if_of_kind.new.out} (c.in_ok-write_if_of_kind.ensures.value entries are there.0 there.2)) (c.loop-id.invariant.tokens entries are);
       before = λ entries are. (c.in_ok-write_if_of_kind.ensures.value entries are there.0 there.2).1 ∙ c.loop-id.invariant.before entries are;
-      cost = let one = c.write_if_of_kind.ensures.cost there.0 there.2 in let more = summed_more (λ row. league_reads kind e row.1) own index (id, there.0) there.1 in omega (arith, c.loop-id.invariant.cost, one, more);
+      cost = let one = c.write_if_of_kind.ensures.cost there.0 there.2 in let more = sum_next (λ row. league_reads kind e row.1) own index (id, there.0) there.1 in omega (arith, c.loop-id.invariant.cost, one, more);
     }
 
 pub returns-in_err-write_if_of_kind-clause-cost : goal.returns-in_err-write_if_of_kind-clause-cost
@@ -51,7 +51,7 @@ returns-in_err-write_if_of_kind-clause-cost g c =
     let there = own_at leagues e index id (subst (λ l. index < length l) ids c.loop-id-test.true) (c.id-item.is ∙ ap (λ l. get_or l index id) ids) in
     let own = my_leagues leagues e in
     let one = c.write_if_of_kind.ensures.cost there.0 there.2 in
-    let more = summed_more (λ row. league_reads kind e row.1) own index (id, there.0) there.1 in
+    let more = sum_next (λ row. league_reads kind e row.1) own index (id, there.0) there.1 in
     let some = sum_by-take-le (λ row. league_reads kind e row.1) own (index + 1) in
     let all : sum_by (λ row. league_reads kind e row.1) own ≤ sum_by (league_reads kind e) leagues = summed_own e (league_reads kind e) 1 leagues in
     omega (arith, c.loop-id.invariant.cost, one, more, some, all)

@@ -1,6 +1,7 @@
 use Rattle.std.proofs.Common.{◌≡◌, ◌<◌, ◌+◌, ◌≤◌, ◌∷◌, [], ◌++◌, ◌∙◌, ℕ, length, get_or, arith, ap, refl, Vec, Global}
+use Rattle.std.proofs.lemmas.Result.{IfOk-weaker}
 use Rattle.fpl_reports.specs.Reports.{IsSeasonReport, season_header}
-use Rattle.fpl_reports.proofs.ReportFacts.{header_text, if_ok, instants_all, instants_more, instants_none, instants_taken, season_more}
+use Rattle.fpl_reports.proofs.ReportFacts.{header_text, instants_all, instants_more, instants_none, instants_taken, season_more}
 use Rattle.fpl_reports.proofs.season_report.season_report.Goals as goal
 
 pub loop-deadline-init : goal.loop-deadline-init
@@ -32,6 +33,6 @@ returns c =
     let deadlines = c.args.season.now.deadlines in
     let are = c.as_slice-deadline-items.ensures in
     let past : length deadlines ≤ at.deadline-index = rw are at c.loop-deadline-test.false in
-    if_ok c.text.result _ (λ (text : Vec ℕ Global). IsSeasonReport c.args.season.now text.items)
+    IfOk-weaker c.text.result _ (λ (text : Vec ℕ Global). IsSeasonReport c.args.season.now text.items)
     (λ text is. record { deadlines = inv.1; instants = instants_all inv.1 deadlines at.deadline-index past inv.2; text_is = is ∙ inv.3 })
     c.text.ensures

@@ -1,5 +1,5 @@
 use Rattle.std.proofs.Common.{arith}
-use Rattle.season_views.proofs.Lists.{mapped_more}
+use Rattle.season_rules.proofs.Lists.{mapped_more}
 use Rattle.league_windows.specs.Standings.{standing_before}
 use Rattle.league_windows.proofs.Added.{long_more}
 use Rattle.league_windows.proofs.classic.standings_before.Goals as goal

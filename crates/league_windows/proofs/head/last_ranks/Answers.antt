@@ -1,10 +1,10 @@
 use Rattle.std.proofs.Common.{◌≡◌, length, map, arith, sym, ap, ◌∙◌}
 use Rattle.std.specs.Prelude.{nat_lt}
 use Rattle.std.proofs.lemmas.List.{take_all}
+use Rattle.std.proofs.lemmas.Result.{IfOk-weaker}
 use Rattle.rule_book.specs.Ranks.{rank_among}
 use Rattle.season_views.specs.Seen.{OfEachSeen}
-use Rattle.season_views.proofs.Histories.{if_ok}
-use Rattle.season_views.proofs.Lists.{mapped_more}
+use Rattle.season_rules.proofs.Lists.{mapped_more}
 use Rattle.season_book.specs.LeagueTables.{head_last_rank}
 use Rattle.league_windows.specs.Standings.{comes_before_in_head, head_standing_before}
 use Rattle.league_windows.proofs.Added.{long_more, zeros, zeros_of}
@@ -43,7 +43,7 @@ returns-clause-value g c =
     let last = facts.calendar.locked in
     let whole = take_all c.loop-row.row-index rows (omega (arith, c.loop-row-test.false)) in
     let behind = ap (λ s. nat_lt s last) (sym c.start.ensures) ∙ (is_behind (nat_lt c.start.result last) last c.in-Some.last c.last_behind.result c.last_behind.ensures c.in-Some.is).0 in
-    if_ok c.ranks.result (λ ranks. ranks.items ≡ map (rank_among comes_before_in_head c.deref.result.now) c.deref.result.now) (λ ranks. OfEachSeen seen (λ entries. ranks.items ≡ map (head_last_rank facts entries league) league.members))
+    IfOk-weaker c.ranks.result (λ ranks. ranks.items ≡ map (rank_among comes_before_in_head c.deref.result.now) c.deref.result.now) (λ ranks. OfEachSeen seen (λ entries. ranks.items ≡ map (head_last_rank facts entries league) league.members))
     (λ ranks is. λ entries are.
     head_ranks_are facts entries league rows c.deref.result.now ranks.items behind (c.requires.rows entries are)
     (c.deref.ensures.value ∙ c.loop-row.invariant.value entries are ∙ ap (map (head_standing_before facts entries league)) whole) is) c.ranks.ensures

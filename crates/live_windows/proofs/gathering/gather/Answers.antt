@@ -7,7 +7,8 @@ use Rattle.rule_book.specs.Calendar.{CalendarFacts, standing}
 use Rattle.rule_book.specs.Figures.{IsLine}
 use Rattle.live_windows.specs.declared.sums.LiveLine.{LiveLine}
 use Rattle.live_windows.specs.Gathered.{sheet_lines, sheet_reads}
-use Rattle.live_windows.proofs.RowsAdded.{flat_next, sum_next}
+use Rattle.season_views.proofs.Lists.{sum_next}
+use Rattle.live_windows.proofs.RowsAdded.{flat_next}
 use Rattle.live_windows.proofs.gathering.gather.Goals as goal
 
 pub loop-fixture-init : goal.loop-fixture-init

@@ -1,5 +1,5 @@
 use Rattle.season_book.specs.LeagueViews.{ranked_shown}
-use Rattle.season_views.proofs.Lists.{mapped_more}
+use Rattle.season_rules.proofs.Lists.{mapped_more}
 use Rattle.season_views.proofs.classic.classic_named.Goals as goal
 
 pub loop-row-preserved : goal.loop-row-preserved

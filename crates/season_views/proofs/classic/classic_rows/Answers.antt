@@ -1,7 +1,8 @@
 use Rattle.std.proofs.Common.{◌≡◌, ◌<◌, length, get_or, arith, subst, sym, ap, ◌∙◌}
 use Rattle.season_views.specs.Cells.{AreKeptFrom}
 use Rattle.season_views.specs.Leagues.{classic_row_since}
-use Rattle.season_views.proofs.Lists.{parts_more, mapped_more}
+use Rattle.season_rules.proofs.Lists.{mapped_more}
+use Rattle.season_views.proofs.Lists.{parts_more}
 use Rattle.season_views.proofs.Totals.{kept_from}
 use Rattle.season_views.proofs.classic.classic_rows.Goals as goal
 

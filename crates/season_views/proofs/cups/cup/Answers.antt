@@ -2,7 +2,7 @@ use Rattle.std.proofs.Common.{◌≡◌, ◌+◌, arith}
 use Rattle.rule_book.specs.CupRounds.{locked_winners}
 use Rattle.season_book.specs.LeagueViews.{side_in}
 use Rattle.season_views.proofs.Counted.{round_read, rounds_read, ties_read}
-use Rattle.season_views.proofs.Lists.{range_more}
+use Rattle.season_rules.proofs.Lists.{range_more}
 use Rattle.season_views.proofs.cups.cup.Goals as goal
 
 pub loop-round-preserved : goal.loop-round-preserved

@@ -2,7 +2,7 @@ use Rattle.std.proofs.Common.{◌≡◌, ◌<◌, ◌+◌, ◌/◌, ◌^◌, len
 use Rattle.rule_book.specs.Cups.{winner}
 use Rattle.season_graph.specs.Told.{side_told}
 use Rattle.season_views.proofs.CupRounds.{tie_shown}
-use Rattle.season_views.proofs.Lists.{range_more}
+use Rattle.season_rules.proofs.Lists.{range_more}
 use Rattle.season_views.proofs.cups.winners_held.Goals as goal
 
 pub loop-place-preserved : goal.loop-place-preserved

@@ -1,7 +1,8 @@
 use Rattle.std.proofs.Common.{◌≡◌, ◌<◌, length, get_or, arith, refl, ap, ◌∙◌}
 use Rattle.rule_book.specs.LeagueRows.{head_row}
 use Rattle.season_graph.specs.Told.{net_told}
-use Rattle.season_views.proofs.Lists.{parts_more, mapped_more}
+use Rattle.season_rules.proofs.Lists.{mapped_more}
+use Rattle.season_views.proofs.Lists.{parts_more}
 use Rattle.season_views.proofs.Matches.{row_told}
 use Rattle.season_views.proofs.head.head_rows.Goals as goal
 

@@ -8,7 +8,8 @@ use Rattle.season_nodes.specs.Season.{is_live, line_worth}
 use Rattle.season_nodes.specs.declared.nodes.Node.TheVariants as node
 use Rattle.season_book.specs.Views.{line_shown}
 use Rattle.season_views.specs.Cells.{books_seen, line_with}
-use Rattle.season_views.proofs.Lists.{mapped_more, read_again}
+use Rattle.season_rules.proofs.Lists.{mapped_more}
+use Rattle.season_views.proofs.Lists.{read_again}
 use Rattle.season_views.proofs.ShownLines.{among_at, bonus_is_live, line_is_live, player_at, row_shown}
 use Rattle.season_views.proofs.sheets.lines_shown.Goals as goal
 
