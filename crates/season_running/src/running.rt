@@ -16,16 +16,18 @@ ghost use Rattle.season_book.specs.declared.part.Part.TheVariants as part;
 ghost use Rattle.season_book.specs.declared.request.View.TheVariants as view;
 ghost use Rattle.season_book.specs.declared.shown.Shown.{Shown};
 ghost use Rattle.season_competitions.specs.Cups.{IsCupGranted};
-ghost use Rattle.season_competitions.specs.Leagues.{IsLeagueGranted};
+ghost use Rattle.season_competitions.specs.Leagues.{AreMembers, IsLeagueGranted};
+ghost use Rattle.season_entries.specs.EntryLaws.{AreEarly};
 ghost use Rattle.season_entries.specs.Deeds.{IsDeedJudged};
 ghost use Rattle.season_entries.specs.Keys.{keys_of};
 ghost use Rattle.season_book.specs.Hosts.{entry_with};
 ghost use Rattle.season_facts.specs.Judged.{CountsJudged};
 ghost use Rattle.season_running.specs.Accepting.{HasRoom, IsAmendable, IsOpen, IsDone, IsGrantedTo, IsRefusal, IsRuled, IsWorkedOut, made_by, refused_in};
 ghost use Rattle.season_running.specs.Changed.{IsChangedBy};
-ghost use Rattle.season_running.specs.Kept.{AreKeptBy};
+ghost use Rattle.season_running.specs.Kept.{AreKeptBy, IsShownIn, ReadsAllowed, seen_of};
 ghost use Rattle.season_running.specs.EntryLaws.{IsOrderly};
 ghost use Rattle.season_running.specs.Standing.{InStep, Plays};
+ghost use Rattle.season_views.specs.Seen.{IsKept};
 ghost use Rattle.season_views.specs.Reads.{reads_allowed, window_reads};
 
 use crate::judged::Judged;
@@ -41,7 +43,7 @@ use season_entries::{
 };
 use season_facts::Season;
 use season_graph::SeasonCells;
-use season_views::{Seen, SeenCells, cup, entry_gameweek, league, my_entry, show};
+use season_views::{Seen, SeenCells, entry_gameweek, league, my_entry, show, shown_cup};
 use season_windows::window;
 use std::alloc::Global;
 use std::marker::Model;
@@ -520,6 +522,20 @@ impl RunningSeason {
         do_cup(&self.season, &mut self.cups, command)
     }
 
+    // The season and its cells, as a view sees them.
+    fn seen<'a, L: Ledger>(&'a self, cells: &'a SeasonCells) -> (Seen<'a, L>, SeenCells<'a, L>)
+        requires { AreKeptBy self.now cells.now }
+        ensures seen { result.0 ≡ seen_of self.now }
+        ensures kept { IsKept result.0 result.1 }
+        ensures early { AreEarly result.0.facts result.0.managers.managers }
+        ensures members { AreMembers (length result.0.managers.managers) result.0.leagues }
+    {
+        (
+            Seen::of(&self.season, &self.managers, &self.leagues, &self.cups),
+            SeenCells::of(cells),
+        )
+    }
+
     /// What a view shows that asks for no entry, league, cup or window: the season, a player, his gameweek or a fixture.
     pub fn show<L: Ledger>(
         &self,
@@ -534,8 +550,7 @@ impl RunningSeason {
         ensures cost { steps.new
             ≤ steps.old + reads_allowed (fact_shown (Some self.now.facts) view) }
     {
-        let seen: Seen<L> = Seen::of(&self.season, &self.managers, &self.leagues, &self.cups);
-        let cells = SeenCells::of(cells);
+        let (seen, cells) = self.seen(cells);
         match show(alloc, &seen, &cells, view, steps) {
             Ok(Some(shown)) => Answer::Shown(shown),
             Ok(None) => Answer::Unknown,
@@ -566,13 +581,7 @@ impl RunningSeason {
                 if entry.get() > self.managers.entries() {
                     return Answer::Unknown;
                 }
-                let seen: Seen<L> = Seen::of(
-                    &self.season,
-                    &self.managers,
-                    &self.leagues,
-                    &self.cups,
-                );
-                let cells = SeenCells::of(cells);
+                let (seen, cells) = self.seen(cells);
                 match my_entry(&seen, &cells, *entry, last, steps) {
                     Some(shown) => Answer::Shown(Shown::Me(shown)),
                     None => Answer::Rule(Rule::NotRegistered),
@@ -595,8 +604,7 @@ impl RunningSeason {
         ensures storeless { IsStoreless result }
         ensures cost { steps.new ≤ steps.old + 2 }
     {
-        let seen: Seen<L> = Seen::of(&self.season, &self.managers, &self.leagues, &self.cups);
-        let cells = SeenCells::of(cells);
+        let (seen, cells) = self.seen(cells);
         match entry_gameweek(&seen, &cells, entry, gameweek, steps) {
             Some(shown) => Answer::Shown(Shown::EntryGameweek(shown)),
             None => Answer::Unknown,
@@ -612,19 +620,15 @@ impl RunningSeason {
         steps: &mut ReadCount<L>,
     ) -> Answer
         requires { AreKeptBy self.now cells.now }
-        ensures seen { (caller : Caller) (book : Book) → Plays self.now book
-            → IsShown (seen_in book caller (view.League number) self.now.facts) result }
+        ensures seen { IsShownIn self.now (view.League number) result }
         ensures storeless { IsStoreless result }
-        ensures cost { (caller : Caller) (book : Book) → Plays self.now book
-            → steps.new
-            ≤ steps.old + reads_allowed (seen_in book caller (view.League number) self.now.facts) }
+        ensures cost { ReadsAllowed self.now (view.League number) steps.old steps.new }
     {
+        let (seen, cells) = self.seen(cells);
         let Some(id) = LeagueId::new(number) else {
             return Answer::Unknown;
         };
-        let seen: Seen<L> = Seen::of(&self.season, &self.managers, &self.leagues, &self.cups);
-        let cells = SeenCells::of(cells);
-        match self.leagues.get(id) {
+        match seen.leagues().get(id) {
             Some(there) => answer_of(league(alloc, &seen, &cells, id, there, steps)),
             None => Answer::Unknown,
         }
@@ -639,23 +643,16 @@ impl RunningSeason {
         steps: &mut ReadCount<L>,
     ) -> Answer
         requires { AreKeptBy self.now cells.now }
-        ensures seen { (caller : Caller) (book : Book) → Plays self.now book
-            → IsShown (seen_in book caller (view.Cup number) self.now.facts) result }
+        ensures seen { IsShownIn self.now (view.Cup number) result }
         ensures storeless { IsStoreless result }
-        ensures cost { (caller : Caller) (book : Book) → Plays self.now book
-            → steps.new
-            ≤ steps.old + reads_allowed (seen_in book caller (view.Cup number) self.now.facts) }
+        ensures cost { ReadsAllowed self.now (view.Cup number) steps.old steps.new }
     {
+        let (seen, cells) = self.seen(cells);
         let Some(id) = CupId::new(number) else {
             return Answer::Unknown;
         };
-        let seen: Seen<L> = Seen::of(&self.season, &self.managers, &self.leagues, &self.cups);
-        let cells = SeenCells::of(cells);
-        match self.cups.get(id) {
-            Some(there) => match cup(alloc, &seen, &cells, id, there, steps) {
-                Ok(shown) => Answer::Shown(Shown::Cup(shown)),
-                Err(Memory) => Answer::Memory,
-            },
+        match seen.cups().get(id) {
+            Some(there) => answer_of(shown_cup(alloc, &seen, &cells, id, there, steps)),
             None => Answer::Unknown,
         }
     }
@@ -678,8 +675,7 @@ impl RunningSeason {
             → steps.new
             ≤ steps.old + window_reads self.now.facts book.entries book.leagues book.cups asked }
     {
-        let seen: Seen<L> = Seen::of(&self.season, &self.managers, &self.leagues, &self.cups);
-        let cells = SeenCells::of(cells);
+        let (seen, cells) = self.seen(cells);
         page_answer(window(alloc, &seen, &cells, caller, last, asked, steps))
     }
 }

@@ -18,7 +18,7 @@ use crate::seen::{Seen, SeenCells};
 use fpl_base::{CupId, ListOf, Memory, ReadCount};
 use leagues_and_cups::{rounds, rounds_follow};
 use rule_book::{Bracket, Slots};
-use season_book::ShownCup;
+use season_book::{Shown, ShownCup};
 use season_ledger::rows_tell;
 use std::alloc::Global;
 use std::sync::ledger::Ledger;
@@ -124,12 +124,9 @@ pub fn cup<L: Ledger>(
     requires shape { HasShape bracket.now }
     ensures value { IfOk result (λ shown. OfEachBook seen.now.facts seen.now.managers
         (λ entries. shown ≡ cup_shown seen.now.facts entries bracket.now)) }
-    ensures each { OfEachBook seen.now.facts seen.now.managers
-        (λ entries. steps.new
-        ≤ steps.old + ties_of (cup_shown seen.now.facts entries bracket.now).rounds) }
     ensures cost { OfEachBook seen.now.facts seen.now.managers
         (λ entries. steps.new
-        ≤ steps.old + reads_of (shown_as.Cup (cup_shown seen.now.facts entries bracket.now))) }
+        ≤ steps.old + ties_of (cup_shown seen.now.facts entries bracket.now).rounds) }
 {
     let mut shown = ListOf::with_room(alloc, 10)?;
     for round in 0..rounds(bracket) {
@@ -140,4 +137,25 @@ pub fn cup<L: Ledger>(
         start: bracket.start,
         rounds: shown,
     })
+}
+
+/// The same, as what a view shows.
+pub fn shown_cup<L: Ledger>(
+    alloc: Global,
+    seen: &Seen<L>,
+    cells: &SeenCells<L>,
+    id: CupId,
+    bracket: &Bracket,
+    steps: &mut ReadCount<L>,
+) -> Result<Shown, Memory>
+    requires profile { seen.now.managers.profile ≡ seen.now.facts.profile }
+    requires kept { AreKeptAt seen.now.facts seen.now.managers id bracket.now cells.now }
+    requires shape { HasShape bracket.now }
+    ensures value { IfOk result (λ shown. OfEachBook seen.now.facts seen.now.managers
+        (λ entries. shown ≡ shown_as.Cup (cup_shown seen.now.facts entries bracket.now))) }
+    ensures cost { OfEachBook seen.now.facts seen.now.managers
+        (λ entries. steps.new
+        ≤ steps.old + reads_of (shown_as.Cup (cup_shown seen.now.facts entries bracket.now))) }
+{
+    Ok(Shown::Cup(cup(alloc, seen, cells, id, bracket, steps)?))
 }

@@ -14,7 +14,7 @@ mod sheets;
 mod views;
 
 pub use classic::{classic_row, classic_rows};
-pub use cups::{cup, is_played, ties, winners_held};
+pub use cups::{cup, is_played, shown_cup, ties, winners_held};
 pub use entries::{entry_gameweek, gameweek_of, issued, my_entry};
 pub use head::head_rows;
 pub use leagues::league;

@@ -43,7 +43,7 @@ returns-in-Ok-clause-cost g c = λ entries are.
     let at : entry_in seen.cups id ≡ Some b = sym (c.in-Some.ensures.there ∙ ap (λ cups. entry_in cups id) c.cups.ensures) in
     let reads : cup_window_reads seen.facts entries seen.cups id ≡ 3 * ties_of (cup_shown seen.facts entries b).rounds =
     ap (λ (o : Option Bracket). option_map_or (λ (bracket : Bracket). 3 * ties_of (cup_shown seen.facts entries bracket).rounds) o 0) at in
-    let first = c.cup.ensures.each entries are in
+    let first = c.cup.ensures.cost entries are in
     let rest = c.write_cup.ensures.cost entries are in
     omega (arith, reads, first, rest)
 
@@ -64,7 +64,7 @@ returns-in-Err-clause-cost g c = λ entries are.
     let at : entry_in seen.cups id ≡ Some b = sym (c.in-Some.ensures.there ∙ ap (λ cups. entry_in cups id) c.cups.ensures) in
     let reads : cup_window_reads seen.facts entries seen.cups id ≡ 3 * ties_of (cup_shown seen.facts entries b).rounds =
     ap (λ (o : Option Bracket). option_map_or (λ (bracket : Bracket). 3 * ties_of (cup_shown seen.facts entries bracket).rounds) o 0) at in
-    let first = c.cup.ensures.each entries are in
+    let first = c.cup.ensures.cost entries are in
     omega (arith, reads, first)
 
 pub returns-in-None-clause-value : goal.returns-in-None-clause-value

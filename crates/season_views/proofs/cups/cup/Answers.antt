@@ -1,7 +1,7 @@
 use Rattle.std.proofs.Common.{◌≡◌, ◌+◌, arith}
 use Rattle.rule_book.specs.CupRounds.{locked_winners}
 use Rattle.season_book.specs.LeagueViews.{side_in}
-use Rattle.season_views.proofs.Counted.{round_read, rounds_read, ties_read}
+use Rattle.season_views.proofs.Counted.{round_read, rounds_read}
 use Rattle.season_rules.proofs.Lists.{range_more}
 use Rattle.season_views.proofs.cups.cup.Goals as goal
 
@@ -20,19 +20,8 @@ loop-round-preserved g c =
           round_read b (side_in facts entries) locked round _ _ _ (c.loop-round.invariant.cost entries are) (c.winners_shown.ensures.cost entries are);
     }
 
-pub returns-in_err-winners-clause-each : goal.returns-in_err-winners-clause-each
-returns-in_err-winners-clause-each g c entries are =
-    let b = c.args.bracket.now in
-    let locked = c.args.seen.now.facts.calendar.locked in
-    let round = c.loop-round.round in
-    rounds_read b (side_in c.args.seen.now.facts entries) locked (round + 1) _ _ (omega (arith, c.loop-round-test.true, c.rounds-round-end.ensures.value))
-    (round_read b (side_in c.args.seen.now.facts entries) locked round _ _ _ (c.loop-round.invariant.cost entries are) (c.winners_shown.ensures.cost entries are))
-
 pub returns-in_err-winners-clause-cost : goal.returns-in_err-winners-clause-cost
-returns-in_err-winners-clause-cost g c entries are = ties_read _ _ _ (returns-in_err-winners-clause-each g c entries are)
-
-pub returns-in_err-push-clause-each : goal.returns-in_err-push-clause-each
-returns-in_err-push-clause-each g c entries are =
+returns-in_err-winners-clause-cost g c entries are =
     let b = c.args.bracket.now in
     let locked = c.args.seen.now.facts.calendar.locked in
     let round = c.loop-round.round in
@@ -40,4 +29,9 @@ returns-in_err-push-clause-each g c entries are =
     (round_read b (side_in c.args.seen.now.facts entries) locked round _ _ _ (c.loop-round.invariant.cost entries are) (c.winners_shown.ensures.cost entries are))
 
 pub returns-in_err-push-clause-cost : goal.returns-in_err-push-clause-cost
-returns-in_err-push-clause-cost g c entries are = ties_read _ _ _ (returns-in_err-push-clause-each g c entries are)
+returns-in_err-push-clause-cost g c entries are =
+    let b = c.args.bracket.now in
+    let locked = c.args.seen.now.facts.calendar.locked in
+    let round = c.loop-round.round in
+    rounds_read b (side_in c.args.seen.now.facts entries) locked (round + 1) _ _ (omega (arith, c.loop-round-test.true, c.rounds-round-end.ensures.value))
+    (round_read b (side_in c.args.seen.now.facts entries) locked round _ _ _ (c.loop-round.invariant.cost entries are) (c.winners_shown.ensures.cost entries are))
