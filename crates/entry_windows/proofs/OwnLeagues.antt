@@ -1,19 +1,16 @@
 -- The leagues that an entry is in, by their numbers, are those of which it is a member.
-use Rattle.std.proofs.Common.{◌≡◌, ◌≤◌, ◌<◌, ◌+◌, ◌-◌, ◌==◌, ◌&&◌, ◌++◌, ◌∷◌, [], ℕ, zero, suc, Bool, true, false, List, Some, None, Ok, arith, refl, sym, ap, subst, ◌∙◌, append-nil, cond, drop, filter, get_or, length, map, if◌then◌else◌}
+use Rattle.std.proofs.Common.{◌≡◌, ◌≤◌, ◌<◌, ◌+◌, ◌-◌, ◌==◌, ◌&&◌, ◌∷◌, [], ℕ, suc, Bool, true, false, List, Some, None, arith, refl, sym, ap, subst, ◌∙◌, cond, filter, get_or, length, map, take, if◌then◌else◌}
 use Rattle.std.specs.List.{All, enumerate_from, slice_get, sum_by}
 use Rattle.std.proofs.lemmas.Bool.Decides.{nat_tests}
 use Rattle.std.proofs.lemmas.List.Elements.{All-cons, All-weaker}
 use Rattle.std.proofs.lemmas.List.{get_or-map, length-map}
-use Rattle.std.proofs.lemmas.List.Sums.{sum_by-cons}
-use Rattle.json.specs.Token.{Token}
-use Rattle.json.specs.Written.{Written}
-use Rattle.serde_json.specs.Data.{Data}
-use Rattle.json_members.specs.Tokens.{Appends, tokens_of}
-use Rattle.json_members.proofs.ListLemmas.{got, kept_less, kept_more, rest_of}
+use Rattle.std.proofs.lemmas.List.Sums.{sum_by-cons, sum_by-take-le}
+use Rattle.json_members.proofs.ListLemmas.{got}
 use Rattle.rule_book.specs.Entries.{entry_in}
 use Rattle.rule_book.specs.LeagueCalls.{is_member, leagues_from, leagues_of}
 use Rattle.rule_book.specs.Leagues.{LeagueFacts}
 use Rattle.season_book.specs.Windows.{my_leagues}
+use Rattle.season_views.proofs.Numbered.{stands}
 
 module _ (e : ℕ) where
   -- those among leagues whose first has this number
@@ -53,7 +50,7 @@ module _ (e : ℕ) where
       by false is more = more
 
   -- what is summed up over them is no more than over all
-  pub summed_own : (f : LeagueFacts → ℕ) (n : ℕ) (leagues : List LeagueFacts) → sum_by (λ row. f row.1) (own_from n leagues) ≤ sum_by f leagues
+  summed_own : (f : LeagueFacts → ℕ) (n : ℕ) (leagues : List LeagueFacts) → sum_by (λ row. f row.1) (own_from n leagues) ≤ sum_by f leagues
   summed_own f n [] = omega arith
   summed_own f n (league ∷ leagues) = by (is_member league e) (summed_own f (n + 1) leagues)
     where
@@ -67,13 +64,15 @@ module _ (e : ℕ) where
           subst (λ m. m ≤ sum_by f (league ∷ leagues)) (sym one) all
       by false less = omega (arith, less, sum_by-cons f league leagues)
 
+-- so it is of the first of them
+pub summed_first : (f : LeagueFacts → ℕ) (leagues : List LeagueFacts) (e i : ℕ) → sum_by (λ row. f row.1) (take i (my_leagues leagues e)) ≤ sum_by f leagues
+summed_first f leagues e i =
+    let first : sum_by (λ row. f row.1) (take i (my_leagues leagues e)) ≤ sum_by (λ row. f row.1) (my_leagues leagues e) = sum_by-take-le (λ row. f row.1) (my_leagues leagues e) i in
+    let all : sum_by (λ row. f row.1) (my_leagues leagues e) ≤ sum_by f leagues = summed_own e f 1 leagues in
+    omega (arith, first, all)
+
 pub own_numbers : (leagues : List LeagueFacts) (e : ℕ) → map (λ row. row.0) (my_leagues leagues e) ≡ leagues_of leagues e
 own_numbers leagues e = numbers_from e 1 leagues
-
-stands : {X : Type 0} (xs : List X) (i : ℕ) → i < length xs → (x : X) × (slice_get xs i ≡ Some x)
-stands [] i below = absurd (omega (arith, below))
-stands (x ∷ xs) zero below = (x, refl)
-stands (x ∷ xs) (suc i) below = stands xs i (omega (arith, below))
 
 -- the league of a number among those of an entry
 pub own_at : (leagues : List LeagueFacts) (e i l : ℕ) → i < length (leagues_of leagues e) → l ≡ get_or (leagues_of leagues e) i l
@@ -86,13 +85,13 @@ own_at leagues e i l below is =
     let at = got own i row there.1 in
     let number : row.0 ≡ l =
     sym (ap (λ r. r.0) at.1) ∙ sym (get_or-map (λ row. row.0) own i row l within) ∙ ap (λ ns. get_or ns i l) (own_numbers leagues e) ∙ sym is in
-    let stands = subst (StandsFrom e 1 leagues) at.1 (stand_from e 1 leagues i row within) in
-    let some : (l == 0) ≡ false = grind (arith, nat_tests, stands.0, number) in
+    let from = subst (StandsFrom e 1 leagues) at.1 (stand_from e 1 leagues i row within) in
+    let some : (l == 0) ≡ false = grind (arith, nat_tests, from.0, number) in
     let less : l - 1 ≡ row.0 - 1 = omega (arith, number) in (
       row.1,
       there.1 ∙ ap (λ n. Some (n, row.1)) number,
-      ap (λ b. if b then None else slice_get leagues (l - 1)) some ∙ ap (slice_get leagues) less ∙ stands.1,
-      stands.2,
+      ap (λ b. if b then None else slice_get leagues (l - 1)) some ∙ ap (slice_get leagues) less ∙ from.1,
+      from.2,
     )
 
 -- what passes both tests passes the one among those that pass the other
@@ -106,20 +105,6 @@ filter_both p q (x ∷ xs) = by (p x) (q x) refl (filter_both p q xs)
     by false true is same = ap (λ v. cond v (x ∷ filter p (filter q xs)) (filter p (filter q xs))) is ∙ same
     by true false is same = same
     by false false is same = same
-
--- one more of those that are kept is written, or passed over
-pub kept_if : {X : Type 0} (f : X → Data) (test : X → Bool) {a b : Written} {whole : List Token} (xs : List X) (i : ℕ) (x : X) → slice_get xs i ≡ Some x
-    → Appends (Ok tt) a b (if test x then tokens_of (f x) else [])
-    → a.tokens ++ rest_of f (filter test (drop i xs)) ≡ whole → b.tokens ++ rest_of f (filter test (drop (i + 1) xs)) ≡ whole
-kept_if f test {a = a} {b = b} {whole = whole} xs i x at wrote so = by (test x) refl wrote
-  where
-    there : (i < length xs) × (get_or xs i x ≡ x)
-    there = got xs i x at
-
-    by : (v : Bool) → test x ≡ v → Appends (Ok tt) a b (if v then tokens_of (f x) else []) → b.tokens ++ rest_of f (filter test (drop (i + 1) xs)) ≡ whole
-    by true passes wrote = kept_more f test xs i x there.0 (sym there.1) passes wrote so
-    by false fails wrote =
-        ap (λ t. t ++ rest_of f (filter test (drop (i + 1) xs))) (wrote.tokens ∙ append-nil a.tokens) ∙ kept_less f test a.tokens xs i x there.0 (sym there.1) fails so
 
 pub own_count : (leagues : List LeagueFacts) (e : ℕ) → length (my_leagues leagues e) ≡ length (leagues_of leagues e)
 own_count leagues e = sym (length-map (my_leagues leagues e) (λ row. row.0)) ∙ ap length (own_numbers leagues e)
