@@ -8,7 +8,7 @@ ghost use Rattle.rule_book.specs.LeagueCalls.{is_head, is_member};
 ghost use Rattle.rule_book.specs.Ranks.{rank_among};
 ghost use Rattle.season_views.specs.Cells.{AreKeptWith};
 ghost use Rattle.season_views.specs.Seen.{IsKept, OfEachSeen};
-ghost use Rattle.entry_windows.specs.EntryLeagues.{is_of_kind, league_reads, league_told};
+ghost use Rattle.entry_windows.specs.EntryLeagues.{league_reads, league_told};
 ghost use Rattle.season_book.specs.EntryWindow.{entry_league_told};
 ghost use Rattle.season_book.specs.LeagueTables.{classic_last_rank, classic_rank, head_last_rank, head_rank};
 
@@ -92,28 +92,26 @@ fn head_ranks<L: Ledger>(
     Ok(LeagueRanks { last, current })
 }
 
-/// Those of a member of a league of a kind.
+/// Those of a member of a league, by its kind.
 pub fn ranks_in<L: Ledger>(
     alloc: Global,
     seen: &Seen<L>,
     cells: &SeenCells<L>,
-    kind: LeagueKind,
     id: LeagueId,
     league: &League,
     entry: EntryId,
     steps: &mut ReadCount<L>,
 ) -> Result<LeagueRanks, Memory>
     requires kept { IsKept seen.now cells.now }
-    requires kind { is_of_kind kind league.now ≡ true }
     requires there { entry_in seen.now.leagues id ≡ Some league.now }
     requires member { is_member league.now entry ≡ true }
     ensures told { IfOk result
         (λ ranks. OfEachSeen seen.now
         (λ entries. entry_league_told entry ranks.last ranks.current (id, league.now)
-        ≡ league_told kind seen.now.facts entries entry (id, league.now))) }
-    ensures cost { steps.new ≤ steps.old + league_reads kind entry league.now }
+        ≡ league_told league.now.kind seen.now.facts entries entry (id, league.now))) }
+    ensures cost { steps.new ≤ steps.old + league_reads league.now.kind entry league.now }
 {
-    match kind {
+    match league.kind() {
         LeagueKind::Classic => classic_ranks(alloc, seen, cells, league, entry, steps),
         LeagueKind::Head => head_ranks(alloc, seen, cells, id, league, entry, steps),
     }

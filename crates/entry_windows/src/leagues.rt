@@ -101,7 +101,7 @@ fn write_if_of_kind<L: Ledger>(
             if !is_of_kind(kind, league) {
                 return Ok(());
             }
-            let ranks = ranks_in(alloc, seen, cells, kind, id, league, entry, steps)?;
+            let ranks = ranks_in(alloc, seen, cells, id, league, entry, steps)?;
             write_league(out, id, league, entry, ranks)?;
             Ok(())
         }
@@ -110,7 +110,8 @@ fn write_if_of_kind<L: Ledger>(
 }
 
 fn is_of_kind(kind: LeagueKind, league: &League) -> bool
-    ensures { result ≡ is_of_kind kind league.now }
+    ensures value { result ≡ is_of_kind kind league.now }
+    ensures same { result ≡ true → kind ≡ league.now.kind }
 {
     match (kind, league.kind()) {
         (LeagueKind::Classic, LeagueKind::Classic) => true,
