@@ -5,6 +5,6 @@ pub mod JudgedFacts
 pub mod LastFacts
 pub mod MoneyFacts
 pub mod RuledFacts
+pub mod SeenFacts
 pub mod StepFacts
-pub mod KeptFacts
 pub mod PageFacts

@@ -572,16 +572,16 @@ impl RunningSeason {
         ensures storeless { IsStoreless result }
         ensures cost { steps.new ≤ steps.old + 4 }
     {
-        // The law on which entries are there, and that the ids of players differ, for the prover.
-        entries_are_issued();
-        let _count = self.season.players().len();
         match caller {
             Caller::Operator => Answer::Unknown,
             Caller::Entry(entry) => {
-                if entry.get() > self.managers.entries() {
+                let (seen, cells) = self.seen(cells);
+                // The law on which entries are there, and that the ids of players differ, for the prover.
+                entries_are_issued();
+                let _count = seen.players().len();
+                if entry.get() > seen.entries() {
                     return Answer::Unknown;
                 }
-                let (seen, cells) = self.seen(cells);
                 match my_entry(&seen, &cells, *entry, last, steps) {
                     Some(shown) => Answer::Shown(Shown::Me(shown)),
                     None => Answer::Rule(Rule::NotRegistered),
