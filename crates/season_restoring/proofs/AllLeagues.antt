@@ -1,5 +1,5 @@
 -- All leagues of lawful records: what restored leagues tell is what the records tell.
-use Rattle.std.proofs.Common.{◌≡◌, ◌<◌, ◌≤◌, ◌+◌, ◌-◌, ◌∙◌, ℕ, zero, suc, Bool, true, false, not, ◌&&◌, ◌==◌, cond, List, [], ◌∷◌, ◌++◌, length, get_or, nat_le, Option, Some, None, IfOk, if◌then◌else◌, refl, sym, ap, subst, inl, inr, ◌⊎◌, arith}
+use Rattle.std.proofs.Common.{◌≡◌, ◌<◌, ◌≤◌, ◌+◌, ◌-◌, ◌∙◌, ℕ, zero, suc, true, false, not, ◌&&◌, ◌==◌, cond, List, [], ◌∷◌, ◌++◌, length, get_or, nat_le, Option, Some, None, IfOk, if◌then◌else◌, refl, sym, ap, subst, inl, inr, arith}
 use Rattle.std.specs.List.{All, AllPairs, list_any}
 use Rattle.std.specs.Option.{is_some, option_and_then, option_map}
 use Rattle.std.specs.Prelude.{Result, Ok, Err, slice_get}
@@ -22,8 +22,10 @@ use Rattle.store_validation.specs.LeagueRules.{member_breaks, members_of}
 use Rattle.season_competitions.specs.Leagues.{AreMembers}
 use Rattle.season_records.specs.Records.{league_item, member_told}
 use Rattle.season_restoring.specs.LeagueRestoring.{AreLeaguesRestored, GoesOn, IsLeagueRestored, LeaguesEnd}
+use Rattle.season_restoring.proofs.Issued.{slice_pushed, slice_there}
 use Rattle.season_restoring.proofs.LeagueNumbers.{AreThere, at_least}
 use Rattle.season_restoring.proofs.MemberRows.{each_member, member_is, members_rise}
+use Rattle.season_restoring.proofs.Numbers.{entry_at}
 use Rattle.season_restoring.proofs.OneLeague.{few_leagues, no_gap, parts_there, spelled}
 
 some_is : {A : Type 0} (x y : A) → Some x ≡ Some y → x ≡ y
@@ -32,23 +34,7 @@ some_is x y e = cc
 some_not_none : {A : Type 0} (x : A) (o : Option A) → o ≡ Some x → o ≡ None → ⊥
 some_not_none x o some none = absurd (cc)
 
--- Lists by numbers from 1.
-
-at_number : {A : Type 0} (xs : List A) (i : ℕ) → entry_in xs (suc i) ≡ slice_get xs i
-at_number xs i =
-    let place : suc i - 1 ≡ i = omega arith in
-    ap (λ (b : Bool). cond b None (slice_get xs (suc i - 1))) (ne_eqb (suc i) 0 (λ e. omega (arith, e))) ∙ ap (slice_get xs) place
-
-slice_there : {A : Type 0} (xs : List A) (i : ℕ) → i < length xs → (x : A) × (slice_get xs i ≡ Some x)
-slice_there [] i less = absurd (omega (arith, less))
-slice_there (x ∷ xs) zero less = (x, refl)
-slice_there (x ∷ xs) (suc i) less = slice_there xs i (omega (arith, less))
-
-slice_pushed : {A : Type 0} (xs : List A) (x : A) (i : ℕ) (y : A) → slice_get (xs ++ x ∷ []) i ≡ Some y → (slice_get xs i ≡ Some y) ⊎ ((i ≡ length xs) × (x ≡ y))
-slice_pushed [] x zero y found = inr (refl, some_is x y found)
-slice_pushed [] x (suc i) y found = absurd (cc)
-slice_pushed (z ∷ xs) x zero y found = inl found
-slice_pushed (z ∷ xs) x (suc i) y found = elim (slice_pushed xs x i y found) [ inl there ↦ inl there | inr last ↦ inr (ap suc last.0, last.1) ]
+-- Lists.
 
 slice_at : {A : Type 0} (xs : List A) (i : ℕ) (d : A) → i < length xs → slice_get xs i ≡ Some (get_or xs i d)
 slice_at [] i d less = absurd (omega (arith, less))
@@ -63,8 +49,8 @@ one_more rows leagues more new is restored last = subst (AreLeaguesRestored rows
   where
     by : AreLeaguesRestored rows (leagues ++ new ∷ [])
     by zero league found = absurd (cc)
-    by (suc i) league found = elim (slice_pushed leagues new i league (sym (at_number (leagues ++ new ∷ []) i) ∙ found)) [
-      | inl there ↦ restored (suc i) league (at_number leagues i ∙ there)
+    by (suc i) league found = elim (slice_pushed leagues new i league (sym (entry_at (leagues ++ new ∷ []) i) ∙ found)) [
+      | inl there ↦ restored (suc i) league (entry_at leagues i ∙ there)
       | inr at ↦ subst (IsLeagueRestored rows (suc i)) at.1 (subst (λ n. IsLeagueRestored rows n new) (ap (λ n. n + 1) (sym at.0) ∙ omega arith) last)
     ]
 
@@ -109,7 +95,7 @@ module _ (rows : Rows) (rise : KeysRise rows) (lawful : judged rows ≡ None) wh
     are_there zero low high = absurd (omega (arith, low))
     are_there (suc i) low high =
         let league = slice_there leagues i (omega (arith, high)) in
-        let own = restored (suc i) league.0 (at_number leagues i ∙ league.1) in
+        let own = restored (suc i) league.0 (entry_at leagues i ∙ league.1) in
         there_told (map_of rows) (suc i) (league_item (suc i) league.0) (sym own.own)
 
     -- There is room for one that is there.
@@ -133,7 +119,7 @@ module _ (rows : Rows) (rise : KeysRise rows) (lawful : judged rows ≡ None) wh
       no_league zero none = no_league_zero (map_of rows)
       no_league (suc i) none =
           elim (cases_lt i (length leagues)) [
-            | inl less ↦ absurd (let there = slice_there leagues i less in some_not_none there.0 (slice_get leagues i) there.1 (sym (at_number leagues i) ∙ none))
+            | inl less ↦ absurd (let there = slice_there leagues i less in some_not_none there.0 (slice_get leagues i) there.1 (sym (entry_at leagues i) ∙ none))
             | inr more ↦ ap (λ l. told (map_of rows) (slot.League l)) (same more) ∙ untold (map_of rows) (length leagues + 1 + (i - length leagues)) (none_behind (length leagues) ends (i - length leagues))
           ]
         where
@@ -179,7 +165,7 @@ module _ (rows : Rows) (rise : KeysRise rows) (lawful : judged rows ≡ None) wh
 
     pub entries : (n : ℕ) → ((e : ℕ) (i : Item) → told (map_of rows) (slot.Entry e) ≡ Some i → e ≤ n) → AreMembers n leagues
     entries n all i d lt =
-        let own = restored (suc i) (get_or leagues i d) (at_number leagues i ∙ slice_at leagues i d lt) in
+        let own = restored (suc i) (get_or leagues i d) (entry_at leagues i ∙ slice_at leagues i d lt) in
         subst (All (λ e. e ≤ n)) (sym own.of_rows) (entries_of n all (suc i))
 
 -- Of calls.

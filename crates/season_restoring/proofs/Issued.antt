@@ -37,7 +37,7 @@ slice_there [] i less = absurd (omega (arith, less))
 slice_there (x ∷ xs) zero less = (x, refl)
 slice_there (x ∷ xs) (suc i) less = slice_there xs i (omega (arith, less))
 
-slice_pushed : {A : Type 0} (xs : List A) (x : A) (i : ℕ) (y : A) → slice_get (xs ++ x ∷ []) i ≡ Some y → (slice_get xs i ≡ Some y) ⊎ ((i ≡ length xs) × (x ≡ y))
+pub slice_pushed : {A : Type 0} (xs : List A) (x : A) (i : ℕ) (y : A) → slice_get (xs ++ x ∷ []) i ≡ Some y → (slice_get xs i ≡ Some y) ⊎ ((i ≡ length xs) × (x ≡ y))
 slice_pushed [] x zero y found = inr (refl, some_is x y found)
   where
     some_is : {A : Type 0} (a b : A) → Some a ≡ Some b → a ≡ b

@@ -1,10 +1,9 @@
 -- What is so of a record where all are lawful.
-use Rattle.std.proofs.Common.{◌≡◌, ◌≤◌, ◌∙◌, ℕ, Bool, true, false, not, cond, List, [], ◌∷◌, Option, Some, None, find, refl, sym, ap, ap₂, inl, inr, arith}
-use Rattle.std.specs.Option.{is_some, option_map, option_map_or, option_or}
-use Rattle.std.proofs.lemmas.Bool.{cases_Bool, not-false, or_parts, true≢false}
+use Rattle.std.proofs.Common.{◌≡◌, ◌≤◌, ◌∙◌, ℕ, Bool, true, false, not, cond, List, Option, Some, None, find, refl, sym, ap, arith}
+use Rattle.std.specs.Option.{is_some, option_map_or, option_or}
+use Rattle.std.proofs.lemmas.Bool.{not-false, or_parts, true≢false}
 use Rattle.std.proofs.lemmas.Bool.Decides.{nat_tests}
-use Rattle.fpl_base.proofs.KeyLemmas.{same_key}
-use Rattle.fpl_base.specs.Keeping.{is_same_key, map_of}
+use Rattle.fpl_base.specs.Keeping.{map_of}
 use Rattle.fpl_base.specs.declared.records.RecordKey.{RecordKey as Key}
 use Rattle.record_fields.specs.Ranges.{is_id}
 use Rattle.record_fields.specs.Reading.{◌>>=◌, kept}
@@ -17,36 +16,12 @@ use Rattle.season_records.specs.declared.slot.Slot.{Slot}
 use Rattle.season_records.specs.declared.slot.Slot.TheVariants as slot
 use Rattle.stored_records.specs.SeasonRules.{misses}
 use Rattle.stored_records.specs.Stored.{Rows, is_there}
+use Rattle.store_validation.proofs.EntriesJudged.{none_mapped, none_passes, some_is}
 use Rattle.store_validation.specs.Lawful.{breaks, first_not_spelled, first_wrong, is_in_range, is_spelled, is_wrong, judged, rules_broken}
-
--- Where none is found, none passes.
-
-some_is : {A : Type 0} (x y : A) → Some x ≡ Some y → x ≡ y
-some_is x y e = cc
-
-none_found : (b : Bool) (row : Key × List ℕ) (o : Option (Key × List ℕ)) → cond b (Some row) o ≡ None → (b ≡ false) × (o ≡ None)
-none_found true row o e = absurd (cc)
-none_found false row o e = (refl, e)
-
-none_passes : (test : Key × List ℕ → Bool) (rows : Rows) → find test rows ≡ None → (k : Key) (body : List ℕ) → map_of rows k ≡ Some body → test (k, body) ≡ false
-none_passes test [] none k body there = absurd (cc)
-none_passes test (row ∷ rows) none k body there =
-    let split = none_found (test row) row (find test rows) none in
-    elim (cases_Bool (is_same_key row.0 k)) [
-      | inl same ↦ (
-          let key : row.0 ≡ k = same_key row.0 k same in
-          let own : row.1 ≡ body = some_is row.1 body (sym (ap (λ b. cond b (Some row.1) (map_of rows k)) same) ∙ there) in
-          sym (ap₂ (λ x y. test (x, y)) key own) ∙ split.0)
-      | inr apart ↦ none_passes test rows split.1 k body (sym (ap (λ b. cond b (Some row.1) (map_of rows k)) apart) ∙ there)
-    ]
 
 none_either : (o p : Option Key) → option_or o p ≡ None → (o ≡ None) × (p ≡ None)
 none_either None p e = (refl, e)
 none_either (Some k) p e = absurd (cc)
-
-none_mapped : {A B : Type 0} (f : A → B) (o : Option A) → option_map f o ≡ None → o ≡ None
-none_mapped f None e = refl
-none_mapped f (Some x) e = absurd (cc)
 
 one_passes : {A : Type 0} (test : A → Bool) (o : Option A) → option_map_or test o false ≡ true → (x : A) × (o ≡ Some x) × (test x ≡ true)
 one_passes test None e = absurd (cc)

@@ -1,7 +1,8 @@
 -- No record of an entry breaks a rule in a store in which nothing is found wrong.
-use Rattle.std.proofs.Common.{◌≡◌, ℕ, Bool, true, false, cond, ◌&&◌, eqb, List, [], ◌∷◌, Option, Some, None, find, refl, sym, ap, ap₂, ◌∙◌, subst, inl, inr}
+use Rattle.std.proofs.Common.{◌≡◌, ℕ, Bool, true, false, cond, ◌&&◌, List, [], ◌∷◌, Option, Some, None, find, refl, sym, ap, ap₂, ◌∙◌, subst, inl, inr}
 use Rattle.std.specs.Option.{option_and_then, option_map, option_map_or, option_or}
-use Rattle.std.proofs.lemmas.Bool.{and_parts, cases_Bool, eqb-true, or_parts}
+use Rattle.std.proofs.lemmas.Bool.{cases_Bool, or_parts}
+use Rattle.fpl_base.proofs.KeyLemmas.{same_key}
 use Rattle.fpl_base.specs.Keeping.{Map, is_same_key, map_of}
 use Rattle.fpl_base.specs.declared.kinds.Chip.{Chip}
 use Rattle.fpl_base.specs.declared.records.RecordKey.{RecordKey as Key}
@@ -27,20 +28,10 @@ use Rattle.store_validation.proofs.Lawful.{lawful_restored}
 
 -- Where none of the rows is found, none that a map tells of passes the test.
 
-pub same_key : (x y : Key) → is_same_key x y ≡ true → x ≡ y
-same_key x y e =
-    let one = and_parts (eqb x.kind y.kind) (eqb x.a y.a && (eqb x.b y.b && eqb x.c y.c)) e in
-    let two = and_parts (eqb x.a y.a) (eqb x.b y.b && eqb x.c y.c) one.1 in
-    let three = and_parts (eqb x.b y.b) (eqb x.c y.c) two.1 in
-    of_parts x y (eqb-true x.kind y.kind one.0) (eqb-true x.a y.a two.0) (eqb-true x.b y.b three.0) (eqb-true x.c y.c three.1)
-  where
-    of_parts : (x y : Key) → x.kind ≡ y.kind → x.a ≡ y.a → x.b ≡ y.b → x.c ≡ y.c → x ≡ y
-    of_parts x y k a b c = ap₂ (λ i j. key i j x.b x.c) k a ∙ ap₂ (λ i j. key y.kind y.a i j) b c
-
 pub some_is : {A : Type 0} (x y : A) → Some x ≡ Some y → x ≡ y
 some_is x y e = cc
 
-none_found : (b : Bool) (row : Key × List ℕ) (o : Option (Key × List ℕ)) → cond b (Some row) o ≡ None → (b ≡ false) × (o ≡ None)
+pub none_found : (b : Bool) (row : Key × List ℕ) (o : Option (Key × List ℕ)) → cond b (Some row) o ≡ None → (b ≡ false) × (o ≡ None)
 none_found true row o e = absurd (cc)
 none_found false row o e = (refl, e)
 
