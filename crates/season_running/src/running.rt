@@ -5,6 +5,8 @@ ghost use Rattle.serde_json.specs.Data.{Data};
 ghost use Rattle.serde_json.specs.Written.{compact_text};
 ghost use Rattle.fpl_base.specs.Texts.{is_key};
 ghost use Rattle.fpl_base.specs.declared.kinds.Caller.{Caller};
+ghost use Rattle.rule_book.specs.Entries.{entry_in};
+ghost use Rattle.rule_book.specs.Leagues.{LeagueFacts};
 ghost use Rattle.manager_book.specs.Managers.{AreRisen, manager_in};
 ghost use Rattle.season_book.specs.Book.{Book, caller_number, last_number};
 ghost use Rattle.season_book.specs.Commands.{IsCommand, part_of};
@@ -16,7 +18,7 @@ ghost use Rattle.season_book.specs.declared.part.Part.TheVariants as part;
 ghost use Rattle.season_book.specs.declared.request.View.TheVariants as view;
 ghost use Rattle.season_book.specs.declared.shown.Shown.{Shown};
 ghost use Rattle.season_competitions.specs.Cups.{IsCupGranted};
-ghost use Rattle.season_competitions.specs.Leagues.{AreMembers, IsLeagueGranted};
+ghost use Rattle.season_competitions.specs.Leagues.{IsLeagueGranted};
 ghost use Rattle.season_entries.specs.EntryLaws.{AreEarly};
 ghost use Rattle.season_entries.specs.Deeds.{IsDeedJudged};
 ghost use Rattle.season_entries.specs.Keys.{keys_of};
@@ -27,6 +29,7 @@ ghost use Rattle.season_running.specs.Changed.{IsChangedBy};
 ghost use Rattle.season_running.specs.Kept.{AreKeptBy, IsShownIn, ReadsAllowed, seen_of};
 ghost use Rattle.season_running.specs.EntryLaws.{IsOrderly};
 ghost use Rattle.season_running.specs.Standing.{InStep, Plays};
+ghost use Rattle.season_views.specs.Leagues.{AreIssued};
 ghost use Rattle.season_views.specs.Seen.{IsKept};
 ghost use Rattle.season_views.specs.Reads.{reads_allowed, window_reads};
 
@@ -528,8 +531,11 @@ impl RunningSeason {
         ensures seen { result.0 ≡ seen_of self.now }
         ensures kept { IsKept result.0 result.1 }
         ensures early { AreEarly result.0.facts result.0.managers.managers }
-        ensures members { AreMembers (length result.0.managers.managers) result.0.leagues }
+        ensures issued { (l : ℕ) (league : LeagueFacts) → entry_in result.0.leagues l ≡ Some league
+            → AreIssued result.0.managers league.members }
     {
+        // The law that the members of leagues are entries, for the prover.
+        members_stay();
         (
             Seen::of(&self.season, &self.managers, &self.leagues, &self.cups),
             SeenCells::of(cells),

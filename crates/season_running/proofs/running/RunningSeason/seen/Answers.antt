@@ -1,6 +1,8 @@
-use Rattle.std.proofs.Common.{◌≡◌, ◌∙◌, ap, length, refl, subst, sym}
-use Rattle.season_competitions.specs.Leagues.{AreMembers}
+use Rattle.std.proofs.Common.{◌≡◌, ◌∙◌, ℕ, Some, ap, refl, subst, sym}
+use Rattle.rule_book.specs.Entries.{entry_in}
+use Rattle.rule_book.specs.Leagues.{LeagueFacts}
 use Rattle.season_entries.specs.EntryLaws.{AreEarly}
+use Rattle.season_views.specs.Leagues.{AreIssued}
 use Rattle.season_views.specs.Seen.{IsKept, SeenSeason}
 use Rattle.season_running.specs.Kept.{seen_of}
 use Rattle.season_running.specs.Standing.{Running}
@@ -29,5 +31,8 @@ returns-clause-kept g c =
 pub returns-clause-early : goal.returns-clause-early
 returns-clause-early g c = subst (λ (s : SeenSeason). AreEarly s.facts s.managers.managers) (sym c.of.ensures) c.self.invariant.early
 
-pub returns-clause-members : goal.returns-clause-members
-returns-clause-members g c = subst (λ (s : SeenSeason). AreMembers (length s.managers.managers) s.leagues) (sym c.of.ensures) c.self.invariant.members
+pub returns-clause-issued : goal.returns-clause-issued
+returns-clause-issued g c =
+    let inside = c.self.inside in
+    subst (λ (s : SeenSeason). (l : ℕ) (league : LeagueFacts) → entry_in s.leagues l ≡ Some league → AreIssued s.managers league.members) (sym c.of.ensures)
+    (λ l league at. (c.members_stay.ensures inside.season inside.managers.managers inside.leagues).there l league at c.self.invariant.members)
