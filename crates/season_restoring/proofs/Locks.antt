@@ -1,5 +1,5 @@
 -- The deadline of a gameweek locks that gameweek and those before it.
-use Rattle.std.proofs.Common.{◌≡◌, ◌∙◌, ℕ, zero, suc, ◌+◌, ◌<◌, ◌≤◌, true, cond, leb, List, [], ◌∷◌, Some, arith, slice_get, subst}
+use Rattle.std.proofs.Common.{◌≡◌, ◌∙◌, refl, ℕ, zero, suc, ◌+◌, ◌<◌, ◌≤◌, true, false, cond, leb, List, [], ◌∷◌, Some, arith, slice_get, subst}
 use Rattle.std.specs.Prelude.{count_by}
 use Rattle.std.specs.List.{All, AllPairs}
 use Rattle.std.proofs.lemmas.List.Elements.{All-head, All-tail}
@@ -7,7 +7,13 @@ use Rattle.std.proofs.lemmas.List.Sums.{sum_by-cons}
 use Rattle.std.proofs.lemmas.Bool.Decides.{nat_tests}
 use Rattle.std.proofs.lemmas.Option.{none-some, same_Some}
 use Rattle.fpl_base.proofs.Around.{AllPairs-head, AllPairs-tail}
-use Rattle.season_calendar.proofs.Locks.{none_passed}
+
+none_passed : (ds : List ℕ) (t : ℕ) → All (λ d. t < d) ds → count_by (λ d. leb d t) ds ≡ 0
+none_passed [] t h = refl
+none_passed (d ∷ ds) t h =
+    let late : t < d = All-head (λ e. t < e) d ds h in
+    let still : leb d t ≡ false = grind (arith, nat_tests) in
+    sum_by-cons (λ e. cond (leb e t) 1 0) d ds ∙ rw still (omega (arith, none_passed ds t (All-tail (λ e. t < e) d ds h)))
 
 above : (d : ℕ) (ds : List ℕ) (n t : ℕ) → All (λ e. d < e) ds → slice_get ds n ≡ Some t → d < t
 above d [] n t all at = absurd (none-some t at)
